@@ -1,0 +1,9 @@
+pub mod Problem
+pub mod Family
+pub mod Listing
+pub mod Alive
+pub mod Node
+pub mod Questions
+pub mod Trial
+pub mod Laws
+pub mod Examples
