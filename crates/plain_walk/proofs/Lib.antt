@@ -1,0 +1,3 @@
+pub mod PlainStatements
+pub mod PlainPairs
+pub mod PlainWalk
