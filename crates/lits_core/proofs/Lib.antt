@@ -1,0 +1,4 @@
+pub mod LiteralLemmas
+pub mod DerivationLemmas
+pub mod DistinctIds
+pub mod LiteralSets
