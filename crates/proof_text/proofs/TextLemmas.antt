@@ -1,0 +1,30 @@
+-- The text of a line, piece by piece.
+use Rattle.std.proofs.Common.{◌≡◌, ℕ, ◌^◌, ◌<◌, ◌≤◌, List, ◌∷◌, ◌++◌, append_assoc, length, get_or, codes, decimal, All, sym, ap, ◌∙◌, arith}
+use Rattle.std.proofs.lemmas.List.{get_or_default}
+use Rattle.lits_core.specs.declared.Line.TheVariants.{Derive, Forget}
+use Rattle.proof_text.specs.Words.{parted}
+use Rattle.proof_text.specs.Lines.{literal_text, list_words, line_text, IsId}
+use Rattle.proof_text.proofs.WordLemmas.{joined-parted, parted-append}
+
+-- a derive line in its four pieces
+pub derive_text : (id : ℕ) (lits hints kind first front text : List ℕ) → kind ≡ codes "d" → first ≡ kind ++ 32 ∷ decimal id →
+    front ≡ first ++ parted 32 (list_words literal_text lits) → text ≡ front ++ parted 32 (list_words decimal hints) → text ≡ line_text (Derive id lits hints)
+derive_text id lits hints kind first front text is_kind is_first is_front is_text =
+    let a = list_words literal_text lits in
+    let b = list_words decimal hints in
+    is_text ∙ ap (λ t. t ++ parted 32 b) (is_front ∙ ap (λ t. t ++ parted 32 a) (is_first ∙ ap (λ t. t ++ 32 ∷ decimal id) is_kind))
+    ∙ append_assoc (codes "d" ++ 32 ∷ decimal id) (parted 32 a) (parted 32 b)
+    ∙ ap (λ t. (codes "d" ++ 32 ∷ decimal id) ++ t) (sym (parted-append 32 a b))
+    ∙ sym (joined-parted 32 (codes "d") (decimal id ∷ a ++ b))
+
+pub forget_text : (ids kind text : List ℕ) → kind ≡ codes "k" → text ≡ kind ++ parted 32 (list_words decimal ids) → text ≡ line_text (Forget ids)
+forget_text ids kind text is_kind is_text =
+    is_text ∙ ap (λ t. t ++ parted 32 (list_words decimal ids)) is_kind ∙ sym (joined-parted 32 (codes "k") (list_words decimal ids))
+
+-- numbers that are at least 1 and below a bound
+pub ids_from : (ids : List ℕ) → All (λ id. 1 ≤ id) ids → All (λ id. id < 2 ^ 64) ids → All IsId ids
+ids_from ids above below = λ k d h. (above k d h, below k d h)
+
+-- a bound at each place, at whatever default
+pub all_below : (bound : ℕ) (xs : List ℕ) → ((k : ℕ) → k < length xs → get_or xs k 0 < bound) → All (λ x. x < bound) xs
+all_below bound xs h = λ k d within. let e = get_or_default xs k d 0 within in let small = h k within in omega arith

@@ -1,0 +1,87 @@
+//! A line, printed as text.
+
+ghost use Rattle.std.specs.Prelude.{◌≡◌, ◌++◌, ◌∷◌, [], ◌<◌, ◌^◌, decimal, IfOk, OnOk, Ok, All};
+ghost use Rattle.proof_text.specs.Words.{parted};
+ghost use Rattle.proof_text.specs.Lines.{literal_text, list_words, line_words, line_text, line_of, HasIds};
+ghost use Rattle.lits_core.specs.declared.Line.TheVariants.{Derive, Forget};
+
+use crate::numbers::print_number;
+use lits_core::{Line, Lit};
+use std::alloc::{AllocError, Global};
+
+/// A line's text, with no LF at its end.
+pub fn print_line(alloc: Global, line: &Line) -> Result<Vec<u8>, AllocError>
+    requires { HasIds line.now }
+    ensures text { IfOk result (λ text. text.items ≡ line_text line.now) }
+    ensures read { IfOk result (λ text. line_of text.items ≡ Ok line.now) }
+{
+    match line {
+        Line::Derive { id, lits, hints } => print_derive(alloc, *id, lits.lits(), hints.list()),
+        Line::Forget { ids } => print_forget(alloc, ids.list()),
+    }
+}
+
+fn print_derive(alloc: Global, id: u64, lits: &[Lit], hints: &[u64]) -> Result<Vec<u8>, AllocError>
+    ensures text { IfOk result (λ text. text.items ≡ line_text (Derive id lits.now hints.now)) }
+    ensures ids { (id < 2 ^ 64) × All (λ hint. hint < 2 ^ 64) hints.now }
+    ensures literals { OnOk result (All (λ lit. lit < 2 ^ 32) lits.now) }
+{
+    let mut out = Vec::from_slice(alloc, b"d")?;
+    put_id(&mut out, id)?;
+    put_literals(&mut out, lits)?;
+    put_ids(&mut out, hints)?;
+    Ok(out)
+}
+
+fn print_forget(alloc: Global, ids: &[u64]) -> Result<Vec<u8>, AllocError>
+    ensures text { IfOk result (λ text. text.items ≡ line_text (Forget ids.now)) }
+    ensures ids { All (λ id. id < 2 ^ 64) ids.now }
+{
+    let mut out = Vec::from_slice(alloc, b"k")?;
+    put_ids(&mut out, ids)?;
+    Ok(out)
+}
+
+/// Puts a space and the id.
+fn put_id(out: &mut Vec<u8>, id: u64) -> Result<(), AllocError>
+    ensures { OnOk result (out.new.items ≡ out.old.items ++ 32 ∷ decimal id) }
+{
+    out.push(b' ')?;
+    print_number(out, id)
+}
+
+/// Puts the ids, and the `0` that ends them, with a space before each.
+fn put_ids(out: &mut Vec<u8>, ids: &[u64]) -> Result<(), AllocError>
+    ensures { OnOk result (out.new.items ≡ out.old.items ++ parted 32 (list_words decimal ids.now)) }
+{
+    for id in ids {
+        put_id(out, *id)?;
+    }
+    out.extend_from_slice(b" 0")
+}
+
+/// Puts a space and the literal.
+#[tactic(auto, unfolding(crate::specs::Lines::literal_text))]
+fn put_literal(out: &mut Vec<u8>, lit: Lit) -> Result<(), AllocError>
+    ensures text { OnOk result (out.new.items ≡ out.old.items ++ 32 ∷ literal_text lit) }
+    ensures small { lit < 2 ^ 32 }
+{
+    let sign = if lit.is_negative() {
+        b" -".as_slice()
+    } else {
+        b" ".as_slice()
+    };
+    out.extend_from_slice(sign)?;
+    print_number(out, u64::from(lit.variable()) + 1)
+}
+
+/// Puts the literals, and the `0` that ends them, with a space before each.
+fn put_literals(out: &mut Vec<u8>, lits: &[Lit]) -> Result<(), AllocError>
+    ensures text { OnOk result (out.new.items ≡ out.old.items ++ parted 32 (list_words literal_text lits.now)) }
+    ensures small { OnOk result (All (λ lit. lit < 2 ^ 32) lits.now) }
+{
+    for lit in lits {
+        put_literal(out, *lit)?;
+    }
+    out.extend_from_slice(b" 0")
+}
