@@ -1,0 +1,14 @@
+pub mod ListsView
+pub mod Marks
+pub mod Settled
+pub mod Sound
+pub mod Watching
+pub mod Moved
+pub mod Pigeons
+pub mod Visiting
+pub mod Meeting
+pub mod Undoing
+pub mod ByIndex
+pub mod Seen
+pub mod Adding
+pub mod Promises

@@ -1,0 +1,144 @@
+-- A clause's watch moves from one literal to another.
+use Rattle.std.proofs.Common.{◌≡◌, ◌≢◌, ◌∙◌, ◌⊎◌, ℕ, ◌-◌, ◌<◌, ◌≤◌, true, false, List, [], ◌∷◌, ◌++◌, length, get_or, set, refl, sym, ap, subst, arith, inl, inr, length-set, length-take, get_or-set_same, get_or-set_other, get_or-take}
+use Rattle.std.specs.List.{swap, swap_remove}
+use Rattle.std.specs.List.{Contains}
+use Rattle.std.proofs.lemmas.Bool.{cases_eq, cases_lt}
+use Rattle.std.proofs.lemmas.List.{get_or_past, get_or_default}
+use Rattle.std.proofs.lemmas.List.Edits.{Swapped, swapped_from_swap, length-swap}
+use Rattle.std.proofs.lemmas.List.Elements.{Contains-push, Contains-append_left}
+use Rattle.clause_arena.specs.Records.{Record, record_at, no_record}
+use Rattle.watch_arena.specs.Lists.{list_at, with_list}
+use Rattle.watch_arena.specs.Engines.{IsWatched, IsShort, with_watch, without_watch}
+
+-- an element by its index
+pub contains_at : (xs : List ℕ) (k x : ℕ) → k < length xs → get_or xs k 0 ≡ x → Contains xs x
+contains_at xs k x lt is = (k, lt, get_or_default xs k x 0 lt ∙ is)
+
+-- the index of an element
+pub index_of : (xs : List ℕ) (x : ℕ) → Contains xs x → (k : ℕ) × (k < length xs) × (get_or xs k 0 ≡ x)
+index_of xs x c = (c.0, c.1, get_or_default xs c.0 0 x c.1 ∙ c.2)
+
+-- below the place of a removal
+pub get_or-swap_remove : (xs : List ℕ) (i j : ℕ) → j < i → i < length xs → get_or (swap_remove xs i 0) j 0 ≡ get_or xs j 0
+get_or-swap_remove xs i j lt within =
+    let ne : j ≢ i = omega arith in
+    get_or-take (length xs - 1) (set xs i (get_or xs (length xs - 1) 0)) j 0 (omega arith) ∙ get_or-set_other xs i j (get_or xs (length xs - 1) 0) 0 ne
+
+-- how many are left
+pub length-swap_remove : (xs : List ℕ) (i : ℕ) → i < length xs → length (swap_remove xs i 0) ≡ length xs - 1
+length-swap_remove xs i within = simp (length-take, length-set) (omega arith)
+
+-- an element other than the one removed
+pub Contains-swap_remove : (xs : List ℕ) (i x : ℕ) → i < length xs → get_or xs i 0 ≢ x → Contains xs x → Contains (swap_remove xs i 0) x
+Contains-swap_remove xs i x within differs c =
+    let at = index_of xs x c in
+    let k = at.0 in
+    let below = at.1 in
+    let last = get_or xs (length xs - 1) 0 in
+    let other : k ≢ i = λ e. differs (ap (λ (n : ℕ). get_or xs n 0) (sym e) ∙ at.2) in
+    let size = length-swap_remove xs i within in
+    elim (cases_eq k (length xs - 1)) [
+      | inl e ↦
+          let room : i < length xs - 1 = omega arith in
+          contains_at (swap_remove xs i 0) i x (omega arith)
+          (get_or-take (length xs - 1) (set xs i last) i 0 room ∙ get_or-set_same xs i last 0 within ∙ ap (λ (n : ℕ). get_or xs n 0) (sym e) ∙ at.2)
+      | inr ne ↦
+          contains_at (swap_remove xs i 0) k x (omega arith)
+          (get_or-take (length xs - 1) (set xs i last) k 0 (omega arith) ∙ get_or-set_other xs i k last 0 other ∙ at.2)
+    ]
+
+-- the lists after one of them was changed
+pub list_at-same : (lists : List (List ℕ)) (l : ℕ) (xs : List ℕ) → l < length lists → list_at (with_list lists l xs) l ≡ xs
+list_at-same lists l xs lt = get_or-set_same lists l xs [] lt
+
+pub list_at-other : (lists : List (List ℕ)) (l m : ℕ) (xs : List ℕ) → m ≢ l → list_at (with_list lists l xs) m ≡ list_at lists m
+list_at-other lists l m xs ne = get_or-set_other lists l m xs [] ne
+
+-- a clause stays in a list where another clause is taken out of one
+pub Contains-without_watch : (lists : List (List ℕ)) (lit i l x : ℕ) → lit < length lists → i < length (list_at lists lit) → (l ≡ lit → get_or (list_at lists lit) i 0 ≢ x) → Contains (list_at lists l) x → Contains (list_at (without_watch lists lit i) l) x
+Contains-without_watch lists lit i l x lt within differs c =
+    elim (cases_eq l lit) [
+      | inl e ↦
+          let here : Contains (list_at lists lit) x = subst (λ (n : ℕ). Contains (list_at lists n) x) e c in
+          let there = Contains-swap_remove (list_at lists lit) i x within (differs e) here in
+          let now : Contains (list_at (without_watch lists lit i) lit) x = subst (λ (ys : List ℕ). Contains ys x) (sym (list_at-same lists lit (swap_remove (list_at lists lit) i 0) lt)) there in
+          subst (λ (n : ℕ). Contains (list_at (without_watch lists lit i) n) x) (sym e) now
+      | inr ne ↦ subst (λ (ys : List ℕ). Contains ys x) (sym (list_at-other lists lit l (swap_remove (list_at lists lit) i 0) ne)) c
+    ]
+
+-- a clause stays in a list where one is added
+pub Contains-with_watch : (lists : List (List ℕ)) (lit at l x : ℕ) → lit < length lists → Contains (list_at lists l) x → Contains (list_at (with_watch lists lit at) l) x
+Contains-with_watch lists lit at l x lt c =
+    elim (cases_eq l lit) [
+      | inl e ↦
+          let here : Contains (list_at lists lit) x = subst (λ (n : ℕ). Contains (list_at lists n) x) e c in
+          let there = Contains-append_left (list_at lists lit) (at ∷ []) x here in
+          let now : Contains (list_at (with_watch lists lit at) lit) x = subst (λ (ys : List ℕ). Contains ys x) (sym (list_at-same lists lit (list_at lists lit ++ at ∷ []) lt)) there in
+          subst (λ (n : ℕ). Contains (list_at (with_watch lists lit at) n) x) (sym e) now
+      | inr ne ↦ subst (λ (ys : List ℕ). Contains ys x) (sym (list_at-other lists lit l (list_at lists lit ++ at ∷ []) ne)) c
+    ]
+
+-- and the one that is added stands there
+pub Contains-watch_added : (lists : List (List ℕ)) (lit at : ℕ) → lit < length lists → Contains (list_at (with_watch lists lit at) lit) at
+Contains-watch_added lists lit at lt =
+    subst (λ (ys : List ℕ). Contains ys at) (sym (list_at-same lists lit (list_at lists lit ++ at ∷ []) lt)) (Contains-push (list_at lists lit) at)
+
+-- the records after one of them was changed
+pub record_at-same : (records : List Record) (at : ℕ) (r : Record) → at < length records → record_at (set records at r) at ≡ r
+record_at-same records at r lt = get_or-set_same records at r no_record lt
+
+pub record_at-other : (records : List Record) (at b : ℕ) (r : Record) → b ≢ at → record_at (set records at r) b ≡ record_at records b
+record_at-other records at b r ne = get_or-set_other records at b r no_record ne
+
+-- a live record is one of the list
+pub live_within : (records : List Record) (at : ℕ) → (record_at records at).live ≡ true → at < length records
+live_within records at on = elim (cases_lt at (length records)) [
+  | inl lt ↦ lt
+  | inr ge ↦ absurd (let off : (record_at records at).live ≡ false = ap (λ (r : Record). r.live) (get_or_past records at no_record ge) in let clash : true ≡ false = sym on ∙ off in cc)
+]
+
+-- a clause is watched by its first two literals
+pub IsWatched-swapped : (lits : List ℕ) (a b : ℕ) → IsWatched lits a b → IsWatched lits b a
+IsWatched-swapped lits a b w = record {
+  differ = λ e. w.differ (sym e);
+  two = w.two;
+  either = elim w.either [ inl p ↦ inr p | inr p ↦ inl p ];
+}
+
+pub IsWatched-first : (lits : List ℕ) → 2 ≤ length lits → get_or lits 0 0 ≢ get_or lits 1 0 → IsWatched lits (get_or lits 0 0) (get_or lits 1 0)
+IsWatched-first lits two ne = record { differ = ne; two = two; either = inl (refl, refl) }
+
+-- by the slot of one of them
+pub IsWatched-at : (lits : List ℕ) (slot a b : ℕ) → slot < 2 → 2 ≤ length lits → get_or lits slot 0 ≡ a → get_or lits (1 - slot) 0 ≡ b → a ≢ b → IsWatched lits a b
+IsWatched-at lits slot a b small two first second ne = record {
+  differ = ne;
+  two = two;
+  either = elim (cases_eq slot 0) [
+    | inl e ↦ inl (ap (λ (n : ℕ). get_or lits n 0) (sym e) ∙ first, ap (λ (n : ℕ). get_or lits (1 - n) 0) (sym e) ∙ second)
+    | inr ne0 ↦ let e : slot ≡ 1 = omega arith in
+        inr (ap (λ (n : ℕ). get_or lits (1 - n) 0) (sym e) ∙ second, ap (λ (n : ℕ). get_or lits n 0) (sym e) ∙ first)
+  ];
+}
+
+-- the pair that is watched is one alone
+pub IsWatched-only : (lits : List ℕ) (a b c d : ℕ) → IsWatched lits a b → IsWatched lits c d → ((c ≡ a) × (d ≡ b)) ⊎ ((c ≡ b) × (d ≡ a))
+IsWatched-only lits a b c d w v =
+    elim w.either [
+      | inl p ↦ elim v.either [ inl q ↦ inl (sym q.0 ∙ p.0, sym q.1 ∙ p.1) | inr q ↦ inr (sym q.1 ∙ p.1, sym q.0 ∙ p.0) ]
+      | inr p ↦ elim v.either [ inl q ↦ inr (sym q.0 ∙ p.0, sym q.1 ∙ p.1) | inr q ↦ inl (sym q.1 ∙ p.1, sym q.0 ∙ p.0) ]
+    ]
+
+-- after a literal further on is exchanged with a watched one, that one is watched in its place
+pub IsWatched-moved : (lits : List ℕ) (slot k other : ℕ) → slot < 2 → 2 ≤ k → k < length lits → get_or lits (1 - slot) 0 ≡ other → get_or lits k 0 ≢ other → IsWatched (swap lits slot k) (get_or lits k 0) other
+IsWatched-moved lits slot k other small third within is ne =
+    let s : Swapped (λ n. get_or lits n 0) (λ n. get_or (swap lits slot k) n 0) slot k = swapped_from_swap lits (swap lits slot k) slot k 0 (omega arith) within refl in
+    let size : length (swap lits slot k) ≡ length lits = length-swap lits slot k in
+    IsWatched-at (swap lits slot k) slot (get_or lits k 0) other small (omega arith) s.0
+    (s.2 (1 - slot) (λ e. absurd (omega arith)) (λ e. absurd (omega arith)) ∙ is) ne
+
+-- a short clause has no two that differ
+pub short_not_watched : (lits : List ℕ) (a b : ℕ) → IsShort lits → IsWatched lits a b → ⊥
+short_not_watched lits a b short w =
+    let two = w.two in
+    let same : get_or lits 1 0 ≡ get_or lits 0 0 = short 1 (omega arith) in
+    elim w.either [ inl p ↦ w.differ (sym p.0 ∙ sym same ∙ p.1) | inr p ↦ w.differ (sym p.1 ∙ same ∙ p.0) ]
