@@ -1,0 +1,3 @@
+pub mod MapLemmas
+pub mod SentLemmas
+pub mod BytesLemmas

@@ -1,0 +1,9 @@
+pub mod Bytes
+pub mod Faults
+pub mod Contents
+pub mod Plan
+pub mod Memory
+pub mod Entries
+pub mod Reader
+pub mod ReaderParts
+pub mod Sent
