@@ -1,0 +1,53 @@
+//! A small program for benchmarks and for tries on devices, which stand outside the gate: it reads or
+//! writes a file by the real store, or checks a long derivation, and prints what came of it.
+//!
+//! Its words are one or more triples: `read FILE PIECES` reads pieces of 64 KiB, so many at most, up to
+//! the file's end; `write FILE PIECES` makes the file of so many pieces; `derive lines LINES` checks a
+//! derivation of so many lines, each with ten hints of five literals.
+#![tactic(auto)]
+
+mod derive;
+mod files;
+
+use outer_store::FileStore;
+use std::alloc::AllocError;
+use std::env;
+
+// The words after the program's name.
+fn words(rt: &HostRuntime) -> Option<Vec<String>> {
+    let mut words = Vec::new(rt.alloc());
+    for word in env::args(rt).ok()? {
+        words.push(word).ok()?;
+    }
+    Some(words)
+}
+
+// What a command answers, as the line to print.
+fn answer(rt: &HostRuntime, command: &str, name: &str, count: &str) -> Result<String, AllocError> {
+    let alloc = rt.alloc();
+    let count = files::number(count);
+    match command {
+        "read" => files::read(alloc, &mut FileStore::new(alloc, rt), name, count),
+        "write" => files::write(alloc, &mut FileStore::new(alloc, rt), name, count),
+        "derive" => derive::check(alloc, count),
+        _ => format!(in alloc; "unknown"),
+    }
+}
+
+fn main(rt: HostRuntime) -> Result<(), std::io::Error> {
+    let Some(words) = words(&rt) else {
+        return Ok(());
+    };
+    let mut rest: &[String] = match words.as_slice() {
+        [_, after @ ..] => after,
+        [] => &[],
+    };
+    'commands: while let [command, name, count, after @ ..] = rest {
+        match answer(&rt, command.as_str(), name.as_str(), count.as_str()) {
+            Ok(line) => println!(rt; "{line}")?,
+            Err(_) => println!(rt; "no memory")?,
+        }
+        rest = after;
+    }
+    Ok(())
+}
