@@ -1,0 +1,10 @@
+pub mod LineLemmas
+pub mod TokenLemmas
+pub mod FormLemmas
+pub mod WordLemmas
+pub mod SizeLemmas
+pub mod OwnerLemmas
+pub mod KeptLemmas
+pub mod RepeatLemmas
+pub mod TextLemmas
+pub mod PieceLemmas

@@ -1,0 +1,10 @@
+use Rattle.std.proofs.Common.{◌≡◌, [], length}
+use Rattle.cleantax_text.specs.Tokens.{tokens_after}
+use Rattle.cleantax_text.specs.Views.{at_bracket, onto_run, words_meant}
+use Rattle.cleantax_text.proofs.forms.run_of.Given as goal
+
+abbrev pub invariant-loop-token : goal.invariant-loop-token
+invariant-loop-token l = at_bracket (tokens_after [] l.fn.line) ≡ onto_run (words_meant l.words.items) (at_bracket (tokens_after [] l.rest))
+
+abbrev pub decreases-loop-token : goal.decreases-loop-token
+decreases-loop-token l = length l.rest

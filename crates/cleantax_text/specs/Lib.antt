@@ -1,0 +1,10 @@
+pub mod Tokens
+pub mod Words
+pub mod Forms
+pub mod Reading
+pub mod Canonical
+pub mod Examples
+pub mod Views
+pub mod Kept
+pub mod Whole
+pub mod Pieces

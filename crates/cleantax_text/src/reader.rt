@@ -1,0 +1,461 @@
+//! What the lines of a text give, one after the other.
+ghost use Rattle.std.specs.Prelude.{◌≡◌, ◌≢◌, ◌<◌, ◌≤◌, true, length, map, sum_by, position, bytes_eq, slice_index_or, slice_set, Ok, Err, OnOk, IfOk, IfErr, IfSome, option_map};
+ghost use Rattle.std.specs.List.{list_any, list_all};
+ghost use Rattle.taxon_tree.specs.Row.{add_row};
+ghost use Rattle.taxon_tree.specs.declared.ForestFault.TheVariants as forest;
+ghost use Rattle.cleantax_text.specs.declared.TextKind.TheVariants.{NoMemory};
+ghost use Rattle.constraint_set.specs.Build.{size_of};
+ghost use Rattle.taxon_tree.specs.Trees.{no_trees, number_of};
+ghost use Rattle.cleantax_text.specs.Words.{is_name};
+ghost use Rattle.cleantax_text.specs.Forms.{TaxonomyLine};
+ghost use Rattle.cleantax_text.specs.Reading.{nothing_read, in_taxonomy, in_articulations, with_taxonomy, concepts_before, concept_number, kind_of, with_forest, after_row, concept_numbers, has_repeat, pair_of, with_articulation, after_pair, after_sum, after_form, after_line};
+ghost use Rattle.cleantax_text.specs.Views.{words_meant, reference_meant, references_meant, form_meant, IsWell};
+ghost use Rattle.cleantax_text.specs.Kept.{meant, IsKept, row_of, with_one_more, among_articulations};
+
+use crate::TextKind;
+use crate::forms::{Form, form_of};
+use crate::words::{
+    Reference, is_name, is_same, is_taxonomy_name, reference_of, references_of, set_of_words,
+};
+use indexmap::IndexSet;
+use rcc5_core::RelSet;
+use std::alloc::{AllocError, Global};
+use taxon_tree::{Forest, ForestFault};
+use world_model::{Articulation, Parts};
+
+/// Where in a text one is.
+#[derive(Clone, Copy)]
+pub(crate) enum Place {
+    Before,
+    InTaxonomy,
+    InArticulations,
+}
+
+/// What the lines so far have given.
+#[derive(Drop)]
+pub(crate) struct Reader {
+    alloc: Global,
+    pub(crate) ids: Vec<Vec<u8>>,
+    pub(crate) forests: Vec<Forest>,
+    pub(crate) articulations: Vec<Articulation>,
+    place: Place,
+}
+
+// How many concepts these forests have.
+fn count_concepts(forests: &[Forest]) -> u32
+    requires { sum_by size_of forests.now ≤ 1024 }
+    ensures { result ≡ sum_by size_of forests.now }
+{
+    let mut count = 0;
+    for forest in forests {
+        count += forest.len();
+    }
+    count
+}
+
+#[tactic(auto, using(crate::proofs::WordLemmas::list_all_words))]
+fn are_names(words: &[&[u8]]) -> bool
+    ensures { result ≡ list_all is_name (words_meant words.now) }
+{
+    all_are_names(words)
+}
+
+fn all_are_names(words: &[&[u8]]) -> bool
+    ensures { result ≡ list_all (λ word. is_name word.now) words.now }
+{
+    words.iter().all(|word| is_name(word))
+}
+
+// The names as they are kept.
+fn copies(alloc: Global, words: &[&[u8]]) -> Result<Vec<Vec<u8>>, AllocError>
+    ensures { IfOk result (λ names. map (λ v. v.items) names.items ≡ words_meant words.now) }
+{
+    let mut names = Vec::new(alloc);
+    let mut rest = words;
+    while let [word, after @ ..] = rest {
+        names.push(Vec::from_slice(alloc, word)?)?;
+        rest = after;
+    }
+    Ok(names)
+}
+
+// The place of a name among others.
+fn place_of(names: &[Vec<u8>], name: &[u8]) -> Option<usize>
+    ensures place { result ≡ position (bytes_eq name.now) (map (λ v. v.items) names.now) }
+    ensures within { IfSome result (λ at. at < length names.now) }
+{
+    first_same(names, name)
+}
+
+fn first_same(names: &[Vec<u8>], name: &[u8]) -> Option<usize>
+    ensures place { result ≡ position (λ known. bytes_eq name.now known.items) names.now }
+    ensures within { IfSome result (λ at. at < length names.now) }
+{
+    names
+        .iter()
+        .position(|known| is_same(name, known.as_slice()))
+}
+
+impl Reader {
+    pub(crate) fn new(alloc: Global) -> Reader
+        ensures meant { meant result ≡ nothing_read }
+        ensures kept { IsKept (meant result) }
+    {
+        Reader {
+            alloc,
+            ids: Vec::new(alloc),
+            forests: Vec::new(alloc),
+            articulations: Vec::new(alloc),
+            place: Place::Before,
+        }
+    }
+
+    // The number of the taxonomy with this name.
+    fn find_id(&self, id: &[u8]) -> Option<usize>
+        ensures number { result ≡ position (bytes_eq id.now) (meant self.now).ids }
+        ensures within { IfSome result (λ which. which < length (meant self.now).ids) }
+    {
+        place_of(self.ids.as_slice(), id)
+    }
+
+    // How many concepts the first so many taxonomies have.
+    fn concepts_before(&self, which: usize) -> u32
+        requires kept { IsKept (meant self.now) }
+        requires which { which ≤ length (meant self.now).forests }
+        ensures { result ≡ concepts_before (meant self.now) which }
+    {
+        count_concepts(&self.forests[..which])
+    }
+
+    // The number of a concept, if it is known.
+    fn concept_number(&self, reference: Reference<'_>) -> Option<u32>
+        requires { IsKept (meant self.now) }
+        ensures number { result ≡ concept_number (meant self.now) (reference_meant reference.entry) }
+        ensures within { IfSome result (λ c. c < 1024) }
+    {
+        let which = self.find_id(reference.taxonomy)?;
+        let concept = self.find_in(which, reference.concept)?;
+        Some(self.concepts_before(which) + concept)
+    }
+
+    fn find_in(&self, which: usize, name: &[u8]) -> Option<u32>
+        requires { which < length (meant self.now).forests }
+        ensures { result ≡ number_of (slice_index_or (meant self.now).forests which no_trees) name.now }
+    {
+        self.forests[which].find(name)
+    }
+
+    fn has_id(&self, id: &[u8]) -> bool
+        ensures { result ≡ list_any (bytes_eq id.now) (meant self.now).ids }
+    {
+        is_among(self.ids.as_slice(), id)
+    }
+
+    fn is_in_taxonomy(&self) -> bool
+        ensures { result ≡ in_taxonomy (meant self.now).place }
+    {
+        matches!(self.place, Place::InTaxonomy)
+    }
+
+    fn is_in_articulations(&self) -> bool
+        ensures { result ≡ in_articulations (meant self.now).place }
+    {
+        matches!(self.place, Place::InArticulations)
+    }
+
+    // One more taxonomy, which has no concepts yet.
+    fn add_taxonomy(&mut self, id: &[u8]) -> Result<(), AllocError>
+        ensures { OnOk result (meant self.new ≡ with_taxonomy (meant self.old) id.now) }
+    {
+        let id = Vec::from_slice(self.alloc, id)?;
+        self.ids.push(id)?;
+        self.forests.push(Forest::new(self.alloc))?;
+        self.place = Place::InTaxonomy;
+        Ok(())
+    }
+
+    // A line `taxonomy NAME`.
+    fn take_taxonomy(&mut self, id: &[u8]) -> Result<(), TextKind>
+        ensures ok { OnOk result (after_form (meant self.old) (TaxonomyLine id.now) ≡ Ok (meant self.new)) }
+        ensures fault { IfErr result (λ k. k ≢ NoMemory → after_form (meant self.old) (TaxonomyLine id.now) ≡ Err k) }
+    {
+        if !is_taxonomy_name(id) {
+            return Err(TextKind::BadName);
+        }
+        if self.has_id(id) {
+            return Err(TextKind::TaxonomyTwice);
+        }
+        if self.ids.len() >= 8 {
+            return Err(TextKind::TaxonomyCount);
+        }
+        Ok(self.add_taxonomy(id)?)
+    }
+
+    // A row, whose names are names.
+    fn add_row(&mut self, names: &[Vec<u8>]) -> Result<(), TextKind>
+        requires kept { IsKept (meant self.old) }
+        requires placed { in_taxonomy (meant self.old).place ≡ true }
+        requires some { 0 < length names.now }
+        ensures ok { OnOk result (with_forest (meant self.old) (row_of (meant self.old) (map (λ v. v.items) names.now)) ≡ Ok (meant self.new)) }
+        ensures fault { IfErr result (λ k. k ≢ NoMemory → with_forest (meant self.old) (row_of (meant self.old) (map (λ v. v.items) names.now)) ≡ Err k) }
+    {
+        let last = self.forests.len() - 1;
+        let limit = 1024 - self.concepts_before(last);
+        add_row_at(self.forests.as_mut_slice(), last, names, limit)?;
+        Ok(())
+    }
+
+    // A row in the last taxonomy.
+    fn take_row(&mut self, words: &[&[u8]]) -> Result<(), TextKind>
+        requires kept { IsKept (meant self.old) }
+        requires some { 1 ≤ length words.now }
+        ensures ok { OnOk result (after_row (meant self.old) (words_meant words.now) ≡ Ok (meant self.new)) }
+        ensures fault { IfErr result (λ k. k ≢ NoMemory → after_row (meant self.old) (words_meant words.now) ≡ Err k) }
+    {
+        if !self.is_in_taxonomy() {
+            return Err(TextKind::RowOutsideTaxonomy);
+        }
+        if !are_names(words) {
+            return Err(TextKind::BadName);
+        }
+        let names = copies(self.alloc, words)?;
+        self.add_row(names.as_slice())
+    }
+
+    // The articulation of an entry on two concepts.
+    fn read_pair(
+        &self,
+        left: &[u8],
+        relation: &[&[u8]],
+        right: &[u8],
+    ) -> Result<Articulation, TextKind>
+        requires { IsKept (meant self.now) }
+        ensures ok { IfOk result (λ a. after_pair (meant self.now) left.now (words_meant relation.now) right.now ≡ with_articulation (meant self.now) a) }
+        ensures fault { IfErr result (λ k. after_pair (meant self.now) left.now (words_meant relation.now) right.now ≡ Err k) }
+    {
+        if !self.is_in_articulations() {
+            return Err(TextKind::ArticulationOutside);
+        }
+        let a = reference_of(left).ok_or(TextKind::BadName)?;
+        let b = reference_of(right).ok_or(TextKind::BadName)?;
+        if relation.is_empty() {
+            return Err(TextKind::EmptyBraces);
+        }
+        let set = set_of_words(relation).ok_or(TextKind::UnknownRelation)?;
+        let i = self.concept_number(a).ok_or(TextKind::UnknownConcept)?;
+        let j = self.concept_number(b).ok_or(TextKind::UnknownConcept)?;
+        if is_same(a.taxonomy, b.taxonomy) {
+            return Err(TextKind::SameTaxonomy);
+        }
+        Ok(pair_of(i, j, set))
+    }
+
+    fn push_articulation(&mut self, articulation: Articulation) -> Result<(), AllocError>
+        ensures { OnOk result (meant self.new ≡ with_one_more (meant self.old) articulation) }
+    {
+        self.articulations.push(articulation)?;
+        Ok(())
+    }
+
+    fn add_articulation(&mut self, articulation: Articulation) -> Result<(), TextKind>
+        ensures ok { OnOk result (with_articulation (meant self.old) articulation ≡ Ok (meant self.new)) }
+        ensures fault { IfErr result (λ k. k ≢ NoMemory → with_articulation (meant self.old) articulation ≡ Err k) }
+    {
+        if self.articulations.len() >= 4096 {
+            return Err(TextKind::TooManyArticulations);
+        }
+        Ok(self.push_articulation(articulation)?)
+    }
+
+    // An entry on two concepts.
+    fn take_pair(&mut self, left: &[u8], relation: &[&[u8]], right: &[u8]) -> Result<(), TextKind>
+        requires { IsKept (meant self.old) }
+        ensures ok { OnOk result (after_pair (meant self.old) left.now (words_meant relation.now) right.now ≡ Ok (meant self.new)) }
+        ensures fault { IfErr result (λ k. k ≢ NoMemory → after_pair (meant self.old) left.now (words_meant relation.now) right.now ≡ Err k) }
+    {
+        let articulation = self.read_pair(left, relation, right)?;
+        self.add_articulation(articulation)
+    }
+
+    // The numbers of several concepts, if each is known.
+    fn concept_numbers(&self, references: &[Reference<'_>]) -> Result<Option<Vec<u32>>, AllocError>
+        requires { IsKept (meant self.now) }
+        ensures { IfOk result (λ found. option_map (λ v. v.items) found ≡ concept_numbers (meant self.now) (references_meant references.now)) }
+    {
+        let mut numbers = Vec::new(self.alloc);
+        for reference in references {
+            let Some(number) = self.concept_number(*reference) else {
+                return Ok(None);
+            };
+            numbers.push(number)?;
+        }
+        Ok(Some(numbers))
+    }
+
+    // The articulation of an entry on a sum.
+    fn read_sum(&self, whole: &[u8], parts: &[&[u8]]) -> Result<Articulation, TextKind>
+        requires { IsKept (meant self.now) }
+        ensures ok { IfOk result (λ a. after_sum (meant self.now) whole.now (words_meant parts.now) ≡ with_articulation (meant self.now) a) }
+        ensures fault { IfErr result (λ k. k ≢ NoMemory → after_sum (meant self.now) whole.now (words_meant parts.now) ≡ Err k) }
+    {
+        if !self.is_in_articulations() {
+            return Err(TextKind::ArticulationOutside);
+        }
+        let a = reference_of(whole).ok_or(TextKind::BadName)?;
+        let bs = references_of(self.alloc, parts)?.ok_or(TextKind::BadName)?;
+        let i = self.concept_number(a).ok_or(TextKind::UnknownConcept)?;
+        let js = self
+            .concept_numbers(bs.as_slice())?
+            .ok_or(TextKind::UnknownConcept)?;
+        if is_taxonomy_among(a.taxonomy, bs.as_slice()) {
+            return Err(TextKind::SameTaxonomy);
+        }
+        if has_repeat(self.alloc, js.as_slice())? {
+            return Err(TextKind::PartTwice);
+        }
+        Ok(Articulation::Sum {
+            whole: i,
+            parts: Parts::new(js),
+        })
+    }
+
+    // An entry on a sum.
+    fn take_sum(&mut self, whole: &[u8], parts: &[&[u8]]) -> Result<(), TextKind>
+        requires { IsKept (meant self.old) }
+        ensures ok { OnOk result (after_sum (meant self.old) whole.now (words_meant parts.now) ≡ Ok (meant self.new)) }
+        ensures fault { IfErr result (λ k. k ≢ NoMemory → after_sum (meant self.old) whole.now (words_meant parts.now) ≡ Err k) }
+    {
+        let articulation = self.read_sum(whole, parts)?;
+        self.add_articulation(articulation)
+    }
+
+    fn enter_articulations(&mut self)
+        ensures { meant self.new ≡ among_articulations (meant self.old) }
+    {
+        self.place = Place::InArticulations;
+    }
+
+    // A line of this form.
+    fn take_form(&mut self, form: Form<'_>) -> Result<(), TextKind>
+        requires kept { IsKept (meant self.old) }
+        requires well { IsWell (form_meant form) }
+        ensures ok { OnOk result (after_form (meant self.old) (form_meant form.entry) ≡ Ok (meant self.new)) }
+        ensures fault { IfErr result (λ k. k ≢ NoMemory → after_form (meant self.old) (form_meant form.entry) ≡ Err k) }
+    {
+        match form {
+            Form::Blank => Ok(()),
+            Form::TaxonomyLine(id) => self.take_taxonomy(id),
+            Form::ArticulationLine => {
+                self.enter_articulations();
+                Ok(())
+            }
+            Form::RowLine(names) => self.take_row(names.as_slice()),
+            Form::PairEntry {
+                left,
+                relation,
+                right,
+            } => self.take_pair(left, relation.as_slice(), right),
+            Form::SumEntry { whole, parts } => self.take_sum(whole, parts.as_slice()),
+            Form::NoForm => Err(TextKind::BadLine),
+        }
+    }
+
+    /// Takes a line in, which may still have a carriage return and a comment.
+    pub(crate) fn take_line(&mut self, line: &[u8]) -> Result<(), TextKind>
+        requires { IsKept (meant self.old) }
+        ensures ok { OnOk result (after_line (meant self.old) line.now ≡ Ok (meant self.new)) }
+        ensures fault { IfErr result (λ k. k ≢ NoMemory → after_line (meant self.old) line.now ≡ Err k) }
+        ensures kept { OnOk result (IsKept (meant self.new)) }
+    {
+        let form = form_of(self.alloc, line)?;
+        self.take_form(form)
+    }
+}
+
+fn is_among(names: &[Vec<u8>], name: &[u8]) -> bool
+    ensures { result ≡ list_any (bytes_eq name.now) (map (λ v. v.items) names.now) }
+{
+    has_same(names, name)
+}
+
+fn has_same(names: &[Vec<u8>], name: &[u8]) -> bool
+    ensures { result ≡ list_any (λ known. bytes_eq name.now known.items) names.now }
+{
+    names.iter().any(|known| is_same(name, known.as_slice()))
+}
+
+// Whether one of the references is to this taxonomy.
+fn is_taxonomy_among(taxonomy: &[u8], references: &[Reference<'_>]) -> bool
+    ensures { result ≡ list_any (λ b. bytes_eq taxonomy.now b.0) (references_meant references.now) }
+{
+    has_taxonomy(taxonomy, references)
+}
+
+fn has_taxonomy(taxonomy: &[u8], references: &[Reference<'_>]) -> bool
+    ensures { result ≡ list_any (λ b. bytes_eq taxonomy.now b.taxonomy.now) references.now }
+{
+    references.iter().any(|b| is_same(taxonomy, b.taxonomy))
+}
+
+// Whether a number stands twice.
+fn has_repeat(alloc: Global, numbers: &[u32]) -> Result<bool, AllocError>
+    ensures { IfOk result (λ b. b ≡ has_repeat numbers.now) }
+{
+    let mut seen = IndexSet::new(alloc);
+    for number in numbers {
+        if !seen.insert(*number)? {
+            return Ok(true);
+        }
+    }
+    Ok(false)
+}
+
+// The articulation of two concepts, turned round where the left one has the greater number.
+fn pair_of(i: u32, j: u32, set: RelSet) -> Articulation
+    ensures { result ≡ pair_of i j set }
+{
+    if i < j {
+        Articulation::Pair {
+            left: i,
+            right: j,
+            set,
+        }
+    } else {
+        Articulation::Pair {
+            left: j,
+            right: i,
+            set: set.converse(),
+        }
+    }
+}
+
+// A row in the forest at a place.
+fn add_row_at(
+    forests: &mut [Forest],
+    at: usize,
+    names: &[Vec<u8>],
+    limit: u32,
+) -> Result<(), ForestFault>
+    requires at { at < length forests.old }
+    requires some { 0 < length names.now }
+    ensures made { OnOk result (add_row limit (slice_index_or forests.old at no_trees) (map (λ v. v.items) names.now) ≡ Ok (slice_index_or forests.new at no_trees)) }
+    ensures others { OnOk result (forests.new ≡ slice_set forests.old at (slice_index_or forests.new at no_trees)) }
+    ensures fault { IfErr result (λ k. k ≢ forest.NoMemory → add_row limit (slice_index_or forests.old at no_trees) (map (λ v. v.items) names.now) ≡ Err k) }
+{
+    let forest = &mut forests[at];
+    forest.add_row(names, limit)
+}
+
+impl From<ForestFault> for TextKind {
+    ghost from_gives = { λ fault kind. kind ≡ kind_of fault };
+
+    fn from(fault: ForestFault) -> TextKind {
+        match fault {
+            ForestFault::TwoParents => TextKind::TwoParents,
+            ForestFault::ChildTwice => TextKind::ChildTwice,
+            ForestFault::Cycle => TextKind::Cycle,
+            ForestFault::TooManyConcepts => TextKind::TooManyConcepts,
+            ForestFault::NoMemory => TextKind::NoMemory,
+        }
+    }
+}
