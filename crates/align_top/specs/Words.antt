@@ -1,0 +1,155 @@
+-- The words of the command line: a request, or the first usage fault.
+use Rattle.std.specs.Prelude.{ℕ, ◌==◌, Bool, true, not, ◌||◌, List, [], ◌∷◌, ◌++◌, length, find, Option, Some, None, option_map, unwrap_or, Result, Ok, Err, if◌then◌else◌, bytes_eq, codes, ⊤}
+use Rattle.std.specs.List.{list_any, before_first, after_first}
+use Rattle.world_model.specs.declared.Switches.{Switches}
+use Rattle.align_top.specs.declared.Key.{Key}
+use Rattle.align_top.specs.declared.Key.TheVariants.{In, Nonempty, Sibling, Coverage}
+use Rattle.align_top.specs.declared.KeyKind.{KeyKind}
+use Rattle.align_top.specs.declared.KeyKind.TheVariants.{FileName, OnOff}
+use Rattle.align_top.specs.declared.Command.{Command}
+use Rattle.align_top.specs.declared.Command.TheVariants as command
+use Rattle.align_top.specs.declared.Operand.{Operand}
+use Rattle.align_top.specs.declared.UsageKind.{UsageKind}
+use Rattle.align_top.specs.declared.UsageKind.TheVariants.{NoCommand, UnknownCommand, NotOperand, UnknownKey, KeyTwice, BadSwitch, EmptyName, MissingKey}
+use Rattle.align_top.specs.declared.Request.{Request}
+use Rattle.align_top.specs.declared.Request.TheVariants.{Align}
+use Rattle.align_top.specs.declared.WordsFault.{WordsFault}
+use Rattle.align_top.specs.declared.WordsFault.TheVariants.{Usage, NoMemory}
+
+-- how a key is written
+abbrev pub key_name : Key → List ℕ
+key_name In = codes "in"
+key_name Nonempty = codes "nonempty"
+key_name Sibling = codes "sibling"
+key_name Coverage = codes "coverage"
+
+-- what a key's value is
+abbrev pub kind_of : Key → KeyKind
+kind_of In = FileName
+kind_of Nonempty = OnOff
+kind_of Sibling = OnOff
+kind_of Coverage = OnOff
+
+-- whether two keys are one
+abbrev pub same_key : Key → Key → Bool
+same_key a b = bytes_eq (key_name a) (key_name b)
+
+-- a row of the table of commands: the name, the required keys and the optional ones
+pub record Row : Type 0 where
+  pub name : List ℕ
+  pub required : List Key
+  pub optional : List Key
+
+-- the table of commands
+abbrev pub row_of : Command → Row
+row_of command.Align = record { name = codes "align"; required = In ∷ []; optional = Nonempty ∷ Sibling ∷ Coverage ∷ [] }
+
+-- the commands, in the order of the table
+abbrev pub all_commands : List Command
+all_commands = command.Align ∷ []
+
+-- the command with this name
+abbrev pub command_named : List ℕ → Option Command
+command_named word = find (λ c. bytes_eq word (row_of c).name) all_commands
+
+-- whether a byte is =
+abbrev pub is_equals : ℕ → Bool
+is_equals b = b == 61
+
+-- the key's name and the value of a word: cut at its first =
+abbrev pub cut_word : List ℕ → Option (List ℕ × List ℕ)
+cut_word word = if list_any is_equals word then Some (before_first is_equals word, after_first is_equals word) else None
+
+-- the fault where the test holds, and else the rest
+abbrev pub fail_if : {X : Type 0} → Bool → UsageKind → Result X UsageKind → Result X UsageKind
+fail_if test kind rest = if test then Err kind else rest
+
+-- the fault where there is no value, and else what comes of it
+abbrev pub need : {X Y : Type 0} → Option X → UsageKind → (X → Result Y UsageKind) → Result Y UsageKind
+need None kind further = Err kind
+need (Some x) kind further = further x
+
+-- a fault, or what comes of the value
+abbrev pub and_then : {X Y : Type 0} → Result X UsageKind → (X → Result Y UsageKind) → Result Y UsageKind
+and_then (Ok x) further = further x
+and_then (Err kind) further = Err kind
+
+-- the fault, if there is one, and else the rest
+abbrev pub unless : {X : Type 0} → Option UsageKind → Result X UsageKind → Result X UsageKind
+unless None rest = rest
+unless (Some kind) rest = Err kind
+
+-- the first of some keys with this name
+abbrev pub key_among : List Key → List ℕ → Option Key
+key_among keys name = find (λ key. bytes_eq name (key_name key)) keys
+
+-- the key of a command with this name
+abbrev pub key_in : Row → List ℕ → Option Key
+key_in row name = key_among (row.required ++ row.optional) name
+
+-- whether a value is that of a switch
+abbrev pub is_switch : List ℕ → Bool
+is_switch value = bytes_eq value (codes "on") || bytes_eq value (codes "off")
+
+-- what is wrong with a key's value
+abbrev pub value_fault : KeyKind → List ℕ → Option UsageKind
+value_fault OnOff value = if is_switch value then None else Some BadSwitch
+value_fault FileName value = if length value == 0 then Some EmptyName else None
+
+-- whether a key is given
+abbrev pub is_given : List Operand → Key → Bool
+is_given operands key = list_any (λ operand. same_key operand.key key) operands
+
+-- a further word after some operands
+abbrev pub operand_of : Row → List Operand → List ℕ → Result Operand UsageKind
+operand_of row earlier word =
+    need (cut_word word) NotOperand (λ cut.
+    need (key_in row cut.0) UnknownKey (λ key.
+    fail_if (is_given earlier key) KeyTwice (
+    unless (value_fault (kind_of key) cut.1) (
+    Ok (record { key = key; value = cut.1 })))))
+
+-- the further words, from the left
+abbrev pub operands_of : Row → List Operand → List (List ℕ) → Result (List Operand) UsageKind
+operands_of row earlier [] = Ok earlier
+operands_of row earlier (word ∷ words) =
+    and_then (operand_of row earlier word) (λ operand. operands_of row (earlier ++ operand ∷ []) words)
+
+-- the value of a key, if it is given
+abbrev pub value_of : List Operand → Key → Option (List ℕ)
+value_of operands key = option_map (λ operand. operand.value) (find (λ operand. same_key operand.key key) operands)
+
+-- a switch is on where it isn't given
+abbrev pub is_on : Option (List ℕ) → Bool
+is_on None = true
+is_on (Some value) = bytes_eq value (codes "on")
+
+abbrev pub switches_of : List Operand → Switches
+switches_of operands = record {
+  nonempty = is_on (value_of operands Nonempty);
+  sibling = is_on (value_of operands Sibling);
+  coverage = is_on (value_of operands Coverage);
+}
+
+-- whether a required key is missing
+abbrev pub is_lacking : Row → List Operand → Bool
+is_lacking row operands = list_any (λ key. not (is_given operands key)) row.required
+
+-- the request of a command, whose required keys are given
+abbrev pub request_for : Command → List Operand → Request
+request_for command.Align operands = Align (unwrap_or (value_of operands In) []) (switches_of operands)
+
+-- what words ask for, or their first fault
+abbrev pub request_of : List (List ℕ) → Result Request UsageKind
+request_of [] = Err NoCommand
+request_of (word ∷ words) =
+    need (command_named word) UnknownCommand (λ c.
+    and_then (operands_of (row_of c) [] words) (λ operands.
+    fail_if (is_lacking (row_of c) operands) MissingKey (
+    Ok (request_for c operands))))
+
+-- a fact of the fault of the words that is answered
+abbrev pub IfUsage : {X : Type 0} → Result X WordsFault → (UsageKind → Type 0) → Type 0
+IfUsage (Ok x) P = ⊤
+IfUsage (Err (Usage kind)) P = P kind
+IfUsage (Err NoMemory) P = ⊤

@@ -1,0 +1,69 @@
+//! The exit code of a status, and how faults are printed.
+ghost use Rattle.std.specs.Prelude.{◌≡◌};
+ghost use Rattle.align_top.specs.Output.{code_of, usage_name, text_name};
+
+use crate::{Status, UsageKind};
+use cleantax_text::TextKind;
+
+impl Status {
+    /// The exit code.
+    pub fn code(&self) -> u8
+        ensures { result ≡ code_of self.now }
+    {
+        match self {
+            Status::Done => 0,
+            Status::RefusedText { .. } => 1,
+            Status::Usage(_) => 2,
+            Status::ReadFault => 3,
+            Status::WriteFault => 4,
+            Status::NoWorld => 6,
+            Status::NoMemory => 9,
+            Status::NotBuilt => 11,
+        }
+    }
+}
+
+impl UsageKind {
+    /// Its name, as it is printed.
+    pub fn name(self) -> &'static str
+        ensures { result.now ≡ usage_name self }
+    {
+        match self {
+            UsageKind::NoCommand => "NoCommand",
+            UsageKind::UnknownCommand => "UnknownCommand",
+            UsageKind::NotOperand => "NotOperand",
+            UsageKind::UnknownKey => "UnknownKey",
+            UsageKind::KeyTwice => "KeyTwice",
+            UsageKind::BadSwitch => "BadSwitch",
+            UsageKind::EmptyName => "EmptyName",
+            UsageKind::MissingKey => "MissingKey",
+        }
+    }
+}
+
+/// The name of a text's fault, as it is printed.
+pub fn text_name(kind: TextKind) -> &'static str
+    ensures { result.now ≡ text_name kind }
+{
+    match kind {
+        TextKind::NotUtf8 => "NotUtf8",
+        TextKind::BadLine => "BadLine",
+        TextKind::BadName => "BadName",
+        TextKind::UnknownRelation => "UnknownRelation",
+        TextKind::EmptyBraces => "EmptyBraces",
+        TextKind::RowOutsideTaxonomy => "RowOutsideTaxonomy",
+        TextKind::ArticulationOutside => "ArticulationOutside",
+        TextKind::TaxonomyTwice => "TaxonomyTwice",
+        TextKind::TaxonomyCount => "TaxonomyCount",
+        TextKind::UnknownConcept => "UnknownConcept",
+        TextKind::SameTaxonomy => "SameTaxonomy",
+        TextKind::TwoParents => "TwoParents",
+        TextKind::ChildTwice => "ChildTwice",
+        TextKind::Cycle => "Cycle",
+        TextKind::TooManyConcepts => "TooManyConcepts",
+        TextKind::TooManyArticulations => "TooManyArticulations",
+        TextKind::TooLong => "TooLong",
+        TextKind::NoMemory => "NoMemory",
+        TextKind::PartTwice => "PartTwice",
+    }
+}
