@@ -46,11 +46,11 @@ pub need-Ok : {X Y : Type 0} (o : Option X) (kind : TextKind) (further : X → R
 need-Ok None kind further y e = absurd (cc)
 need-Ok (Some x) kind further y e = (x, refl, e)
 
-with_forest-Ok : (r : Reading) (made : Result Trees ForestFault) (next : Reading) → with_forest r made ≡ Ok next → (g : Trees) × (made ≡ Ok g) × (record r { forests = set r.forests (last_number r) g } ≡ next)
+pub with_forest-Ok : (r : Reading) (made : Result Trees ForestFault) (next : Reading) → with_forest r made ≡ Ok next → (g : Trees) × (made ≡ Ok g) × (record r { forests = set r.forests (last_number r) g } ≡ next)
 with_forest-Ok r (Ok g) next e = (g, refl, cc)
 with_forest-Ok r (Err fault) next e = absurd (cc)
 
-not_true : (b : Bool) → not b ≡ false → b ≡ true
+pub not_true : (b : Bool) → not b ≡ false → b ≡ true
 not_true true e = refl
 not_true false e = absurd (cc)
 

@@ -8,3 +8,12 @@ pub mod KeptLemmas
 pub mod RepeatLemmas
 pub mod TextLemmas
 pub mod PieceLemmas
+pub mod CutLemmas
+pub mod NamedLemmas
+pub mod ScanLemmas
+pub mod RegrowLemmas
+pub mod RowsBackLemmas
+pub mod LaidLemmas
+pub mod EntryLineLemmas
+pub mod EntriesBackLemmas
+pub mod ReadsBackLemmas

@@ -23,7 +23,7 @@ grows_name limit f name g h e = elim (with_name-Ok limit f name g e) [
 same_link : (parent : ℕ) (f : Trees) (c : ℕ) (g : Trees) → with_link parent f c ≡ Ok g → length g.names ≡ length f.names
 same_link parent f c g e = let links = with_link-Ok parent f c g e in ap (λ t. length t.names) links.is
 
-and_then-Ok : (r : Result Trees ForestFault) (next : Trees → Result Trees ForestFault) (g : Trees) → and_then r next ≡ Ok g → (f : Trees) × (r ≡ Ok f) × (next f ≡ Ok g)
+pub and_then-Ok : (r : Result Trees ForestFault) (next : Trees → Result Trees ForestFault) (g : Trees) → and_then r next ≡ Ok g → (f : Trees) × (r ≡ Ok f) × (next f ≡ Ok g)
 and_then-Ok (Ok f) next g e = (f, refl, e)
 and_then-Ok (Err k) next g e = absurd (cc)
 

@@ -8,3 +8,4 @@ pub mod Views
 pub mod Kept
 pub mod Whole
 pub mod Pieces
+pub mod ReadsBack

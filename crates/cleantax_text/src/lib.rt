@@ -4,6 +4,7 @@
 ghost use Rattle.std.specs.Prelude.{◌≡◌, ◌≢◌, IfOk, IfErr};
 ghost use Rattle.constraint_set.specs.Facts.{IsAsRead};
 ghost use Rattle.cleantax_text.specs.Reading.{IsProblemText, HasFirstFault};
+ghost use Rattle.cleantax_text.specs.ReadsBack.{PrintingReadsBack};
 ghost use Rattle.cleantax_text.specs.declared.TextKind.TheVariants.{NoMemory};
 
 mod forms;
@@ -102,6 +103,12 @@ pub fn read_problem(alloc: Global, bytes: &[u8], switches: Switches) -> Result<P
 {
     text::read_problem(alloc, bytes, switches)
 }
+
+/// What is printed reads back: the canonical text of a problem that some text says is a text of this problem under the same
+/// switches, where it has at most 1,048,576 bytes.
+pub fn printing_reads_back()
+    ensures { PrintingReadsBack }
+{}
 
 #[cfg(test)]
 mod tests;

@@ -7,6 +7,7 @@ ghost use Rattle.world_model.specs.declared.Articulation.{Articulation};
 ghost use Rattle.world_model.specs.declared.Articulation.TheVariants.{Sum};
 ghost use Rattle.constraint_set.specs.Facts.{IsAsRead};
 ghost use Rattle.cleantax_text.specs.Canonical.{concept_text, name_of, word_of, words_text, set_text, spaced, articulation_text, row_text, taxonomy_text, canonical_text};
+ghost use Rattle.cleantax_text.specs.ReadsBack.{ReadsBack};
 ghost use Rattle.cleantax_text.specs.Pieces.{heading, headings, family, families, taxonomy_pieces, taxonomies_text, pair_text, line_of};
 
 use constraint_set::Problem;
@@ -325,6 +326,14 @@ fn put_taxonomies(out: &mut Vec<u8>, problem: &Problem) -> Result<(), AllocError
     Ok(())
 }
 
+fn put_problem(out: &mut Vec<u8>, alloc: Global, problem: &Problem) -> Result<(), AllocError>
+    ensures { OnOk result (out.new.items ≡ out.old.items ++ canonical_text problem.now) }
+{
+    put_taxonomies(out, problem)?;
+    put(out, b"articulation\n")?;
+    put_lines(out, alloc, problem)
+}
+
 /// `ID.NAME` for a concept.
 pub fn concept_text(alloc: Global, problem: &Problem, concept: u32) -> Result<Vec<u8>, AllocError>
     requires { concept < concept_count problem.now }
@@ -355,11 +364,10 @@ pub fn articulation_text(
 /// row for each concept with children; then the line `articulation`, and a line for each articulation.
 pub fn print_problem(alloc: Global, problem: &Problem) -> Result<Vec<u8>, AllocError>
     requires { IsAsRead problem.now }
-    ensures { IfOk result (λ text. text.items ≡ canonical_text problem.now) }
+    ensures text { IfOk result (λ text. text.items ≡ canonical_text problem.now) }
+    ensures reads_back { IfOk result (λ text. ReadsBack text.items problem.now) }
 {
     let mut text = Vec::new(alloc);
-    put_taxonomies(&mut text, problem)?;
-    put(&mut text, b"articulation\n")?;
-    put_lines(&mut text, alloc, problem)?;
+    put_problem(&mut text, alloc, problem)?;
     Ok(text)
 }

@@ -1,6 +1,6 @@
 //! Texts and their faults, the limits, and that printed problems read back.
 use super::{TextFault, TextKind, articulation_text, concept_text, print_problem, read_problem};
-use std::alloc::Global;
+use std::alloc::{AllocError, Global};
 use std::test::Fail;
 use world_model::Switches;
 
@@ -32,6 +32,11 @@ fn texts_have_their_first_faults(rt: HostRuntime) -> Result<(), Fail> {
             "taxonomy 1\n(A)\ntaxonomy 2\n(B)\narticulation\n[1.A equals 2.Z]\n",
             6,
             TextKind::UnknownConcept,
+        ),
+        (
+            "taxonomy 1\n(A)\ntaxonomy 2\n(B)\narticulation\n[1.A equals 1.A]\n",
+            6,
+            TextKind::SameTaxonomy,
         ),
         (
             "taxonomy 1\n(A)\ntaxonomy 2\n(B)\narticulation\n[1.A {} 2.B]\n",
@@ -102,6 +107,14 @@ fn texts_are_printed_in_their_canonical_form(rt: HostRuntime) -> Result<(), Fail
             "taxonomy 1\n(A.b é)\ntaxonomy 2\n",
             "taxonomy 1\n(A.b)\n(é)\n(A.b é)\ntaxonomy 2\narticulation\n",
         ),
+        (
+            "\u{FEFF}# note\r\ntaxonomy 1 old list\r\n(A B)\r\n(A C) # again\r\n\r\ntaxonomy 2\r\n(D E F)\r\narticulations both\r\n[2.D == 1.A]\r\n[1.B {equals overlaps} 2.E]\r\n[1.B == 2.E]\r\n",
+            "taxonomy 1\n(A)\n(B)\n(C)\n(A B C)\ntaxonomy 2\n(D)\n(E)\n(F)\n(D E F)\narticulation\n[1.A equals 2.D]\n[1.B {equals overlaps} 2.E]\n[1.B equals 2.E]\n",
+        ),
+        (
+            "taxonomy 1\ntaxonomy 2\n(A)",
+            "taxonomy 1\ntaxonomy 2\n(A)\narticulation\n",
+        ),
     ] {
         for start in [text, canonical] {
             let out = printed(alloc, start.as_bytes())?;
@@ -147,5 +160,190 @@ fn as_many_concepts_as_the_limit(rt: HostRuntime) -> Result<(), Fail> {
         kind: TextKind::TooManyConcepts,
     };
     assert_eq!(rt; read_problem(alloc, more.as_slice(), ON).err(), Some(fault));
+    Ok(())
+}
+
+// The first fault of a text, if it has one.
+fn first_fault(alloc: Global, text: &[u8]) -> Option<TextFault> {
+    read_problem(alloc, text, ON).err()
+}
+
+// Adds a piece so many times.
+fn put_times(text: &mut Vec<u8>, piece: &[u8], times: u32) -> Result<(), AllocError> {
+    for _ in 0..times {
+        text.extend_from_slice(piece)?;
+    }
+    Ok(())
+}
+
+// A beginning, a piece so many times, and an end.
+fn repeated(
+    alloc: Global,
+    start: &str,
+    piece: &str,
+    times: u32,
+    end: &str,
+) -> Result<Vec<u8>, AllocError> {
+    let mut text = Vec::new(alloc);
+    text.extend_from_slice(start.as_bytes())?;
+    put_times(&mut text, piece.as_bytes(), times)?;
+    text.extend_from_slice(end.as_bytes())?;
+    Ok(text)
+}
+
+const ENTRIES: &str = "taxonomy 1\n(A)\ntaxonomy 2\n(B)\narticulation\n";
+
+#[test]
+fn limits_are_kept(rt: HostRuntime) -> Result<(), Fail> {
+    let alloc = rt.alloc();
+    for (start, piece, times, end, line, kind) in [
+        // names of 128 and 129 bytes, of a concept and of a taxonomy
+        ("taxonomy 1\n(", "n", 128, ")\ntaxonomy 2\n", 0, None),
+        (
+            "taxonomy 1\n(",
+            "n",
+            129,
+            ")\ntaxonomy 2\n",
+            2,
+            Some(TextKind::BadName),
+        ),
+        ("taxonomy 1\ntaxonomy ", "é", 64, "", 0, None),
+        (
+            "taxonomy 1\ntaxonomy x",
+            "é",
+            64,
+            "",
+            2,
+            Some(TextKind::BadName),
+        ),
+        // texts of 1,048,576 bytes and of one more
+        ("taxonomy 1\ntaxonomy 2\n#", "-", 1_048_553, "", 0, None),
+        (
+            "taxonomy 1\ntaxonomy 2\n#",
+            "-",
+            1_048_554,
+            "",
+            0,
+            Some(TextKind::TooLong),
+        ),
+        // 4,096 articulations, and a last entry
+        (ENTRIES, "[1.A ! 2.B]\n", 4096, "", 0, None),
+        (
+            ENTRIES,
+            "[1.A ! 2.B]\n",
+            4096,
+            "[1.A ! 2.B]\n",
+            4102,
+            Some(TextKind::TooManyArticulations),
+        ),
+        (
+            ENTRIES,
+            "[1.A ! 2.B]\n",
+            4096,
+            "[1.A ! 2.C]\n",
+            4102,
+            Some(TextKind::UnknownConcept),
+        ),
+    ] {
+        let text = repeated(alloc, start, piece, times, end)?;
+        let fault = kind.map(|kind| TextFault { line, kind });
+        assert_eq!(rt;
+            first_fault(alloc, text.as_slice()),
+            fault,
+            "{piece} {times} {end}"
+        );
+    }
+    Ok(())
+}
+
+const FURNITURE: &str = "taxonomy 2023 Furniture catalogue
+(Furniture Seating Tables Storage)
+(Seating Chair Sofa Bench)
+(Tables Desk Dining)
+(Storage Shelf Cabinet Chest)
+taxonomy 2024 Goods catalogue
+(Goods Seats Surfaces Keeping)
+(Seats Single Shared)
+(Shared Upholstered Wooden)
+(Surfaces Work Meal)
+(Keeping Open Closed)
+articulation 2023-2024
+[2023.Furniture equals 2024.Goods]
+[2023.Seating equals 2024.Seats]
+[2023.Tables equals 2024.Surfaces]
+[2023.Storage equals 2024.Keeping]
+[2023.Chair equals 2024.Single]
+[2023.Sofa {equals includes} 2024.Upholstered]
+[2023.Desk equals 2024.Work]
+[2023.Dining {equals overlaps} 2024.Meal]
+[2023.Shelf equals 2024.Open]
+[2023.Cabinet is_included_in 2024.Closed]
+[2023.Chest is_included_in 2024.Closed]
+[2023.Shelf disjoint 2024.Closed]
+[2023.Bench is_included_in 2024.Shared]
+[2023.Chair disjoint 2024.Upholstered]
+[2023.Sofa is_included_in 2024.Shared]
+";
+
+const FURNITURE_CANONICAL: &str = "taxonomy 2023
+(Furniture)
+(Seating)
+(Tables)
+(Storage)
+(Chair)
+(Sofa)
+(Bench)
+(Desk)
+(Dining)
+(Shelf)
+(Cabinet)
+(Chest)
+(Furniture Seating Tables Storage)
+(Seating Chair Sofa Bench)
+(Tables Desk Dining)
+(Storage Shelf Cabinet Chest)
+taxonomy 2024
+(Goods)
+(Seats)
+(Surfaces)
+(Keeping)
+(Single)
+(Shared)
+(Upholstered)
+(Wooden)
+(Work)
+(Meal)
+(Open)
+(Closed)
+(Goods Seats Surfaces Keeping)
+(Seats Single Shared)
+(Surfaces Work Meal)
+(Keeping Open Closed)
+(Shared Upholstered Wooden)
+articulation
+[2023.Furniture equals 2024.Goods]
+[2023.Seating equals 2024.Seats]
+[2023.Tables equals 2024.Surfaces]
+[2023.Storage equals 2024.Keeping]
+[2023.Chair equals 2024.Single]
+[2023.Sofa {equals includes} 2024.Upholstered]
+[2023.Desk equals 2024.Work]
+[2023.Dining {equals overlaps} 2024.Meal]
+[2023.Shelf equals 2024.Open]
+[2023.Cabinet is_included_in 2024.Closed]
+[2023.Chest is_included_in 2024.Closed]
+[2023.Shelf disjoint 2024.Closed]
+[2023.Bench is_included_in 2024.Shared]
+[2023.Chair disjoint 2024.Upholstered]
+[2023.Sofa is_included_in 2024.Shared]
+";
+
+#[test]
+fn a_realistic_problem_reads_back(rt: HostRuntime) -> Result<(), Fail> {
+    let alloc = rt.alloc();
+    for text in [FURNITURE, FURNITURE_CANONICAL] {
+        let once = printed(alloc, text.as_bytes())?;
+        assert_eq!(rt; once.as_slice(), FURNITURE_CANONICAL.as_bytes());
+    }
     Ok(())
 }
