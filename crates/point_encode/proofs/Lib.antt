@@ -1,0 +1,4 @@
+pub mod Sizes
+pub mod Selecting
+pub mod NeedLists
+pub mod Encoding

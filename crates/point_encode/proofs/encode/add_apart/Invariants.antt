@@ -1,0 +1,11 @@
+use Rattle.std.proofs.Common.{◌≡◌, ◌++◌, map}
+use Rattle.std.specs.Prelude.{flat_map}
+use Rattle.std.specs.List.{range_with_len}
+use Rattle.world_model.specs.Problem.{children_of}
+use Rattle.cert_model.specs.Clauses.{each_two, apart_clause}
+use Rattle.point_encode.proofs.encode.add_apart.Given as goal
+
+-- the clauses of the first concepts were added
+abbrev pub invariant-loop-concept : goal.invariant-loop-concept
+invariant-loop-concept l =
+    l.clauses.items ≡ l.initial.clauses.items ++ flat_map (λ c. map apart_clause (each_two (children_of l.problem c))) (range_with_len 0 l.concept)

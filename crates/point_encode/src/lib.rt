@@ -1,0 +1,15 @@
+//! The given clauses of a problem, the selectors of a prefix, and its needs.
+#![tactic(auto)]
+
+mod encode;
+mod need;
+mod select;
+mod variables;
+
+pub use encode::given_clauses;
+pub use need::{Need, is_forced, need_lits, need_number, need_of, needs_of};
+pub use select::{allowed_at, forced_at, selectors_of};
+pub use variables::variable_count;
+
+#[cfg(test)]
+mod tests;
