@@ -1,0 +1,109 @@
+-- What meeting literals keeps.
+use Rattle.std.proofs.Common.{◌≡◌, ◌≢◌, ◌∙◌, ◌⊎◌, ℕ, ◌+◌, ◌<◌, ◌≤◌, Bool, true, false, List, [], ◌∷◌, ◌++◌, length, get_or, set, min, Option, Some, refl, sym, ap, subst, arith, inl, inr}
+use Rattle.std.specs.List.{All, Contains}
+use Rattle.std.proofs.lemmas.Bool.{cases_Bool, cases_eq, cases_lt}
+use Rattle.std.proofs.lemmas.List.{get_or-set_other}
+use Rattle.std.proofs.lemmas.List.Elements.{Contains-append_left, Contains-push}
+use Rattle.lits_core.specs.Literals.{negation_of, variable_of}
+use Rattle.lits_core.proofs.LiteralLemmas.{variable_of-negation, negation-negation}
+use Rattle.clause_arena.specs.Records.{Record, record_at}
+use Rattle.watch_arena.specs.Places.{place_at, is_false}
+use Rattle.watch_arena.specs.Trails.{TrailState, IsTrail}
+use Rattle.conflict_clause.specs.declared.notes.Notes.{Notes}
+use Rattle.conflict_clause.specs.Search.{IsNoted, IsClear, IsLooking, IsLower, Meets, is_met}
+use Rattle.conflict_clause.proofs.AtPlaces.{place-once, false_below, false_from}
+
+-- the same variables are noted
+pub IsNoted-same : (old new : Notes) (a b : ℕ) → IsNoted old a → new.marks ≡ old.marks → new.met.items ≡ old.met.items → a ≡ b → IsNoted new b
+IsNoted-same old new a b n marks met same = record {
+  size = ap length marks ∙ n.size ∙ same;
+  listed = λ v m. subst (λ (xs : List ℕ). Contains xs v) (sym met) (n.listed v (ap (λ (bs : List Bool). get_or bs v false) (sym marks) ∙ m));
+  in_range = subst (λ (k : ℕ). All (λ (v : ℕ). v < k) new.met.items) same (subst (λ (xs : List ℕ). All (λ (v : ℕ). v < a) xs) (sym met) n.in_range);
+}
+
+-- where one variable more was met, a place of another one was met before
+other_met : (marks : List Bool) (v w : ℕ) → w ≢ v → get_or (set marks v true) w false ≡ true → get_or marks w false ≡ true
+other_met marks v w ne h = sym (get_or-set_other marks v w true false ne) ∙ h
+
+-- a literal was met and is kept
+pub IsLooking-kept : (t : TrailState) (level : ℕ) (old new : Notes) (lit q : ℕ) → IsTrail t → IsLooking t level old → IsNoted new t.variables → new.marks ≡ set old.marks (variable_of lit) true → new.lits.items ≡ old.lits.items ++ lit ∷ [] → new.lowest ≡ old.lowest → q < length t.places → (place_at t.places q).lit ≡ negation_of lit → IsLooking t level new
+IsLooking-kept t level old new lit q trail l noted marks lits lowest lt is = record {
+  noted = noted;
+  left = λ p within m. elim (cases_eq (variable_of (place_at t.places p).lit) (variable_of lit)) [
+    | inl same ↦
+        let here : p ≡ q = place-once t p q trail within lt (same ∙ sym (ap variable_of is ∙ variable_of-negation lit)) in
+        let back : lit ≡ negation_of (place_at t.places p).lit = sym (ap (λ (n : ℕ). negation_of (place_at t.places n).lit) here ∙ ap negation_of is ∙ negation-negation lit) in
+        inl (subst (λ (x : ℕ). Contains new.lits.items x) back (subst (λ (xs : List ℕ). Contains xs lit) (sym lits) (Contains-push old.lits.items lit)))
+    | inr other ↦
+        elim (l.left p within (other_met old.marks (variable_of lit) (variable_of (place_at t.places p).lit) other (subst (λ (b : List Bool). get_or b (variable_of (place_at t.places p).lit) false ≡ true) marks m))) [
+          | inl has ↦ inl (subst (λ (xs : List ℕ). Contains xs (negation_of (place_at t.places p).lit)) (sym lits) (Contains-append_left old.lits.items (lit ∷ []) (negation_of (place_at t.places p).lit) has))
+          | inr late ↦ inr (omega arith)
+        ]
+  ];
+  at_level = λ within. subst (λ (n : ℕ). level ≤ (place_at t.places n).level) (sym lowest) (l.at_level (omega arith));
+}
+
+-- a literal was met, and its place is to be looked at
+pub IsLooking-lowered : (t : TrailState) (level : ℕ) (old new : Notes) (lit q : ℕ) → IsTrail t → IsLooking t level old → IsNoted new t.variables → new.marks ≡ set old.marks (variable_of lit) true → new.lits.items ≡ old.lits.items → new.lowest ≡ min old.lowest q → q < length t.places → (place_at t.places q).lit ≡ negation_of lit → level ≤ (place_at t.places q).level → IsLooking t level new
+IsLooking-lowered t level old new lit q trail l noted marks lits lowest lt is high = record {
+  noted = noted;
+  left = λ p within m. elim (cases_eq (variable_of (place_at t.places p).lit) (variable_of lit)) [
+    | inl same ↦
+        let here : p ≡ q = place-once t p q trail within lt (same ∙ sym (ap variable_of is ∙ variable_of-negation lit)) in
+        inr (omega arith)
+    | inr other ↦
+        elim (l.left p within (other_met old.marks (variable_of lit) (variable_of (place_at t.places p).lit) other (subst (λ (b : List Bool). get_or b (variable_of (place_at t.places p).lit) false ≡ true) marks m))) [
+          | inl has ↦ inl (subst (λ (xs : List ℕ). Contains xs (negation_of (place_at t.places p).lit)) (sym lits) has)
+          | inr late ↦ inr (omega arith)
+        ]
+  ];
+  at_level = λ within. elim (cases_lt old.lowest q) [
+    | inl before ↦
+        let now : new.lowest ≡ old.lowest = omega arith in
+        subst (λ (n : ℕ). level ≤ (place_at t.places n).level) (sym now) (l.at_level (omega arith))
+    | inr after ↦
+        let now : new.lowest ≡ q = omega arith in
+        subst (λ (n : ℕ). level ≤ (place_at t.places n).level) (sym now) high
+  ];
+}
+
+-- meeting goes on
+pub Meets-refl : (t : TrailState) (level : ℕ) (n : Notes) → Meets t level n n
+Meets-refl t level n = record { marks = λ v m. m; kept = λ lit c. c; added = λ lit c. inl c; lowest = omega arith }
+
+pub Meets-trans : (t : TrailState) (level : ℕ) (a b c : Notes) → Meets t level a b → Meets t level b c → Meets t level a c
+Meets-trans t level a b c f g = let low = f.lowest in let lower = g.lowest in record {
+  marks = λ v m. g.marks v (f.marks v m);
+  kept = λ lit h. g.kept lit (f.kept lit h);
+  added = λ lit h. elim (g.added lit h) [
+    | inl old ↦ f.added lit old
+    | inr below ↦ inr below
+  ];
+  lowest = omega arith;
+}
+
+-- after the listed variables are marked as not met, none is met
+pub IsClear-unmarked : (old new : Notes) (variables : ℕ) → IsNoted old variables → length new.marks ≡ length old.marks → new.met.items ≡ old.met.items → ((v : ℕ) → is_met new v ≡ true → is_met old v ≡ true) → ((v : ℕ) → Contains old.met.items v → is_met new v ≡ false) → IsClear new variables
+IsClear-unmarked old new variables n size met only none = record {
+  size = size ∙ n.size;
+  none = λ v. elim (cases_Bool (is_met new v)) [
+    | inl on ↦ none v (n.listed v (only v on))
+    | inr off ↦ off
+  ];
+  in_range = subst (λ (xs : List ℕ). All (λ (v : ℕ). v < variables) xs) (sym met) n.in_range;
+}
+
+-- the literals of a reason whose own literal was met are met or false
+pub reason-off : (t : TrailState) (p at lit : ℕ) (n : Notes) → IsTrail t → p < length t.places → (place_at t.places p).reason ≡ Some at → is_met n (variable_of (place_at t.places p).lit) ≡ true → Contains (record_at t.records at).lits lit → (is_met n (variable_of lit) ≡ true) ⊎ (is_false t.places lit ≡ true)
+reason-off t p at lit n trail lt reason met has =
+    elim (cases_eq lit (place_at t.places p).lit) [
+      | inl is ↦ inl (subst (λ (x : ℕ). is_met n (variable_of x) ≡ true) (sym is) met)
+      | inr ne ↦
+          let off = false_below t.places p lit (omega arith) ((trail.reasons p at lt reason).others lit has ne) in
+          let below = off.1 in
+          inr (false_from t.places off.0 lit (omega arith) off.2)
+    ]
+
+-- the literal that was read, by the records
+pub literal : (lit code : ℕ) (arena records : List Record) (at k : ℕ) → lit ≡ code → code ≡ get_or (record_at arena at).lits k 0 → arena ≡ records → lit ≡ get_or (record_at records at).lits k 0
+literal lit code arena records at k e f g = e ∙ f ∙ ap (λ (rs : List Record). get_or (record_at rs at).lits k 0) g

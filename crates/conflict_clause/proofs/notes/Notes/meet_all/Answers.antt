@@ -1,0 +1,46 @@
+use Rattle.std.proofs.Common.{◌≡◌, ◌⊎◌, ◌∙◌, ℕ, ◌<◌, Bool, List, true, length, refl, sym, ap, subst, arith, inl, inr, get_or, below_more}
+use Rattle.std.specs.List.{Contains}
+use Rattle.lits_core.specs.Literals.{variable_of}
+use Rattle.clause_arena.specs.Records.{Record, record_at}
+use Rattle.watch_arena.proofs.Watching.{contains_at, index_of}
+use Rattle.conflict_clause.specs.Search.{is_met}
+use Rattle.conflict_clause.proofs.Looking.{Meets-refl, Meets-trans, literal}
+use Rattle.conflict_clause.proofs.notes.Notes.meet_all.Goals as goal
+
+pub meet-requires-clause-range : goal.meet-requires-clause-range
+meet-requires-clause-range c =
+    let lt = c.loop-k-test.true in
+    let size = c.len_of-k-end.ensures in
+    let same = ap (λ (rs : List Record). length (record_at rs c.args.at).lits) c.arena-arena.ensures in
+    c.facts.ensures.lits_in_range c.args.at c.from_code.result
+    (contains_at (record_at c.args.trail.now.records c.args.at).lits c.loop-k.k c.from_code.result (omega arith) (sym (literal c.from_code.result c.lit_at.result c.arena-arena.result.now c.args.trail.now.records c.args.at c.loop-k.k c.from_code.ensures c.lit_at.ensures c.arena-arena.ensures)))
+
+pub meet-requires-clause-off : goal.meet-requires-clause-off
+meet-requires-clause-off c =
+    let lt = c.loop-k-test.true in
+    let size = c.len_of-k-end.ensures in
+    let same = ap (λ (rs : List Record). length (record_at rs c.args.at).lits) c.arena-arena.ensures in
+    elim (c.requires.off c.from_code.result (contains_at (record_at c.args.trail.now.records c.args.at).lits c.loop-k.k c.from_code.result (omega arith) (sym (literal c.from_code.result c.lit_at.result c.arena-arena.result.now c.args.trail.now.records c.args.at c.loop-k.k c.from_code.ensures c.lit_at.ensures c.arena-arena.ensures)))) [
+      | inl met ↦ inl (c.loop-k.invariant.meets.marks (variable_of c.from_code.result) met)
+      | inr off ↦ inr off
+    ]
+
+pub loop-k-preserved : goal.loop-k-preserved
+loop-k-preserved c =
+    let P : ℕ → Type 0 = λ j. is_met c.meet.new.self (variable_of (get_or (record_at c.args.trail.now.records c.args.at).lits j 0)) ≡ true in
+    record {
+      looking = c.in_ok-meet.ensures.looking;
+      meets = Meets-trans c.args.trail.now c.args.level c.args.self.now c.loop-k.self c.meet.new.self c.loop-k.invariant.meets c.in_ok-meet.ensures.meets;
+      met = below_more P c.loop-k.k (λ j lt. c.in_ok-meet.ensures.meets.marks _ (c.loop-k.invariant.met j lt))
+          (subst (λ (lit : ℕ). is_met c.meet.new.self (variable_of lit) ≡ true) (literal c.from_code.result c.lit_at.result c.arena-arena.result.now c.args.trail.now.records c.args.at c.loop-k.k c.from_code.ensures c.lit_at.ensures c.arena-arena.ensures) c.in_ok-meet.ensures.met);
+      hints = c.meet.ensures.hints ∙ c.loop-k.invariant.hints;
+    }
+
+pub returns-clause-met : goal.returns-clause-met
+returns-clause-met c lit has =
+    let entry = index_of (record_at c.args.trail.now.records c.args.at).lits lit has in
+    let below = entry.1 in
+    let end = c.loop-k-test.false in
+    let size = c.len_of-k-end.ensures in
+    let same = ap (λ (rs : List Record). length (record_at rs c.args.at).lits) c.arena-arena.ensures in
+    subst (λ (x : ℕ). is_met c.loop-k.self (variable_of x) ≡ true) entry.2 (c.loop-k.invariant.met entry.0 (omega arith))

@@ -1,0 +1,2 @@
+pub mod Taught
+pub mod Search
