@@ -1,0 +1,14 @@
+mod SameStates
+mod Goings
+mod RecordLemmas
+mod TrailLemmas
+mod Cuts
+mod Guidance
+mod Reasons
+mod StepLemmas
+mod Weighing
+mod Answering
+mod Teaching
+mod Conflicts
+mod Idle
+mod Givens

@@ -1,0 +1,165 @@
+-- Steps of the search, one after another.
+use Rattle.std.proofs.Common.{◌≡◌, ◌∙◌, ℕ, zero, suc, ◌+◌, ◌<◌, ◌≤◌, List, [], ◌∷◌, ◌++◌, length, get_or, None, refl, sym, ap, subst, arith}
+use Rattle.std.proofs.lemmas.List.Elements.{Contains-get_or}
+use Rattle.lits_core.specs.Derivation.{State, SameState, live_clause, line_fault, hints_fault, next_state, DerivedFollow}
+use Rattle.lits_core.specs.declared.Line.{Line}
+use Rattle.lits_core.specs.declared.Line.TheVariants.{Derive}
+use Rattle.lits_core.proofs.LiteralSets.{same-self}
+use Rattle.lits_core.proofs.DerivationLemmas.{DerivedFollow-next}
+use Rattle.clause_arena.specs.Records.{Record, new_record}
+use Rattle.watch_arena.specs.Trails.{TrailState, Adds}
+use Rattle.conflict_clause.specs.Taught.{IsTaught}
+use Rattle.learn_solver.specs.declared.learner.Learner.{Learner}
+use Rattle.learn_solver.specs.Solving.{FromOne}
+use Rattle.learn_solver.specs.States.{state_of}
+use Rattle.learn_solver.specs.Learners.{seen, IsSound, AreRecords, Steps, GoesBack}
+use Rattle.learn_solver.proofs.SameStates.{SameState-records}
+use Rattle.learn_solver.proofs.RecordLemmas.{AreRecords-same, AreNoted-same, AreRecords-pushed, AreNoted-pushed, HoldsRecords-state, fresh-free, state-pushed, live-within}
+use Rattle.learn_solver.proofs.Goings.{GoesTo-same, GoesTo-trans}
+
+pub Steps-trans : (one two three : Learner) → Steps one two → Steps two three → Steps one three
+Steps-trans one two three h k = record {
+  sound = k.sound;
+  goes = GoesTo-trans (seen one) (seen two) (seen three) h.goes k.goes;
+  variables = k.variables ∙ h.variables;
+}
+
+-- clauses, variables and lines stay
+pub record Keeps (old new : Learner) : Type 0 where
+  pub records : new.trail.records ≡ old.trail.records
+  pub trail_variables : new.trail.variables ≡ old.trail.variables
+  pub variables : new.variables ≡ old.variables
+  pub analyzer : new.analyzer ≡ old.analyzer
+  pub order : new.order ≡ old.order
+  pub given : new.given ≡ old.given
+  pub waiting : new.waiting.items ≡ old.waiting.items
+
+same_state : (records other : List Record) (given more : ℕ) → other ≡ records → more ≡ given → SameState (state_of records given) (state_of other more)
+same_state records other given more e h =
+    subst (λ (rs : List Record). SameState (state_of records given) (state_of rs more)) (sym e)
+    (subst (λ (n : ℕ). SameState (state_of records given) (state_of records n)) (sym h) (same-self (state_of records given)))
+
+pub IsSound-kept : (old new : Learner) → IsSound old → Keeps old new → IsSound new
+IsSound-kept old new s k = record {
+  variables = k.variables ∙ s.variables ∙ sym k.trail_variables;
+  analyzer = k.analyzer ∙ s.analyzer ∙ sym k.trail_variables;
+  order = ap length k.order ∙ s.order ∙ sym k.trail_variables;
+  records = rw (k.records, k.given) s.records;
+  noted = rw (k.records, k.given, k.order) s.noted;
+}
+
+pub Steps-kept : (old new : Learner) → IsSound old → Keeps old new → Steps old new
+Steps-kept old new s k = record {
+  sound = IsSound-kept old new s k;
+  goes = GoesTo-same (seen old) (seen new) k.trail_variables k.waiting (same_state old.trail.records new.trail.records old.given new.given k.records k.given);
+  variables = k.trail_variables;
+}
+
+pub Steps-refl : (l : Learner) → IsSound l → Steps l l
+Steps-refl l s = Steps-kept l l s (record { records = refl; trail_variables = refl; variables = refl; analyzer = refl; order = refl; given = refl; waiting = refl })
+
+-- a clause that live clauses give may be derived
+no_fault : (state : State) (id : ℕ) (lits hints : List ℕ) → live_clause state id ≡ None → hints_fault state hints lits ≡ None → line_fault state (Derive id lits hints) ≡ None
+no_fault state id lits hints free shown = rw free shown
+
+-- the ids in its line are at least 1
+line-from_one : (t : TrailState) (given id : ℕ) (lits hints : List ℕ) → AreRecords t.records given → IsTaught t lits hints → 1 ≤ id → FromOne (Derive id lits hints)
+line-from_one t given id lits hints r taught pos = (
+  pos,
+  λ k d lt.
+      let live = taught.of_live (get_or hints k d) (Contains-get_or hints k d lt) in
+      let least = r.from_one live.at (live-within t.records live.at live.live) in
+      let is = live.named in omega arith,
+)
+
+-- what holds of a line holds of the list of it alone
+one_line : (line : Line) (k : ℕ) (d : Line) → FromOne line → k < length (line ∷ []) → FromOne (get_or (line ∷ []) k d)
+one_line line zero d h lt = h
+one_line line (suc k) d h lt = absurd (omega arith)
+
+-- one derived clause more, with its line
+pub Steps-noted : (old new : Learner) (id : ℕ) (lits hints : List ℕ) → IsSound old → IsTaught old.trail lits hints → id ≡ length old.trail.records + 1 → Adds old.trail new.trail lits id → new.variables ≡ old.variables → new.analyzer ≡ old.analyzer → new.order ≡ old.order → new.given ≡ old.given → new.waiting.items ≡ old.waiting.items ++ Derive id lits hints ∷ [] → Steps old new
+Steps-noted old new id lits hints s taught fresh adds variables analyzer order given waiting =
+    let records : List Record = old.trail.records in
+    let enough = s.records.enough in
+    let state : State = state_of old.trail.records old.given in
+    let line : Line = Derive id lits hints in
+    let shown = taught.shown (state_of old.trail.records old.given) (HoldsRecords-state old.trail.records old.given s.records) in
+    let fault = no_fault (state_of old.trail.records old.given) id lits hints (fresh-free old.trail.records old.given id s.records (omega arith)) shown in
+    let pushed : state_of (old.trail.records ++ new_record id lits ∷ []) old.given ≡ next_state (state_of old.trail.records old.given) (Derive id lits hints) = state-pushed old.trail.records old.given id lits hints enough in
+    let follow : DerivedFollow (state_of (old.trail.records ++ new_record id lits ∷ []) old.given) =
+    subst (λ (st : State). DerivedFollow st) (sym pushed) (DerivedFollow-next (state_of old.trail.records old.given) (Derive id lits hints) s.records.follow fault) in
+    let mid = AreRecords-pushed old.trail.records old.given id lits s.records fresh follow in
+    let after : SameState (next_state (state_of old.trail.records old.given) (Derive id lits hints)) (state_of new.trail.records old.given) =
+    subst (λ (st : State). SameState st (state_of new.trail.records old.given)) pushed (SameState-records (old.trail.records ++ new_record id lits ∷ []) new.trail.records old.given adds.records) in
+    record {
+      sound = record {
+        variables = variables ∙ s.variables ∙ sym adds.variables;
+        analyzer = analyzer ∙ s.analyzer ∙ sym adds.variables;
+        order = ap length order ∙ s.order ∙ sym adds.variables;
+        records = rw given (AreRecords-same (old.trail.records ++ new_record id lits ∷ []) new.trail.records old.given mid adds.records);
+        noted = rw (given, order) (AreNoted-same (old.trail.records ++ new_record id lits ∷ []) new.trail.records old.given old.order (AreNoted-pushed old.trail.records (new_record id lits) old.given old.order enough s.noted) adds.records);
+      };
+      goes = record {
+        variables = adds.variables;
+        added = Derive id lits hints ∷ [];
+        waits = waiting;
+        leads = record {
+          valid = rw fault refl;
+          after = subst (λ (n : ℕ). SameState (next_state (state_of old.trail.records old.given) (Derive id lits hints)) (state_of new.trail.records n)) (sym given) after;
+        };
+        from_one = λ k d lt. one_line (Derive id lits hints) k d (line-from_one old.trail old.given id lits hints s.records taught (omega arith)) lt;
+      };
+      variables = adds.variables;
+    }
+
+-- the trail goes back to a level
+pub Steps-back : (old new : Learner) (level : ℕ) → IsSound old → GoesBack old new level → Steps old new
+Steps-back old new level s e = Steps-kept old new s (record {
+  records = ap (λ (l : Learner). l.trail.records) e;
+  trail_variables = ap (λ (l : Learner). l.trail.variables) e;
+  variables = ap (λ (l : Learner). l.variables) e;
+  analyzer = ap (λ (l : Learner). l.analyzer) e;
+  order = ap (λ (l : Learner). l.order) e;
+  given = ap (λ (l : Learner). l.given) e;
+  waiting = ap (λ (l : Learner). l.waiting.items) e;
+})
+
+-- only the trail changes, and of it only places and level
+pub Steps-trail : (old : Learner) (t : TrailState) → IsSound old → t.records ≡ old.trail.records → t.variables ≡ old.trail.variables → Steps old (record old { trail = t })
+Steps-trail old t s records variables = Steps-kept old (record old { trail = t }) s (record { records = records; trail_variables = variables; variables = refl; analyzer = refl; order = refl; given = refl; waiting = refl })
+
+-- only what is known of the assumptions changes
+pub Steps-passed : (old new : Learner) → IsSound old → new ≡ record old { passed = new.passed } → Steps old new
+Steps-passed old new s e = Steps-kept old new s (record {
+  records = ap (λ (l : Learner). l.trail.records) e;
+  trail_variables = ap (λ (l : Learner). l.trail.variables) e;
+  variables = ap (λ (l : Learner). l.variables) e;
+  analyzer = ap (λ (l : Learner). l.analyzer) e;
+  order = ap (λ (l : Learner). l.order) e;
+  given = ap (λ (l : Learner). l.given) e;
+  waiting = ap (λ (l : Learner). l.waiting.items) e;
+})
+
+pub Steps-known : (old new : Learner) (passed guided : ℕ) → IsSound old → new ≡ record old { passed = passed; guided = guided } → Steps old new
+Steps-known old new passed guided s e = Steps-kept old new s (record {
+  records = ap (λ (l : Learner). l.trail.records) e;
+  trail_variables = ap (λ (l : Learner). l.trail.variables) e;
+  variables = ap (λ (l : Learner). l.variables) e;
+  analyzer = ap (λ (l : Learner). l.analyzer) e;
+  order = ap (λ (l : Learner). l.order) e;
+  given = ap (λ (l : Learner). l.given) e;
+  waiting = ap (λ (l : Learner). l.waiting.items) e;
+})
+
+-- a literal is assumed
+pub Steps-assumed : (old new : Learner) (t : TrailState) (guided : ℕ) → IsSound old → new ≡ record old { trail = t; guided = guided } → t.records ≡ old.trail.records → t.variables ≡ old.trail.variables → Steps old new
+Steps-assumed old new t guided s e records variables = Steps-kept old new s (record {
+  records = ap (λ (l : Learner). l.trail.records) e ∙ records;
+  trail_variables = ap (λ (l : Learner). l.trail.variables) e ∙ variables;
+  variables = ap (λ (l : Learner). l.variables) e;
+  analyzer = ap (λ (l : Learner). l.analyzer) e;
+  order = ap (λ (l : Learner). l.order) e;
+  given = ap (λ (l : Learner). l.given) e;
+  waiting = ap (λ (l : Learner). l.waiting.items) e;
+})

@@ -1,0 +1,12 @@
+use Rattle.std.proofs.Common.{◌≡◌, ◌-◌, length}
+use Rattle.learn_solver.specs.Learners.{IsGuided}
+use Rattle.learn_solver.proofs.learner.Learner.next_open.Given as goal
+
+abbrev pub invariant-loop-self : goal.invariant-loop-self
+invariant-loop-self l = record {
+  same : l.self ≡ record l.fn.self { passed = l.self.passed };
+  guided : IsGuided l.self l.assumptions;
+}
+
+abbrev pub decreases-loop-self : goal.decreases-loop-self
+decreases-loop-self l = length l.assumptions - l.self.passed

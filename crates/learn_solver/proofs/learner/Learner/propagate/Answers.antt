@@ -1,0 +1,26 @@
+use Rattle.std.proofs.Common.{◌∙◌, refl, sym}
+use Rattle.learn_solver.proofs.SameStates.{SameState-records}
+use Rattle.learn_solver.proofs.RecordLemmas.{AreRecords-same, AreNoted-same}
+use Rattle.learn_solver.proofs.Guidance.{IsGuided-propagated}
+use Rattle.learn_solver.proofs.Goings.{GoesTo-same}
+use Rattle.learn_solver.proofs.learner.Learner.propagate.Goals as goal
+
+pub returns-clause-steps : goal.returns-clause-steps
+returns-clause-steps c =
+    let s = c.requires in
+    let kept = c.propagate.ensures.kept in
+    let l = c.args.self.now in
+    record {
+      sound = record {
+        variables = s.variables ∙ sym kept.variables;
+        analyzer = s.analyzer ∙ sym kept.variables;
+        order = s.order ∙ sym kept.variables;
+        records = AreRecords-same l.trail.records c.propagate.new.self.records l.given s.records kept.records;
+        noted = AreNoted-same l.trail.records c.propagate.new.self.records l.given l.order s.noted kept.records;
+      };
+      goes = GoesTo-same _ _ kept.variables refl (SameState-records l.trail.records c.propagate.new.self.records l.given kept.records);
+      variables = kept.variables;
+    }
+
+pub returns-clause-guides : goal.returns-clause-guides
+returns-clause-guides c = λ assumptions g. IsGuided-propagated c.args.self.now (record c.args.self.now { trail = c.propagate.new.self }) assumptions g c.propagate.ensures.kept refl refl

@@ -1,0 +1,142 @@
+-- The parts of a solver: what is so of them, and what its steps keep.
+use Rattle.std.specs.Prelude.{◌≡◌, ◌≢◌, ℕ, ◌+◌, ◌*◌, ◌<◌, ◌≤◌, ◌⊎◌, Bool, true, false, List, [], ◌∷◌, ◌++◌, length, min, Option, Some, None, Contains, IsPermutation, slice_index_or, if◌then◌else◌, nat_lt, IsTrue}
+use Rattle.lits_core.specs.Literals.{variable_of, negation_of, is_negative}
+use Rattle.lits_core.specs.Derivation.{DerivedFollow}
+use Rattle.clause_arena.specs.Records.{Record, record_at}
+use Rattle.watch_arena.specs.declared.places.Place.{Place}
+use Rattle.watch_arena.specs.Places.{place_at, is_true, is_assumed}
+use Rattle.watch_arena.specs.Trails.{TrailState, places_up_to}
+use Rattle.conflict_clause.specs.Taught.{is_decided}
+use Rattle.learn_solver.specs.declared.learner.Learner.{Learner}
+use Rattle.learn_solver.specs.declared.solver.Answer.{Answer}
+use Rattle.learn_solver.specs.Solving.{SolverState, GoesTo}
+use Rattle.learn_solver.specs.Answers.{IsAnswer}
+use Rattle.learn_solver.specs.States.{state_of, idle_of}
+use Rattle.learn_solver.specs.Weights.{weight}
+
+-- the public part
+abbrev pub seen : Learner → SolverState
+seen l = record {
+  variables = l.trail.variables;
+  state = state_of l.trail.records l.given;
+  waiting = l.waiting.items;
+  idle = idle_of l.trail.places l.trail.records l.given;
+}
+
+-- records, of which the first ones are given clauses: all are live, a given one's id is its number, no two have one id, and
+-- no id is more than there are records
+pub record AreRecords (records : List Record) (given : ℕ) : Type 0 where
+  pub enough : given ≤ length records
+  pub live : (at : ℕ) → at < length records → (record_at records at).live ≡ true
+  pub numbered : (at : ℕ) → at < given → (record_at records at).id ≡ at + 1
+  pub apart : (a b : ℕ) → a < b → b < length records → (record_at records a).id ≢ (record_at records b).id
+  pub from_one : (at : ℕ) → at < length records → 1 ≤ (record_at records at).id
+  pub most : (at : ℕ) → at < length records → (record_at records at).id ≤ length records
+  pub follow : DerivedFollow (state_of records given)
+
+-- each variable that a given clause has positively is noted
+abbrev pub AreNoted : List Record → ℕ → List Bool → Type 0
+AreNoted records given noted =
+    (at lit : ℕ) → at < given → Contains (record_at records at).lits lit → is_negative lit ≡ false → slice_index_or noted (variable_of lit) false ≡ true
+
+-- what is so of the parts at any time
+pub record IsSound (l : Learner) : Type 0 where
+  pub variables : l.variables ≡ l.trail.variables
+  pub analyzer : l.analyzer ≡ l.trail.variables
+  pub order : length l.order ≡ l.trail.variables
+  pub records : AreRecords l.trail.records l.given
+  pub noted : AreNoted l.trail.records l.given l.order
+
+-- what each step keeps
+pub record Steps (old new : Learner) : Type 0 where
+  pub sound : IsSound new
+  pub goes : GoesTo (seen old) (seen new)
+  pub variables : new.trail.variables ≡ old.trail.variables
+
+-- the trail after going back to a level
+abbrev pub went_back : TrailState → ℕ → TrailState
+went_back t level = record t { places = places_up_to t.places level; level = level }
+
+-- the trail goes back to a level, and what is known of the assumptions up to it stays known
+abbrev pub GoesBack : Learner → Learner → ℕ → Type 0
+GoesBack old new level =
+    new ≡ record old {
+      trail = went_back old.trail level;
+      passed = if nat_lt level old.guided then 0 else old.passed;
+      guided = min old.guided level;
+    }
+
+-- the places up to a level below stay, and one more is implied
+pub record Turns (old new : TrailState) : Type 0 where
+  pub back : ℕ
+  pub last : Place
+  pub below : back < old.level
+  pub implied : is_assumed last ≡ false
+  pub places : new.places ≡ places_up_to old.places back ++ last ∷ []
+  pub variables : new.variables ≡ old.variables
+
+-- the first levels begin with assumptions, and all assumptions are true by them if there are more
+pub record IsGuided (l : Learner) (assumptions : List ℕ) : Type 0 where
+  pub within : l.guided ≤ l.trail.level
+  pub few : l.passed ≤ length assumptions
+  pub passed : (i : ℕ) → i < l.passed → is_true l.trail.places (slice_index_or assumptions i 0) ≡ true
+  pub own : (p : ℕ) → p < length l.trail.places → is_assumed (place_at l.trail.places p) ≡ true → (place_at l.trail.places p).level ≤ l.guided → Contains assumptions (place_at l.trail.places p).lit
+  pub free : l.guided < l.trail.level → (lit : ℕ) → Contains assumptions lit → is_true (places_up_to l.trail.places l.guided) lit ≡ true
+
+-- what is known of the assumptions stays known
+abbrev pub Guides : Learner → Learner → Type 0
+Guides old new = (assumptions : List ℕ) → IsGuided old assumptions → IsGuided new assumptions
+
+-- each literal is the negation of an assumed one, or the one that is let stand
+abbrev pub AreClosed : List Place → Option ℕ → List ℕ → Type 0
+AreClosed places stands lits =
+    (lit : ℕ) → Contains lits lit → (stands ≡ Some lit) ⊎ IsTrue (is_decided places (negation_of lit))
+
+-- an id is that of a record with such literals
+pub record IsClosed (t : TrailState) (stands : Option ℕ) (id : ℕ) : Type 0 where
+  pub at : ℕ
+  pub within : at < length t.records
+  pub named : (record_at t.records at).id ≡ id
+  pub closed : AreClosed t.places stands (record_at t.records at).lits
+
+-- a live record has these literals, in some order
+pub record IsPut (t : TrailState) (lits : List ℕ) (at : ℕ) : Type 0 where
+  pub within : at < length t.records
+  pub live : (record_at t.records at).live ≡ true
+  pub lits_are : IsPermutation lits (record_at t.records at).lits
+
+-- the places stay
+pub record KeepsPlaces (old new : TrailState) : Type 0 where
+  pub places : new.places ≡ old.places
+  pub level : new.level ≡ old.level
+  pub variables : new.variables ≡ old.variables
+
+-- only the trail and the waiting lines change
+abbrev pub KeepsRest : Learner → Learner → Type 0
+KeepsRest old new = new ≡ record old { trail = new.trail; waiting = new.waiting }
+
+-- a step of the search for assumptions has an answer, or goes on with less to do
+abbrev pub Serves : Learner → Learner → List ℕ → Option Answer → Type 0
+Serves old new assumptions None =
+    IsGuided new assumptions × (weight new.trail.variables new.trail.places < weight old.trail.variables old.trail.places)
+Serves old new assumptions (Some answer) = IsAnswer (seen new) assumptions answer
+
+-- each literal is true
+abbrev pub AreTrue : TrailState → List ℕ → Type 0
+AreTrue t lits = (lit : ℕ) → Contains lits lit → is_true t.places lit ≡ true
+
+-- a literal is assumed on a new level
+abbrev pub assumed : TrailState → ℕ → TrailState
+assumed t l = record t { places = t.places ++ record { lit = l; level = t.level + 1; reason = None } ∷ []; level = t.level + 1 }
+
+-- bits have just the true positive literals
+pub record AreBits (t : TrailState) (bits : List Bool) : Type 0 where
+  pub counted : length bits ≡ t.variables
+  pub each : (variable : ℕ) → slice_index_or bits variable false ≡ is_true t.places (2 * variable)
+
+-- a literal is true by the levels that begin with assumptions, of which the next one may begin with it
+pub record Follows (old new : Learner) (lit : ℕ) : Type 0 where
+  pub within : new.guided ≤ new.trail.level
+  pub grown : old.guided ≤ new.guided
+  pub true_there : is_true (places_up_to new.trail.places new.guided) lit ≡ true
+  pub own : (p : ℕ) → p < length new.trail.places → is_assumed (place_at new.trail.places p) ≡ true → old.guided < (place_at new.trail.places p).level → (place_at new.trail.places p).level ≤ new.guided → lit ≡ (place_at new.trail.places p).lit

@@ -1,0 +1,6 @@
+pub mod Solving
+pub mod Answers
+pub mod States
+pub mod Weights
+pub mod Noted
+pub mod Learners

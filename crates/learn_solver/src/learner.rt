@@ -1,0 +1,154 @@
+//! The parts of a solver.
+ghost use Rattle.std.specs.Prelude.{◌≡◌, ◌+◌, ◌≤◌, ℕ, true, false, [], length, slice_index_or, IfOk, OnOk, OnErr, Contains};
+ghost use Rattle.lits_core.specs.Literals.{variable_of, is_negative};
+ghost use Rattle.lits_core.specs.Derivation.{first_state};
+ghost use Rattle.watch_arena.specs.Trails.{IsTrail, AreInRange};
+ghost use Rattle.conflict_clause.specs.Taught.{IsTaught};
+
+use crate::order::Order;
+use clause_arena::Ref;
+use conflict_clause::Analyzer;
+use lits_core::{Clause, Ids, Line, Lit};
+use std::alloc::{AllocError, Global};
+use watch_arena::Trail;
+
+// The parts of a solver. The first `given` records are the given clauses.
+#[derive(Drop)]
+pub(crate) struct Learner {
+    pub(crate) trail: Trail,
+    pub(crate) analyzer: Analyzer,
+    pub(crate) order: Order,
+    pub(crate) variables: u32,
+    pub(crate) given: usize,
+    pub(crate) waiting: Vec<Line>,
+    // How many of the first assumptions are true, and how many of the first levels begin with an assumption.
+    pub(crate) passed: usize,
+    pub(crate) guided: u32,
+    pub(crate) alloc: Global,
+}
+
+impl Learner {
+    ghost use Rattle.learn_solver.specs.Solving.{AddsGiven};
+    ghost use Rattle.learn_solver.specs.Learners.{seen, IsSound, Steps, GoesBack, Guides, IsPut, KeepsPlaces, KeepsRest};
+
+    pub(crate) fn new(alloc: Global, variables: u32) -> Result<Learner, AllocError>
+        ensures sound { IfOk result (λ l. IsSound l) }
+        ensures empty { IfOk result (λ l. seen l ≡ record { variables = variables; state = first_state []; waiting = []; idle = [] }) }
+    {
+        Ok(Learner {
+            trail: Trail::new(alloc, variables)?,
+            analyzer: Analyzer::new(alloc, variables)?,
+            order: Order::new(alloc, variables)?,
+            variables,
+            given: 0,
+            waiting: Vec::new(alloc),
+            passed: 0,
+            guided: 0,
+            alloc,
+        })
+    }
+
+    // What is so of the trail.
+    pub(crate) fn facts(&self)
+        ensures { IsTrail self.now.trail }
+    {
+        self.trail.facts();
+    }
+
+    // An id that no record has.
+    fn fresh(&self) -> Result<u64, AllocError>
+        ensures { IfOk result (λ id. id ≡ length self.now.trail.records + 1) }
+    {
+        let count = self.trail.arena().count() as u64;
+        match count.checked_add(1) {
+            Some(id) => Ok(id),
+            None => Err(AllocError),
+        }
+    }
+
+    // Adds a given clause and answers its id.
+    pub(crate) fn add(&mut self, lits: &[Lit]) -> Result<u64, AllocError>
+        requires sound { IsSound self.old }
+        requires range { AreInRange lits.now self.old.trail.variables }
+        requires first { (seen self.old).state.derived ≡ [] }
+        ensures sound { IsSound self.new }
+        ensures id { IfOk result (λ id. id ≡ length (seen self.old).state.given + 1) }
+        ensures ok { OnOk result (AddsGiven (seen self.old) (seen self.new) lits.now) }
+        ensures err { OnErr result (seen self.new ≡ seen self.old) }
+    {
+        self.go_back(0);
+        let id = self.fresh()?;
+        self.trail.add(lits, id)?;
+        self.given = self.trail.arena().count();
+        self.note_variables(lits);
+        Ok(id)
+    }
+
+    // Notes the variables that a clause has positively.
+    fn note_variables(&mut self, lits: &[Lit])
+        requires range { AreInRange lits.now (length self.old.order) }
+        ensures same { self.new ≡ record self.old { order = self.new.order } }
+        ensures count { length self.new.order ≡ length self.old.order }
+        ensures kept { (v : ℕ) → slice_index_or self.old.order v false ≡ true → slice_index_or self.new.order v false ≡ true }
+        ensures noted { (lit : ℕ) → Contains lits.now lit → is_negative lit ≡ false → slice_index_or self.new.order (variable_of lit) false ≡ true }
+    {
+        for lit in lits {
+            if !lit.is_negative() {
+                self.order.note(lit.variable());
+            }
+        }
+    }
+
+    // The trail goes back to a level.
+    pub(crate) fn go_back(&mut self, level: u32)
+        requires sound { IsSound self.old }
+        requires level { level ≤ self.old.trail.level }
+        ensures steps { Steps self.old self.new }
+        ensures guides { Guides self.old self.new }
+        ensures back { GoesBack self.old self.new level }
+    {
+        self.facts();
+        self.drop_above(level);
+    }
+
+    // The places above a level go, and what is known of the assumptions by them.
+    fn drop_above(&mut self, level: u32)
+        requires { level ≤ self.old.trail.level }
+        ensures { GoesBack self.old self.new level }
+    {
+        self.free_above(level);
+        self.trail.undo_to(level);
+        if level < self.guided {
+            self.guided = level;
+            self.passed = 0;
+        }
+    }
+
+    // The variables above a level may be decided again.
+    fn free_above(&mut self, level: u32)
+        ensures { self.new ≡ self.old }
+    {
+        for place in (0..self.trail.place_count()).rev() {
+            if self.trail.level_on(place) <= level {
+                return;
+            }
+            self.order.free(self.trail.lit_on(place));
+        }
+    }
+
+    // One derived clause more, with its line. All memory is taken before anything changes.
+    pub(crate) fn note(&mut self, lits: Clause, hints: Ids) -> Result<Ref, AllocError>
+        requires sound { IsSound self.old }
+        requires taught { IsTaught self.old.trail lits hints }
+        ensures steps { Steps self.old self.new }
+        ensures kept { KeepsPlaces self.old.trail self.new.trail }
+        ensures same { KeepsRest self.old self.new }
+        ensures put { IfOk result (λ at. IsPut self.new.trail lits at) }
+    {
+        let id = self.fresh()?;
+        self.waiting.reserve(1)?;
+        let at = self.trail.add(lits.lits(), id)?;
+        self.waiting.push_reserved(Line::Derive { id, lits, hints });
+        Ok(at)
+    }
+}

@@ -1,0 +1,14 @@
+//! A solver of clauses that learns from conflicts.
+#![tactic(auto)]
+
+mod heap;
+mod learner;
+mod order;
+mod reading;
+mod search;
+mod solver;
+
+pub use solver::{Answer, Solver};
+
+#[cfg(test)]
+mod tests;

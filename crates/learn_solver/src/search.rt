@@ -1,0 +1,294 @@
+//! The search for bits.
+ghost use Rattle.std.specs.Prelude.{◌≡◌, ◌≢◌, ◌+◌, ◌<◌, ◌≤◌, ℕ, true, false, Some, None, List, IfOk, OnOk, IsTrue, MatchOption, Contains};
+ghost use Rattle.lits_core.specs.Literals.{variable_of, negation_of};
+ghost use Rattle.clause_arena.specs.Records.{record_at};
+ghost use Rattle.watch_arena.specs.Places.{place_of, is_true, is_false, reason_of};
+ghost use Rattle.watch_arena.specs.Trails.{Propagates, IsConflict, IsPropagated, AreInRange};
+ghost use Rattle.conflict_clause.specs.Taught.{level_in};
+
+use crate::learner::Learner;
+use crate::solver::Answer;
+use clause_arena::Ref;
+use lits_core::{Bits, Lit};
+use std::alloc::AllocError;
+
+impl Learner {
+    ghost use Rattle.learn_solver.specs.Solving.{AreConsistent};
+    ghost use Rattle.learn_solver.specs.Answers.{IsAnswer};
+    ghost use Rattle.learn_solver.specs.Learners.{seen, IsSound, Steps, Turns, IsGuided, Guides, IsClosed, KeepsPlaces, KeepsRest, Serves, AreTrue, assumed, AreBits, Follows};
+
+    // Learns from a conflict at a level, and goes back to where the learnt clause implies its first literal.
+    fn learn(&mut self, at: Ref) -> Result<(), AllocError>
+        requires sound { IsSound self.old }
+        requires conflict { IsConflict self.old.trail at }
+        requires at_the_level { (lit : ℕ) × Contains (record_at self.old.trail.records at).lits lit × (level_in self.old.trail.places lit ≡ self.old.trail.level) }
+        requires level { 0 < self.old.trail.level }
+        ensures steps { Steps self.old self.new }
+        ensures turned { OnOk result (Turns self.old.trail self.new.trail) }
+        ensures guides { OnOk result (Guides self.old self.new) }
+    {
+        self.facts();
+        let learnt = self.analyzer.learn(&self.trail, at)?;
+        self.order.met(self.analyzer.met());
+        let first = learnt.lits.lits()[0];
+        let back = learnt.back;
+        let at = self.note(learnt.lits, learnt.hints)?;
+        self.go_back(back);
+        self.trail.imply(first, at);
+        Ok(())
+    }
+
+    // The id of a clause that assumed literals make false, which a conflict shows.
+    fn close(&mut self, at: Ref) -> Result<u64, AllocError>
+        requires sound { IsSound self.old }
+        requires conflict { IsConflict self.old.trail at }
+        ensures steps { Steps self.old self.new }
+        ensures kept { KeepsPlaces self.old.trail self.new.trail }
+        ensures same { KeepsRest self.old self.new }
+        ensures closed { IfOk result (λ id. IsClosed self.new.trail None id) }
+    {
+        if self.is_closed(at, &None) {
+            return Ok(self.trail.arena().id_of(at));
+        }
+        let closing = self.analyzer.close(&self.trail, at)?;
+        self.order.met(self.analyzer.met());
+        let noted = self.note(closing.lits, closing.hints)?;
+        Ok(self.trail.arena().id_of(noted))
+    }
+
+    // The id of a clause that assumed literals and this one, which is false, make false.
+    fn close_false(&mut self, lit: Lit) -> Result<u64, AllocError>
+        requires sound { IsSound self.old }
+        requires false_there { IsTrue (is_false self.old.trail.places lit) }
+        requires implied { reason_of self.old.trail.places (variable_of lit) ≢ None }
+        ensures steps { Steps self.old self.new }
+        ensures kept { KeepsPlaces self.old.trail self.new.trail }
+        ensures same { KeepsRest self.old self.new }
+        ensures closed { IfOk result (λ id. IsClosed self.new.trail (Some (negation_of lit)) id) }
+    {
+        self.facts();
+        let stands = lit.negate();
+        if let Some(at) = self.trail.reason(lit.variable()) {
+            if self.is_closed(at, &Some(stands)) {
+                return Ok(self.trail.arena().id_of(at));
+            }
+        }
+        let closing = self.analyzer.close_false(&self.trail, lit)?;
+        self.order.met(self.analyzer.met());
+        let noted = self.note(closing.lits, closing.hints)?;
+        Ok(self.trail.arena().id_of(noted))
+    }
+
+    // Looks into a conflict: learns from it, or answers where it rests on assumptions alone.
+    fn turn(&mut self, at: Ref) -> Result<Option<Answer>, AllocError>
+        requires sound { IsSound self.old }
+        requires conflict { IsConflict self.old.trail at }
+        ensures steps { Steps self.old self.new }
+        ensures served { IfOk result (λ o. (assumptions : List ℕ) → IsGuided self.old assumptions → Serves self.old self.new assumptions o) }
+    {
+        self.facts();
+        let level = self.top_level(at);
+        self.go_back(level);
+        self.facts();
+        if self.guided < level {
+            self.learn(at)?;
+            return Ok(None);
+        }
+        let id = self.close(at)?;
+        self.facts();
+        Ok(Some(Answer::Refuted(id)))
+    }
+
+    // Unit propagation.
+    fn propagate(&mut self) -> Result<Option<Ref>, AllocError>
+        requires { IsSound self.old }
+        ensures steps { Steps self.old self.new }
+        ensures kept { Propagates self.old.trail self.new.trail }
+        ensures guides { Guides self.old self.new }
+        ensures found { IfOk result (λ o. MatchOption o (IsPropagated self.new.trail) (λ at. IsConflict self.new.trail at)) }
+    {
+        self.trail.propagate()
+    }
+
+    // Passes the assumptions that are true, up to the first that is not, which it answers.
+    fn next_open(&mut self, assumptions: &[Lit]) -> Option<Lit>
+        requires sound { IsSound self.old }
+        requires range { AreInRange assumptions.now self.old.trail.variables }
+        requires guided { IsGuided self.old assumptions.now }
+        ensures steps { Steps self.old self.new }
+        ensures same { self.new ≡ record self.old { passed = self.new.passed } }
+        ensures guided { IsGuided self.new assumptions.now }
+        ensures open { MatchOption result (AreTrue self.new.trail assumptions.now) (λ lit. Contains assumptions.now lit × (is_true self.new.trail.places lit ≡ false)) }
+    {
+        while self.passed < assumptions.len() {
+            let lit = assumptions[self.passed];
+            if !self.is_true(lit) {
+                return Some(lit);
+            }
+            self.passed += 1;
+        }
+        None
+    }
+
+    // Makes an assumption true on a level of its own.
+    fn assume(&mut self, lit: Lit)
+        requires range { variable_of lit < self.old.trail.variables }
+        requires unassigned { place_of self.old.trail.places (variable_of lit) ≡ None }
+        ensures { self.new ≡ record self.old { trail = assumed self.old.trail lit; guided = self.old.trail.level + 1 } }
+    {
+        self.trail.assume(lit);
+        self.guided = self.trail.level();
+    }
+
+    // The bits that the true literals are; all other variables are false.
+    fn bits(&self) -> Result<Bits, AllocError>
+        requires { self.now.variables ≡ self.now.trail.variables }
+        ensures { IfOk result (λ bits. AreBits self.now.trail bits) }
+    {
+        self.facts();
+        let mut bits = Bits::new(self.alloc, self.variables as usize)?;
+        for place in 0..self.trail.place_count() {
+            let lit = self.trail.lit_on(place);
+            if !lit.is_negative() {
+                bits.set(lit.variable() as usize, true);
+            }
+        }
+        Ok(bits)
+    }
+
+    // Decides a variable where all assumptions are true, or answers bits where no variable is left that has to be decided.
+    fn decide(&mut self) -> Result<Option<Answer>, AllocError>
+        requires sound { IsSound self.old }
+        requires propagated { IsPropagated self.old.trail }
+        ensures steps { Steps self.old self.new }
+        ensures served { IfOk result (λ o. (assumptions : List ℕ) → IsGuided self.old assumptions → AreTrue self.old.trail assumptions → Serves self.old self.new assumptions o) }
+    {
+        self.facts();
+        match self.order.pick(&self.trail) {
+            Some(lit) => {
+                self.trail.assume(lit);
+                self.facts();
+                Ok(None)
+            }
+            None => {
+                let bits = self.bits()?;
+                Ok(Some(Answer::Bits(bits)))
+            }
+        }
+    }
+
+    // Makes an assumption true, or answers where it is false.
+    fn take(&mut self, lit: Lit) -> Result<Option<Answer>, AllocError>
+        requires sound { IsSound self.old }
+        requires range { variable_of lit < self.old.trail.variables }
+        requires open { is_true self.old.trail.places lit ≡ false }
+        requires implied { is_false self.old.trail.places lit ≡ true → reason_of self.old.trail.places (variable_of lit) ≢ None }
+        ensures steps { Steps self.old self.new }
+        ensures served { IfOk result (λ o. (assumptions : List ℕ) → IsGuided self.old assumptions → Contains assumptions lit → Serves self.old self.new assumptions o) }
+    {
+        self.facts();
+        if self.trail.value(lit.variable()).is_some() {
+            let id = self.close_false(lit)?;
+            self.facts();
+            return Ok(Some(Answer::Refuted(id)));
+        }
+        self.assume(lit);
+        self.facts();
+        Ok(None)
+    }
+
+    // One step where no clause is false or unit: an assumption or a decision, or an answer.
+    fn extend(&mut self, assumptions: &[Lit]) -> Result<Option<Answer>, AllocError>
+        requires sound { IsSound self.old }
+        requires range { AreInRange assumptions.now self.old.trail.variables }
+        requires consistent { AreConsistent assumptions.now }
+        requires guided { IsGuided self.old assumptions.now }
+        requires propagated { IsPropagated self.old.trail }
+        ensures steps { Steps self.old self.new }
+        ensures served { IfOk result (Serves self.old self.new assumptions.now) }
+    {
+        self.facts();
+        match self.next_open(assumptions) {
+            Some(lit) => self.take(lit),
+            None => self.decide(),
+        }
+    }
+
+    // One step of the search, which goes on after None.
+    fn step(&mut self, assumptions: &[Lit]) -> Result<Option<Answer>, AllocError>
+        requires sound { IsSound self.old }
+        requires range { AreInRange assumptions.now self.old.trail.variables }
+        requires consistent { AreConsistent assumptions.now }
+        requires guided { IsGuided self.old assumptions.now }
+        ensures steps { Steps self.old self.new }
+        ensures served { IfOk result (Serves self.old self.new assumptions.now) }
+    {
+        match self.propagate()? {
+            Some(at) => self.turn(at),
+            None => self.extend(assumptions),
+        }
+    }
+
+    // Whether an assumption is true by the levels that are known to be assumptions', or begins the next one.
+    fn follows(&mut self, lit: Lit) -> bool
+        requires range { variable_of lit < self.old.trail.variables }
+        requires within { self.old.guided ≤ self.old.trail.level }
+        ensures same { self.new ≡ record self.old { guided = self.new.guided } }
+        ensures followed { IsTrue result → Follows self.old self.new lit }
+        ensures stopped { result ≡ false → self.new.guided ≡ self.old.guided }
+    {
+        self.facts();
+        let Some(place) = self.place_of(lit) else {
+            return false;
+        };
+        if self.trail.lit_on(place) != lit {
+            return false;
+        }
+        let level = self.trail.level_on(place);
+        if level <= self.guided {
+            return true;
+        }
+        let next = level - self.guided == 1;
+        if next && self.trail.reason_on(place).is_none() {
+            self.guided = level;
+            return true;
+        }
+        false
+    }
+
+    // Goes back to the first assumption that the trail does not follow.
+    fn keep(&mut self, assumptions: &[Lit])
+        requires sound { IsSound self.old }
+        requires range { AreInRange assumptions.now self.old.trail.variables }
+        ensures steps { Steps self.old self.new }
+        ensures guided { IsGuided self.new assumptions.now }
+    {
+        self.facts();
+        self.passed = 0;
+        self.guided = 0;
+        for lit in assumptions {
+            if !self.follows(*lit) {
+                let level = self.guided;
+                self.go_back(level);
+                return;
+            }
+            self.passed += 1;
+        }
+    }
+
+    // Searches for bits until there are some, or a clause shows that there are none.
+    pub(crate) fn solve(&mut self, assumptions: &[Lit]) -> Result<Answer, AllocError>
+        requires sound { IsSound self.old }
+        requires range { AreInRange assumptions.now self.old.trail.variables }
+        requires consistent { AreConsistent assumptions.now }
+        ensures steps { Steps self.old self.new }
+        ensures answer { IfOk result (IsAnswer (seen self.new) assumptions.now) }
+    {
+        self.keep(assumptions);
+        loop {
+            if let Some(answer) = self.step(assumptions)? {
+                return Ok(answer);
+            }
+        }
+    }
+}

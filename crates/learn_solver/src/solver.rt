@@ -1,0 +1,103 @@
+//! The solver, as its users see it.
+ghost use Rattle.std.specs.Prelude.{◌≡◌, ◌+◌, [], length, IfOk, OnOk, OnErr, MatchResult, ⊤};
+ghost use Rattle.lits_core.specs.Derivation.{State, first_state};
+ghost use Rattle.watch_arena.specs.Trails.{AreInRange};
+ghost use Rattle.learn_solver.specs.Solving.{SolverState, GoesTo, IsSolver, AddsGiven, AreConsistent, IsModel, IsRefutation};
+ghost use Rattle.learn_solver.specs.Answers.{IsAnswer};
+
+use crate::learner::Learner;
+use lits_core::{Bits, Line, Lit};
+use std::alloc::{AllocError, Global};
+use std::marker::Model;
+
+/// What the solver says of clauses and assumptions.
+#[derive(Debug, Drop)]
+pub enum Answer {
+    /// These bits meet them all.
+    Bits(Bits),
+    /// No bits do: the live clause of this id has only negations of assumptions.
+    Refuted(u64),
+}
+
+/// Clauses, and lines that wait to be taken.
+///
+/// Conflict-driven clause learning in the way of MiniSat (Eén and Sörensson, *An Extensible SAT-solver*, 2003), without
+/// restarts. Each learnt clause has a line that shows it by reverse unit propagation (Goldberg and Novikov, 2003).
+#[derive(Drop)]
+pub struct Solver {
+    learner: Learner,
+}
+
+impl Model for Solver {
+    ghost use Rattle.learn_solver.specs.Solving.{SolverState};
+
+    ghost Value = { SolverState };
+
+    ghost use Rattle.learn_solver.specs.Learners.{seen, IsSound};
+
+    ghost view = { λ s. seen s.learner };
+
+    ghost invariant = { λ s. IsSound s.learner };
+}
+
+impl Solver {
+    /// No clauses yet. Variables are the numbers below `variables`.
+    pub fn new(alloc: Global, variables: u32) -> Result<Solver, AllocError>
+        ensures { IfOk result (λ s. s ≡ record { variables = variables; state = first_state []; waiting = []; idle = [] }) }
+    {
+        let learner = Learner::new(alloc, variables)?;
+        Ok(Solver { learner })
+    }
+
+    /// Adds a given clause and answers its id: 1, 2 and so on.
+    pub fn add(&mut self, lits: &[Lit]) -> Result<u64, AllocError>
+        requires range { AreInRange lits.now self.old.variables }
+        requires first { self.old.state.derived ≡ [] }
+        requires quiet { self.old.waiting ≡ [] }
+        ensures id { IfOk result (λ id. id ≡ length self.old.state.given + 1) }
+        ensures ok { OnOk result (AddsGiven self.old self.new lits.now) }
+        ensures err { OnErr result (self.new ≡ self.old) }
+    {
+        self.learner.add(lits)
+    }
+
+    /// Bits that meet the given clauses and the assumptions, or the clause that shows that there are none.
+    ///
+    /// Assumptions may repeat. The trail is kept between calls as far as the assumptions agree, so give those that stay first.
+    pub fn solve(&mut self, assumptions: &[Lit]) -> Result<Answer, AllocError>
+        requires range { AreInRange assumptions.now self.old.variables }
+        requires consistent { AreConsistent assumptions.now }
+        ensures kept { GoesTo self.old self.new }
+        ensures answer { IfOk result (IsAnswer self.new assumptions.now) }
+    {
+        self.learner.solve(assumptions)
+    }
+
+    /// The lines that wait.
+    pub fn lines(&self) -> &[Line]
+        ensures { result.now ≡ self.now.waiting }
+    {
+        self.learner.waiting.as_slice()
+    }
+
+    /// Drops the lines that wait.
+    pub fn clear_lines(&mut self)
+        ensures { self.new ≡ record self.old { waiting = [] } }
+    {
+        self.learner.waiting.clear();
+    }
+
+    /// How many clauses are idle.
+    pub fn idle(&self) -> u64
+        ensures { result ≡ length self.now.idle }
+    {
+        self.learner.idle()
+    }
+
+    /// What is so of a solver at any time, for a proof.
+    pub fn facts(&self)
+        ensures { IsSolver self.now }
+    {
+        let _ = &self.learner;
+    }
+}
