@@ -1,0 +1,3 @@
+pub mod Querying
+pub mod Ranges
+pub mod Serving

@@ -1,0 +1,29 @@
+-- What a query is asked with.
+use Rattle.std.specs.Prelude.{◌≡◌, ℕ, Bool, List, All, Contains, IsTrue}
+use Rattle.rcc5_core.specs.declared.Rel.{Rel}
+use Rattle.lits_core.specs.Derivation.{SameGiven}
+use Rattle.world_model.specs.Problem.{Problem}
+use Rattle.world_model.specs.Alive.{is_point}
+use Rattle.constraint_set.specs.Shape.{shape_of}
+use Rattle.cert_model.specs.Clauses.{given_clauses, variable_count}
+use Rattle.cert_model.specs.Forced.{selectors_of}
+use Rattle.learn_solver.specs.Solving.{SolverState}
+use Rattle.point_query.specs.Asking.{AskerState}
+
+-- a solver has the variables and the given clauses of a problem
+pub record IsSolverOf (p : Problem) (s : SolverState) : Type 0 where
+  pub variables : s.variables ≡ variable_count p
+  pub given : SameGiven (given_clauses p) s.state.given
+
+-- literals are those of a prefix's selectors, in any order
+pub record AreSelectors (p : Problem) (m : List Rel) (lits : List ℕ) : Type 0 where
+  pub there : (lit : ℕ) → Contains (selectors_of p m) lit → Contains lits lit
+  pub no_others : (lit : ℕ) → Contains lits lit → Contains (selectors_of p m) lit
+
+-- an asker with this solver
+abbrev pub asker_with : Problem → SolverState → AskerState
+asker_with p s = record { shape = shape_of p; solver = s }
+
+-- lists of bits are points of a problem
+abbrev pub ArePoints : Problem → List (List Bool) → Type 0
+ArePoints p points = All (λ bits. IsTrue (is_point p bits)) points

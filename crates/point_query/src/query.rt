@@ -1,0 +1,91 @@
+//! Asking the solver for one point.
+ghost use Rattle.std.specs.Prelude.{◌≡◌, ℕ, ◌≤◌, ◌++◌, length, take, Contains, IfOk, OnOk, None};
+ghost use Rattle.world_model.specs.Alive.{needs, problem_at};
+ghost use Rattle.cert_model.specs.Forced.{need_lits};
+ghost use Rattle.point_encode.specs.Needs.{need_seen, lits_there, IsInRange};
+ghost use Rattle.learn_solver.specs.Solving.{GoesTo};
+ghost use Rattle.point_query.specs.Answers.{IsFound};
+ghost use Rattle.point_query.specs.Queries.{IsSolverOf, AreSelectors, asker_with};
+
+use crate::answers::Found;
+use cert_model::{clauses_are_points, needs_are_literals};
+use constraint_set::Problem;
+use learn_solver::{Answer, Solver};
+use lits_core::{Bits, Lit, law_derived_clauses_follow, law_literals_are_sets};
+use point_encode::{Need, need_lits};
+use rcc5_core::Position;
+use std::alloc::{AllocError, Global};
+
+// A point of the prefix in the need, or the clause that shows that there is none. The literals are the prefix's selectors.
+pub(crate) fn query(
+    alloc: Global,
+    solver: &mut Solver,
+    problem: &Problem,
+    prefix: &Position,
+    selectors: &[Lit],
+    need: Need,
+) -> Result<Found, AllocError>
+    requires solver { IsSolverOf problem.now solver.old }
+    requires selectors { AreSelectors problem.now prefix.now selectors.now }
+    requires range { IsInRange problem.now need }
+    requires forced { Contains (needs (problem_at problem.now prefix.now)) (need_seen problem.now need) }
+    ensures kept { GoesTo solver.old solver.new }
+    ensures solver { IsSolverOf problem.now solver.new }
+    ensures found { IfOk result (IsFound (asker_with problem.now solver.new) problem.now prefix.now (need_seen problem.now need)) }
+{
+    let _built = problem.taxonomy_count();
+    clauses_are_points();
+    needs_are_literals();
+    law_derived_clauses_follow();
+    law_literals_are_sets();
+    let assumed = with_need(alloc, problem, selectors, need)?;
+    match solver.solve(&assumed)? {
+        Answer::Bits(bits) => {
+            let point = front(alloc, &bits, problem.concept_count() as usize)?;
+            Ok(Found::Point(point))
+        }
+        Answer::Refuted(id) => Ok(Found::Closed(id)),
+    }
+}
+
+// Literals, and then those of a need.
+fn with_need(
+    alloc: Global,
+    problem: &Problem,
+    lits: &[Lit],
+    need: Need,
+) -> Result<Vec<Lit>, AllocError>
+    requires { IsInRange problem.now need }
+    ensures { IfOk result (λ all. all.items ≡ lits.now ++ need_lits (need_seen problem.now need)) }
+{
+    let mut all = Vec::from_slice(alloc, lits)?;
+    let [first, second] = need_lits(problem, need);
+    push_there(&mut all, first)?;
+    push_there(&mut all, second)?;
+    Ok(all)
+}
+
+// Adds a literal, if there is one.
+fn push_there(all: &mut Vec<Lit>, lit: Option<Lit>) -> Result<(), AllocError>
+    ensures { OnOk result (all.new.items ≡ all.old.items ++ lits_there lit None) }
+{
+    match lit {
+        Some(lit) => {
+            all.push(lit)?;
+            Ok(())
+        }
+        None => Ok(()),
+    }
+}
+
+// The first bits.
+pub(crate) fn front(alloc: Global, bits: &Bits, count: usize) -> Result<Bits, AllocError>
+    requires { count ≤ length bits.now }
+    ensures { IfOk result (λ front. front ≡ take count bits.now) }
+{
+    let mut front = Bits::new(alloc, count)?;
+    for place in 0..count {
+        front.set(place, bits.get(place));
+    }
+    Ok(front)
+}
