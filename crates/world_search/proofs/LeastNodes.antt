@@ -1,0 +1,244 @@
+-- Nodes: their prefixes, what follows them, and the least node of a kind.
+use Rattle.std.proofs.Common.{◌≡◌, ℕ, zero, suc, ◌+◌, ◌<◌, ◌≤◌, Bool, true, false, not, ◌⊎◌, inl, inr, List, [], ◌∷◌, ◌++◌, length, get_or, refl, sym, ap, ◌∙◌, subst, arith, IsTrue, append_assoc, append-nil, length-append}
+use Rattle.std.specs.Prelude.{Option, Some, None}
+use Rattle.std.proofs.Math.Seq.{get_or-append_seam}
+use Rattle.std.proofs.lemmas.Bool.{true≢false, not-true, not_from_false, cases_order}
+use Rattle.rcc5_core.specs.declared.Rel.{Rel}
+use Rattle.rcc5_core.specs.declared.Rel.TheVariants.{Equals}
+use Rattle.rcc5_core.specs.Relation.{rank_of}
+use Rattle.rcc5_core.specs.RelationSet.{has, is_empty_set, first_of, next_of}
+use Rattle.world_model.specs.Problem.{Problem, pairs, pair_count}
+use Rattle.world_model.specs.Listing.{is_below}
+use Rattle.world_model.specs.Alive.{allowed, problem_at, IsAlive}
+use Rattle.world_model.specs.Node.{IsNode, IsStep, pair_at}
+use Rattle.world_model.proofs.Members.{all_at, In-get_or}
+use Rattle.world_model.proofs.OrderPositions.{below_chain, below_apart, below_itself, below_longer, below_branch, below_upto, upto_below}
+use Rattle.world_model.proofs.PointPositions.{prefix_is_alive}
+use Rattle.world_model.proofs.PointOnce.{narrowed_inside, narrowed_beyond}
+use Rattle.world_search.specs.Walking.{IsBehind, IsLeastNode, IsAfter}
+use Rattle.world_search.proofs.Places.{Side, within, ahead, behind, side, Upward, upward, below_both, not_below_behind, not_below_prefix}
+use Rattle.world_search.proofs.Relations.{same_rank, first_is_in, first_is_least, some_has_first, next_is_in, next_is_least, none_is_next, narrowed_has}
+
+-- what a relation within a node shows: its prefix is alive and not full, and the next pair allows the relation
+pub record IsChild (p : Problem) (c : List Rel) (t : Rel) : Type 0 where
+  pub alive : IsAlive (problem_at p c)
+  pub short : length c < pair_count p
+  pub allows : has (allowed p (pair_at p (length c))) t ≡ true
+
+-- where a relation after a prefix stands in a longer position: it is the last, or the rest follows it
+split_last : (c : List Rel) (t : Rel) (rest prefix : List Rel) (rel : Rel) → c ++ t ∷ rest ≡ prefix ++ rel ∷ [] →
+    ((prefix ≡ c) × (rel ≡ t)) ⊎ ((more : List Rel) × (prefix ≡ c ++ t ∷ more))
+split_last [] t rest [] rel e = inl (refl, cc)
+split_last [] t rest (q ∷ qs) rel e = let same : q ≡ t = cc in inr (qs, λ i. same i ∷ qs)
+split_last (x ∷ c) t rest [] rel e = let none : c ++ t ∷ rest ≡ [] = cc in absurd (longer c none)
+  where
+    longer : (c : List Rel) → c ++ t ∷ rest ≡ [] → ⊥
+    longer [] e = cc
+    longer (x ∷ c) e = cc
+split_last (x ∷ c) t rest (q ∷ qs) rel e =
+    let tail : c ++ t ∷ rest ≡ qs ++ rel ∷ [] = cc in
+    let head : q ≡ x = cc in
+    elim (split_last c t rest qs rel tail) [
+      | inl ends ↦ let same = ends.0 in inl (λ i. head i ∷ same i, ends.1)
+      | inr on ↦ let same = on.1 in inr (on.0, λ i. head i ∷ same i)
+    ]
+
+-- each relation of an alive position is allowed
+allowed_along : (p : Problem) (m : List Rel) (k : ℕ) → k < length m → k < pair_count p → IsAlive (problem_at p m) →
+    has (allowed p (pair_at p k)) (get_or m k Equals) ≡ true
+allowed_along p m k in_m in_p a =
+    let some : not (is_empty_set (allowed (problem_at p m) (pair_at p k))) ≡ true =
+    all_at (λ pair. not (is_empty_set (allowed (problem_at p m) pair))) a.allow (In-get_or (pairs p) k (0, 0) in_p) in
+    narrowed_has (allowed p (pair_at p k)) (get_or m k Equals) (ap is_empty_set (sym (narrowed_inside p m k in_m in_p)) ∙ not-true (is_empty_set (allowed (problem_at p m) (pair_at p k))) some)
+
+-- a node has no more relations than there are pairs
+pub node_within : (p : Problem) (m : List Rel) → IsNode p m → length m ≤ pair_count p
+node_within p m (inl empty) = let none : length m ≡ 0 = ap length empty in omega arith
+node_within p m (inr step) =
+    let same = ap length step.follows in
+    let more = length-append step.prefix (step.rel ∷ []) in
+    let room = step.not_full in
+    omega arith
+
+-- each relation of a node is a child of its prefix
+pub child_within : (p : Problem) (c : List Rel) (t : Rel) (rest : List Rel) → IsNode p (c ++ t ∷ rest) → IsChild p c t
+child_within p c t rest (inl empty) =
+    let none = ap length empty in
+    let more = length-append c (t ∷ rest) in
+    absurd (omega arith)
+child_within p c t rest (inr step) = elim (split_last c t rest step.prefix step.rel step.follows) [
+  | inl ends ↦ record {
+    alive = subst (λ m. IsAlive (problem_at p m)) ends.0 step.alive;
+    short = subst (λ m. length m < pair_count p) ends.0 step.not_full;
+    allows = subst (λ r. has (allowed p (pair_at p (length c))) r ≡ true) ends.1 (subst (λ m. has (allowed p (pair_at p (length m))) step.rel ≡ true) ends.0 step.allows);
+  }
+  | inr on ↦
+      let alive : IsAlive (problem_at p (c ++ t ∷ on.0)) = subst (λ m. IsAlive (problem_at p m)) on.1 step.alive in
+      let long = ap length on.1 in
+      let more = length-append c (t ∷ on.0) in
+      let room = step.not_full in
+      let short : length c < pair_count p = omega arith in
+      let there_is : get_or (c ++ t ∷ on.0) (length c) Equals ≡ t = get_or-append_seam c t on.0 Equals in
+      record {
+        alive = prefix_is_alive p c (t ∷ on.0) alive;
+        short = short;
+        allows = ap (has (allowed p (pair_at p (length c)))) (sym there_is) ∙ allowed_along p (c ++ t ∷ on.0) (length c) (omega arith) short alive;
+      }
+]
+
+-- a child is a node
+pub child_is_node : (p : Problem) (c : List Rel) (t : Rel) → IsChild p c t → IsNode p (c ++ t ∷ [])
+child_is_node p c t child = inr (record { prefix = c; rel = t; follows = refl; not_full = child.short; alive = child.alive; allows = child.allows })
+
+-- a prefix of a node is a node
+pub prefix_is_node : (p : Problem) (c rest : List Rel) → IsNode p (c ++ rest) → IsNode p c
+prefix_is_node p c [] node = subst (IsNode p) (append-nil c) node
+prefix_is_node p c (t ∷ rest) node = elim (last_of c) [
+  | inl none ↦ inl none
+  | inr some ↦
+      let whole : IsNode p (some.0 ++ some.1 ∷ t ∷ rest) = subst (λ m. IsNode p m) (ap (λ m. m ++ t ∷ rest) some.2 ∙ append_assoc some.0 (some.1 ∷ []) (t ∷ rest)) node in
+      subst (IsNode p) (sym some.2) (child_is_node p some.0 some.1 (child_within p some.0 some.1 (t ∷ rest) whole))
+]
+  where
+    last_of : (m : List Rel) → (m ≡ []) ⊎ ((front : List Rel) × (last : Rel) × (m ≡ front ++ last ∷ []))
+    last_of [] = inl refl
+    last_of (r ∷ m) = elim (last_of m) [
+      | inl none ↦ inr ([], r, λ i. r ∷ none i)
+      | inr some ↦ let same = some.2 in inr (r ∷ some.0, some.1, λ i. r ∷ same i)
+    ]
+
+-- an alive prefix that is not full has a first child
+pub first_child : (p : Problem) (c : List Rel) → IsAlive (problem_at p c) → length c < pair_count p →
+    first_of (allowed p (pair_at p (length c))) ≡ None → ⊥
+first_child p c a short none =
+    let some : not (is_empty_set (allowed (problem_at p c) (pair_at p (length c)))) ≡ true =
+    all_at (λ pair. not (is_empty_set (allowed (problem_at p c) pair))) a.allow (In-get_or (pairs p) (length c) (0, 0) short) in
+    some_has_first (allowed p (pair_at p (length c)))
+    (ap is_empty_set (sym (narrowed_beyond p c (length c) (omega arith) short)) ∙ not-true (is_empty_set (allowed (problem_at p c) (pair_at p (length c)))) some) none
+
+-- the children of a prefix in order
+pub below_child : (c rest : List Rel) (s t : Rel) → rank_of s ≤ rank_of t → is_below (c ++ t ∷ rest) (c ++ s ∷ []) ≡ false
+below_child c rest s t upto = elim (cases_order (rank_of s) (rank_of t)) [
+  | inl same ↦
+      let one = same_rank s t same in
+      subst (λ q. is_below (c ++ q ∷ rest) (c ++ s ∷ []) ≡ false) one
+      (ap (λ x. is_below x (c ++ s ∷ [])) (sym (append_assoc c (s ∷ []) rest)) ∙ not_below_prefix (c ++ s ∷ []) rest)
+  | inr (inl less) ↦ below_apart (c ++ s ∷ []) (c ++ t ∷ rest) (below_branch c s t [] rest less)
+  | inr (inr more) ↦ absurd (omega arith)
+]
+
+-- a position behind all that begin with a child is below a later child
+behind_child : (c : List Rel) (r t : Rel) (rest : List Rel) → IsBehind (c ++ r ∷ []) (c ++ t ∷ rest) → rank_of r < rank_of t
+behind_child c r t rest f = elim (cases_order (rank_of r) (rank_of t)) [
+  | inl same ↦
+      let one = same_rank r t same in
+      below_both ((c ++ r ∷ []) ++ rest) (c ++ t ∷ rest) (f rest)
+      (ap (λ y. is_below y (c ++ t ∷ rest)) (append_assoc c (r ∷ []) rest) ∙ ap (λ q. is_below (c ++ q ∷ rest) (c ++ t ∷ rest)) one ∙ below_itself (c ++ t ∷ rest))
+  | inr (inl less) ↦ less
+  | inr (inr more) ↦
+      below_both ((c ++ r ∷ []) ++ rest) (c ++ t ∷ rest) (f rest)
+      (ap (λ y. is_below y (c ++ t ∷ rest)) (append_assoc c (r ∷ []) rest) ∙ below_apart (c ++ t ∷ rest) (c ++ r ∷ rest) (below_branch c t r rest rest more))
+]
+
+-- the least node after an alive one that is not full is its first child
+pub least_after_alive : (p : Problem) (c : List Rel) (s : Rel) → IsAlive (problem_at p c) → length c < pair_count p →
+    first_of (allowed p (pair_at p (length c))) ≡ Some s → IsLeastNode p (IsAfter c) (c ++ s ∷ [])
+least_after_alive p c s a short is = record {
+  node = child_is_node p c s (record { alive = a; short = short; allows = first_is_in (allowed p (pair_at p (length c))) s is });
+  kind = below_longer c s [];
+  least = λ x node after. not_from_false (is_below x (c ++ s ∷ [])) (least x node after (side c x));
+}
+  where
+    least : (x : List Rel) → IsNode p x → IsTrue (is_below c x) → Side c x → is_below x (c ++ s ∷ []) ≡ false
+    least x node after (within [] e) = below_both c x after (ap (λ y. is_below c y) (e ∙ append-nil c) ∙ below_itself c)
+    least x node after (within (t ∷ rest) e) =
+        let child = child_within p c t rest (subst (IsNode p) e node) in
+        ap (λ y. is_below y (c ++ s ∷ [])) e ∙ below_child c rest s t (first_is_least (allowed p (pair_at p (length c))) s t is child.allows)
+    least x node after (ahead f) = below_both c x after (below_apart x c (subst (λ y. IsTrue (is_below x y)) (append-nil c) (f [])))
+    least x node after (behind f) = not_below_behind c x (s ∷ []) f
+
+-- behind all that begin with a node is its next sibling first
+pub least_behind : (p : Problem) (c : List Rel) (r s : Rel) → IsNode p (c ++ r ∷ []) → next_of (allowed p (pair_at p (length c))) r ≡ Some s →
+    IsLeastNode p (IsBehind (c ++ r ∷ [])) (c ++ s ∷ [])
+least_behind p c r s node is = record {
+  node = child_is_node p c s (record { alive = here.alive; short = here.short; allows = next.0 });
+  kind = λ rest. subst (λ y. IsTrue (is_below y (c ++ s ∷ []))) (sym (append_assoc c (r ∷ []) rest)) (below_branch c r s rest [] next.1);
+  least = λ x n f. not_from_false (is_below x (c ++ s ∷ [])) (least x n f (side c x));
+}
+  where
+    here : IsChild p c r
+    here = child_within p c r [] node
+
+    next : (has (allowed p (pair_at p (length c))) s ≡ true) × (rank_of r < rank_of s)
+    next = next_is_in (allowed p (pair_at p (length c))) r s is
+
+    least : (x : List Rel) → IsNode p x → IsBehind (c ++ r ∷ []) x → Side c x → is_below x (c ++ s ∷ []) ≡ false
+    least x n f (within [] e) = below_both (c ++ r ∷ []) x (subst (λ y. IsTrue (is_below y x)) (append-nil (c ++ r ∷ [])) (f [])) (below_apart x (c ++ r ∷ []) (subst (λ y. IsTrue (is_below y (c ++ r ∷ []))) (sym (e ∙ append-nil c)) (below_longer c r [])))
+    least x n f (within (t ∷ rest) e) =
+        let child = child_within p c t rest (subst (IsNode p) e n) in
+        ap (λ y. is_below y (c ++ s ∷ [])) e ∙
+        below_child c rest s t (next_is_least (allowed p (pair_at p (length c))) r s t is child.allows (behind_child c r t rest (subst (IsBehind (c ++ r ∷ [])) e f)))
+    least x n f (ahead g) = below_both (c ++ r ∷ []) x (subst (λ y. IsTrue (is_below y x)) (append-nil (c ++ r ∷ [])) (f [])) (below_apart x (c ++ r ∷ []) (g (r ∷ [])))
+    least x n f (behind g) = not_below_behind c x (s ∷ []) g
+
+-- a longer position's followers are behind what it is longer than, and the other way round where no sibling is allowed
+pub behind_longer : (c rest x : List Rel) → IsBehind c x → IsBehind (c ++ rest) x
+behind_longer c rest x f = λ more. subst (λ y. IsTrue (is_below y x)) (sym (append_assoc c rest more)) (f (rest ++ more))
+
+pub behind_parent : (p : Problem) (c : List Rel) (r : Rel) → next_of (allowed p (pair_at p (length c))) r ≡ None →
+    (x : List Rel) → IsNode p x → IsBehind (c ++ r ∷ []) x → IsBehind c x
+behind_parent p c r none x n f = by (side c x)
+  where
+    by : Side c x → IsBehind c x
+    by (within [] e) = below_both (c ++ r ∷ []) x (subst (λ y. IsTrue (is_below y x)) (append-nil (c ++ r ∷ [])) (f [])) (below_apart x (c ++ r ∷ []) (subst (λ y. IsTrue (is_below y (c ++ r ∷ []))) (sym (e ∙ append-nil c)) (below_longer c r [])))
+    by (within (t ∷ rest) e) =
+        let child = child_within p c t rest (subst (IsNode p) e n) in
+        absurd (none_is_next (allowed p (pair_at p (length c))) r t none child.allows (behind_child c r t rest (subst (IsBehind (c ++ r ∷ [])) e f)))
+    by (ahead g) = below_both (c ++ r ∷ []) x (subst (λ y. IsTrue (is_below y x)) (append-nil (c ++ r ∷ [])) (f [])) (below_apart x (c ++ r ∷ []) (g (r ∷ [])))
+    by (behind g) = g
+
+-- all nodes after one with no child are behind it
+pub after_is_behind : (p : Problem) (c : List Rel) → ((t : Rel) → IsChild p c t → ⊥) → (x : List Rel) → IsNode p x → IsTrue (is_below c x) → IsBehind c x
+after_is_behind p c none x n after = by (side c x)
+  where
+    by : Side c x → IsBehind c x
+    by (within [] e) = below_both c x after (ap (λ y. is_below c y) (e ∙ append-nil c) ∙ below_itself c)
+    by (within (t ∷ rest) e) = absurd (none t (child_within p c t rest (subst (IsNode p) e n)))
+    by (ahead g) = below_both c x after (below_apart x c (subst (λ y. IsTrue (is_below x y)) (append-nil c) (g [])))
+    by (behind g) = g
+
+-- no position is behind all
+pub none_behind_all : (x : List Rel) → IsBehind [] x → ⊥
+none_behind_all x f = true≢false (sym (f x) ∙ below_itself x)
+
+-- a climb from one node to its prefix, with the nodes behind it
+pub record IsClimb (p : Problem) (old c : List Rel) : Type 0 where
+  pub node : IsNode p c
+  pub rest : List Rel
+  pub longer : old ≡ c ++ rest
+  pub behind : (x : List Rel) → IsNode p x → IsBehind old x → IsBehind c x
+
+pub climb_start : (p : Problem) (old : List Rel) → IsNode p old → IsClimb p old old
+climb_start p old node = record { node = node; rest = []; longer = sym (append-nil old); behind = λ x n f. f }
+
+pub climb_on : (p : Problem) (old c parent : List Rel) (r : Rel) → IsClimb p old c → c ≡ parent ++ r ∷ [] → next_of (allowed p (pair_at p (length parent))) r ≡ None →
+    IsClimb p old parent
+climb_on p old c parent r k is none = record {
+  node = prefix_is_node p parent (r ∷ []) (subst (IsNode p) is k.node);
+  rest = r ∷ k.rest;
+  longer = k.longer ∙ ap (λ m. m ++ k.rest) is ∙ append_assoc parent (r ∷ []) k.rest;
+  behind = λ x n f. behind_parent p parent r none x n (subst (λ m. IsBehind m x) is (k.behind x n f));
+}
+
+pub climb_found : (p : Problem) (old c parent : List Rel) (r s : Rel) → IsClimb p old c → c ≡ parent ++ r ∷ [] → next_of (allowed p (pair_at p (length parent))) r ≡ Some s →
+    IsLeastNode p (IsBehind old) (parent ++ s ∷ [])
+climb_found p old c parent r s k is found =
+    let least : IsLeastNode p (IsBehind (parent ++ r ∷ [])) (parent ++ s ∷ []) = least_behind p parent r s (subst (IsNode p) is k.node) found in
+    record {
+      node = least.node;
+      kind = subst (λ m. IsBehind m (parent ++ s ∷ [])) (sym (k.longer ∙ ap (λ m. m ++ k.rest) is)) (behind_longer (parent ++ r ∷ []) k.rest (parent ++ s ∷ []) least.kind);
+      least = λ x n f. least.least x n (subst (λ m. IsBehind m x) is (k.behind x n f));
+    }
+
+pub climb_none : (p : Problem) (old c : List Rel) → IsClimb p old c → c ≡ [] → (x : List Rel) → IsNode p x → IsBehind old x → ⊥
+climb_none p old c k empty x n f = none_behind_all x (subst (λ m. IsBehind m x) empty (k.behind x n f))

@@ -1,0 +1,9 @@
+pub mod Places
+pub mod Relations
+pub mod LeastNodes
+pub mod Leading
+pub mod Serving
+pub mod Passing
+pub mod Stepping
+pub mod Copying
+pub mod WholeChildren

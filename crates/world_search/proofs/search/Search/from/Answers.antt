@@ -1,0 +1,17 @@
+use Rattle.std.proofs.Common.{true≢false, ◌≡◌, ◌≤◌, List, [], ◌++◌, length, inl, refl, sym, ap, ◌∙◌, subst}
+use Rattle.world_model.specs.Problem.{pair_count}
+use Rattle.world_search.proofs.search.Search.from.Goals as goal
+
+pub invariant_of-result : goal.invariant_of-result
+invariant_of-result c = record {
+  within = subst (λ p. length c.args.from ≤ pair_count p) (sym c.in_ok-problem.ensures) c.requires.from;
+  placed = record {
+    begun = refl;
+    unsure = refl;
+    node = inl c.new.ensures;
+    none_waits = refl;
+    rest = c.args.from;
+    begins = ap (λ m. m ++ c.args.from) (sym c.new.ensures);
+  };
+  knows = λ standing known. absurd (true≢false (sym known));
+}

@@ -1,0 +1,138 @@
+-- Where a walk stands among the nodes.
+use Rattle.std.specs.Prelude.{◌≡◌, ◌<◌, ◌≤◌, ℕ, Bool, true, false, List, [], ◌∷◌, ◌++◌, Option, Some, None, length, IsTrue, not, if◌then◌else◌}
+use Rattle.rcc5_core.specs.declared.Rel.{Rel}
+use Rattle.rcc5_core.specs.Relation.{rank_of}
+use Rattle.rcc5_core.specs.RelationSet.{has, next_of}
+use Rattle.rcc5_core.specs.Region.{is_whole_set}
+use Rattle.world_model.specs.Problem.{Problem, pair_count}
+use Rattle.world_model.specs.Family.{Family, meets, table_of, IsPossibleWorld}
+use Rattle.world_model.specs.Listing.{is_below, is_before_end}
+use Rattle.world_model.specs.Alive.{allowed, problem_at, IsAlive}
+use Rattle.world_model.specs.Node.{pair_at, IsNode, IsNodeFrom}
+use Rattle.world_model.specs.Trial.{nodes_between}
+use Rattle.world_search.specs.declared.walk.Stage.{Stage}
+use Rattle.world_search.specs.declared.walk.Stage.TheVariants.{Start, Standing, Past}
+use Rattle.world_search.specs.declared.walk.Walk.{Walk}
+use Rattle.world_search.specs.declared.walk.World.{World}
+use Rattle.world_search.specs.Searching.{SearchState, last_place}
+
+-- a position comes behind all that begin with a prefix
+abbrev pub IsBehind : List Rel → List Rel → Type 0
+IsBehind prefix m = (rest : List Rel) → IsTrue (is_below (prefix ++ rest) m)
+
+-- the least node of a kind
+pub record IsLeastNode (p : Problem) (IsKind : List Rel → Type 0) (m : List Rel) : Type 0 where
+  pub node : IsNode p m
+  pub kind : IsKind m
+  pub least : (x : List Rel) → IsNode p x → IsKind x → IsTrue (not (is_below x m))
+
+-- no node is of a kind
+abbrev pub HasNoNode : Problem → (List Rel → Type 0) → Type 0
+HasNoNode p IsKind = (x : List Rel) → IsNode p x → IsKind x → ⊥
+
+-- the relation that waits, as a list
+abbrev pub waiting : Option Rel → List Rel
+waiting None = []
+waiting (Some rel) = rel ∷ []
+
+-- the node at which a walk stands: its path, and the relation that waits
+abbrev pub place : Walk → List Rel
+place w = w.path ++ waiting w.next
+
+-- by the stage of a walk: it stands at the least node of a kind, or is past all nodes, where none is of the kind
+abbrev pub LeadsBy : Problem → (List Rel → Type 0) → List Rel → Stage → Type 0
+LeadsBy p IsKind m Start = ⊥
+LeadsBy p IsKind m Standing = IsLeastNode p IsKind m
+LeadsBy p IsKind m Past = HasNoNode p IsKind
+
+abbrev pub LeadsTo : Problem → (List Rel → Type 0) → Walk → Type 0
+LeadsTo p IsKind w = LeadsBy p IsKind (place w) w.stage
+
+-- on the way to the first node: at a prefix of the start that is a node
+pub record IsOnWay (p : Problem) (from : List Rel) (w : Walk) : Type 0 where
+  pub begun : w.stage ≡ Start
+  pub unsure : w.barren ≡ false
+  pub node : IsNode p w.path
+  pub none_waits : w.next ≡ None
+  pub rest : List Rel
+  pub begins : from ≡ w.path ++ rest
+
+-- at a node from the start on, where all nodes before it are below the end
+pub record IsStanding (p : Problem) (from : List Rel) (to : Option (List Rel)) (m : List Rel) : Type 0 where
+  pub node : IsNodeFrom p from m
+  pub earlier : (x : List Rel) → IsNodeFrom p from x → IsTrue (is_below x m) → IsTrue (is_before_end x to)
+
+-- what is so of a walk at any time
+abbrev pub IsPlacedBy : Problem → List Rel → Option (List Rel) → Walk → Stage → Type 0
+IsPlacedBy p from to w Start = IsOnWay p from w
+IsPlacedBy p from to w Standing = IsStanding p from to (place w)
+IsPlacedBy p from to w Past = (x : List Rel) → IsNodeFrom p from x → IsTrue (is_before_end x to)
+
+abbrev pub IsPlaced : Problem → List Rel → Option (List Rel) → Walk → Type 0
+IsPlaced p from to w = IsPlacedBy p from to w w.stage
+
+-- the place up to which all nodes are passed, by the stage of a walk
+abbrev pub at_by : List Rel → Option (List Rel) → List Rel → Stage → Option (List Rel)
+at_by from to m Start = Some from
+at_by from to m Standing = if is_before_end m to then Some m else last_place from to
+at_by from to m Past = last_place from to
+
+-- a walk as the state of a search
+abbrev pub state_of : Problem → List Rel → Option (List Rel) → Walk → SearchState
+state_of p from to w = record { problem = p; from = from; to = to; at = at_by from to (place w) w.stage }
+
+-- a world of the problem, with a family that shows it
+pub record IsWorldAt (p : Problem) (m : List Rel) (world : World) : Type 0 where
+  pub table : world.table ≡ m
+  pub met : IsTrue (meets p world.family)
+  pub shown : table_of p world.family ≡ m
+
+-- nodes from the start on
+abbrev pub IsFrom : List Rel → List Rel → Type 0
+IsFrom from m = IsTrue (not (is_below m from))
+
+-- nodes after another
+abbrev pub IsAfter : List Rel → List Rel → Type 0
+IsAfter one m = IsTrue (is_below one m)
+
+-- a step on the way to the first node: further on the way, or at the first node
+abbrev pub Follows : Problem → List Rel → Walk → Bool → Type 0
+Follows p from w true = IsOnWay p from w
+Follows p from w false = LeadsTo p (IsFrom from) w
+
+-- no child of its prefix before this one is alive
+abbrev pub IsBarren : Problem → List Rel → Type 0
+IsBarren p m = (c : List Rel) (s t : Rel) → m ≡ c ++ s ∷ [] → IsTrue (has (allowed p (pair_at p (length c))) t) → rank_of t < rank_of s →
+    IsAlive (problem_at p (c ++ t ∷ [])) → ⊥
+
+-- where a walk that stands says so, no child before its node is alive
+abbrev pub Knows : Problem → Walk → Type 0
+Knows p w = w.stage ≡ Standing → w.barren ≡ true → IsBarren p (place w)
+
+-- a last child of a prefix whose pair allows a whole set
+pub record IsLastChild (p : Problem) (m : List Rel) : Type 0 where
+  pub prefix : List Rel
+  pub rel : Rel
+  pub is : m ≡ prefix ++ rel ∷ []
+  pub last : next_of (allowed p (pair_at p (length prefix))) rel ≡ None
+  pub whole : IsTrue (is_whole_set (allowed p (pair_at p (length prefix))))
+
+-- what a visit of a node finds: a world there, or that there is none
+abbrev pub Finds : Problem → List Rel → Option World → Type 0
+Finds p m None = IsPossibleWorld p m → ⊥
+Finds p m (Some world) = IsWorldAt p m world
+
+-- how many nodes are left to a walk, by its stage
+abbrev pub left_by : Problem → List Rel → Stage → ℕ
+left_by p m Start = 0
+left_by p m Standing = length (nodes_between p m None)
+left_by p m Past = 0
+
+unfoldable pub nodes_left : Problem → Walk → ℕ
+nodes_left p w = left_by p (place w) w.stage
+
+-- what every search keeps
+pub record IsSearch (p : Problem) (from : List Rel) (to : Option (List Rel)) (w : Walk) : Type 0 where
+  pub within : length from ≤ pair_count p
+  pub placed : IsPlaced p from to w
+  pub knows : Knows p w

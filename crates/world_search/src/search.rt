@@ -1,0 +1,109 @@
+//! The walk over the nodes.
+ghost use Rattle.std.specs.Prelude.{◌≡◌, ◌≤◌, [], length, IfOk, OnOk, IfSome};
+ghost use Rattle.world_model.specs.Problem.{pair_count};
+ghost use Rattle.constraint_set.specs.Shape.{shape_of};
+ghost use Rattle.world_search.specs.Searching.{begun};
+ghost use Rattle.world_search.specs.Steps.{IsStepped};
+
+use crate::step::{Nodes, Step, StepFault};
+use crate::walk::{Stage, Walk, walk_on};
+use cert_text::TreeLog;
+use constraint_set::Problem;
+use point_query::Asker;
+use rcc5_core::Position;
+use std::alloc::{AllocError, Global};
+use std::marker::Model;
+
+/// A walk over the nodes of a problem, in order.
+///
+/// A node is a prefix of relations: the empty one, or one that follows an alive prefix by a relation that its next pair
+/// allows. So nothing below a dead prefix is looked at.
+#[derive(Drop)]
+pub struct Search {
+    problem: Problem,
+    from: Position,
+    to: Option<Position>,
+    walk: Walk,
+    alloc: Global,
+}
+
+impl Model for Search {
+    ghost use Rattle.world_search.specs.Searching.{SearchState};
+
+    ghost Value = { SearchState };
+
+    ghost use Rattle.world_search.specs.Walking.{state_of, IsSearch};
+
+    ghost view = { λ s. state_of s.problem s.from s.to s.walk };
+
+    ghost invariant = { λ s. IsSearch s.problem s.from s.to s.walk };
+}
+
+// A problem with the same flags.
+fn copy_of(alloc: Global, problem: &Problem) -> Result<Problem, AllocError>
+    ensures { IfOk result (λ copy. copy ≡ problem.now) }
+{
+    let _taxonomies = problem.taxonomy_count();
+    let mut kept = Vec::new(alloc);
+    for index in 0..problem.articulation_count() {
+        kept.push(problem.is_kept(index))?;
+    }
+    problem.restricted(alloc, &kept)
+}
+
+impl Search {
+    /// A search that begins at one position and ends before another, if one is given. Neither is longer than the problem has pairs.
+    pub fn from(
+        alloc: Global,
+        problem: &Problem,
+        from: Position,
+        to: Option<Position>,
+    ) -> Result<Search, AllocError>
+        requires from { length from ≤ pair_count problem.now }
+        requires to { IfSome to (λ end. length end ≤ pair_count problem.now) }
+        ensures { IfOk result (λ search. search ≡ begun problem.now from to) }
+    {
+        let problem = copy_of(alloc, problem)?;
+        let walk = Walk {
+            stage: Stage::Start,
+            path: Position::new(alloc),
+            next: None,
+            barren: false,
+        };
+        Ok(Search {
+            problem,
+            from,
+            to,
+            walk,
+            alloc,
+        })
+    }
+
+    /// Visits the next nodes, up to the next world, or until none may be visited or none is left. Each visit lowers `left`.
+    ///
+    /// It needs the problem that the search was made of and an asker of its shape. After want of memory it may be called again.
+    pub fn next<L: TreeLog>(
+        &mut self,
+        problem: &Problem,
+        asker: &mut Asker,
+        nodes: &mut Nodes,
+        log: &mut L,
+    ) -> Result<Step, StepFault>
+        requires problem { self.old.problem ≡ problem.now }
+        requires shape { asker.old.shape ≡ shape_of problem.now }
+        ensures step { IsStepped self.old self.new nodes.old.left nodes.new.left result }
+        ensures problem { self.new.problem ≡ self.old.problem }
+        ensures from { self.new.from ≡ self.old.from }
+        ensures to { self.new.to ≡ self.old.to }
+        ensures asker { asker.new.shape ≡ asker.old.shape }
+        ensures none_waits { OnOk result (asker.new.solver.waiting ≡ []) }
+        ensures log { L.drops log.new ≡ L.drops log.old }
+    {
+        let walk = &mut self.walk;
+        let step = walk_on(
+            self.alloc, problem, asker, &self.from, &self.to, walk, nodes,
+        )?;
+        asker.clear_lines();
+        Ok(step)
+    }
+}
