@@ -1,10 +1,10 @@
 -- What the words ask for, and what is put of it.
 use Rattle.std.proofs.Common.{◌≡◌, ◌≢◌, ℕ, ◌+◌, ◌<◌, ◌≤◌, Bool, true, false, List, [], ◌∷◌, ◌++◌, append-nil, Option, None, Some, IfSome, Result, Ok, Err, length, take, refl, sym, ap, subst, ◌∙◌, ◌⊎◌, inl, inr, ⊎_elim, arith, length-take, take_all}
-use Rattle.std.specs.Prelude.{nat_lt, unwrap_or}
-use Rattle.std.proofs.lemmas.Bool.{ltb-true, lt-ltb, ltb-false}
+use Rattle.std.specs.Prelude.{nat_lt, ◌==◌, unwrap_or}
+use Rattle.std.proofs.lemmas.Bool.{ltb-true, lt-ltb, ltb-false, eqb-true}
 use Rattle.world_model.specs.declared.Switches.{Switches}
 use Rattle.rcc5_core.specs.declared.Rel.{Rel}
-use Rattle.world_model.specs.Problem.{Problem, concept_count}
+use Rattle.world_model.specs.Problem.{Problem}
 use Rattle.world_model.specs.Listing.{IsListing}
 use Rattle.cleantax_text.specs.declared.TextKind.{TextKind}
 use Rattle.cleantax_text.specs.declared.TextKind.TheVariants as text
@@ -19,8 +19,9 @@ use Rattle.align_top.specs.declared.Status.TheVariants as status
 use Rattle.align_top.specs.declared.Request.{Request}
 use Rattle.align_top.specs.declared.Request.TheVariants.{Align}
 use Rattle.align_top.specs.Words.{request_of}
-use Rattle.align_top.specs.Output.{IsAnswer, IsRequestAnswer, IsTextAnswer, IsProblemAnswer, end_line, listing_text, listing_status, IsLastPut}
-use Rattle.align_top.specs.Run.{IfAnswered, IfReadFault, IfWriteFault, IfCutShort, AreHeld, IsAsked, IsPut, IsAskedText, IsCutShort, IsPutInPart, IsEndOf, IsReadFailed}
+use Rattle.align_top.specs.Output.{IsAnswer, IsRequestAnswer, IsTextAnswer, end_line, listing_text, listing_status, IsLastPut}
+use Rattle.align_top.specs.Run.{IfAnswered, IfReadFault, IfWriteFault, IfCutShort, AreHeld, IsAsked, IsPut, IsAskedText, IsCutShort, IsPutInPart, IsEndOf, IsReadFailed, AsksFor}
+use Rattle.align_top.specs.Putting.{counted_worlds, count_status, IsPutWhole, IsPutPartly, IsListingEnd}
 
 -- a text that is cut behind the longest one says what the whole says
 text_cut : (told : List ℕ) (switches : Switches) → text_result (take 1048577 told) switches ≡ text_result told switches
@@ -61,7 +62,6 @@ answered-map status.ReadFault P Q f h = tt
 answered-map status.WriteFault P Q f h = tt
 answered-map status.NoWorld P Q f h = f h
 answered-map status.NoMemory P Q f h = tt
-answered-map status.NotBuilt P Q f h = f h
 
 -- words that are no request
 pub asked_usage : (words : List (List ℕ)) (held : Contents) (kind : UsageKind) → request_of words ≡ Err kind → IsAsked words held (status.Usage kind) (end_line (status.Usage kind))
@@ -76,13 +76,9 @@ pub request_as : (words : List (List ℕ)) (r r' : Request) → request_of words
 request_as words r r' e same = e ∙ ap Ok same
 
 -- what comes of a problem whose worlds are listed
-text_listed : (bytes : List ℕ) (switches : Switches) (p : Problem) (worlds : List (List Rel)) → IsProblemText bytes switches p → concept_count p ≤ 8
+text_listed : (bytes : List ℕ) (switches : Switches) (p : Problem) (worlds : List (List Rel)) → IsProblemText bytes switches p
     → IsListing p [] None worlds → IsTextAnswer (text_result bytes switches) (listing_status worlds) (listing_text worlds)
-text_listed bytes switches p worlds said small listed = rw said (by (nat_lt 8 (concept_count p)) refl)
-  where
-    by : (b : Bool) → nat_lt 8 (concept_count p) ≡ b → IsProblemAnswer p (listing_status worlds) (listing_text worlds)
-    by true e = let large : 8 < concept_count p = ltb-true 8 (concept_count p) e in absurd (omega (arith, small, large))
-    by false e = rw e (record { worlds = worlds; exactly = listed; put = refl; ended = refl })
+text_listed bytes switches p worlds said listed = rw said (record { worlds = worlds; exactly = listed; put = refl; ended = refl })
 
 -- a request over the bytes that were read under the name in it
 asked_text : (words : List (List ℕ)) (held : Contents) (input name items bytes : List ℕ) (switches : Switches) (s : Status) (text : List ℕ)
@@ -99,11 +95,11 @@ asked_text words held input name items bytes switches s text e same front is ans
 -- the same for a problem whose worlds are listed
 pub asked_listed : (words : List (List ℕ)) (held : Contents) (input name items bytes : List ℕ) (switches : Switches) (p : Problem) (worlds : List (List Rel))
     → request_of words ≡ Ok (Align input switches) → name ≡ input → IfSome (held name) (λ all. items ≡ take 1048577 all) → bytes ≡ items
-    → IsProblemText bytes switches p → concept_count p ≤ 8 → IsListing p [] None worlds
+    → IsProblemText bytes switches p → IsListing p [] None worlds
     → IsAsked words held (listing_status worlds) (listing_text worlds)
-asked_listed words held input name items bytes switches p worlds e same front is said small listed =
+asked_listed words held input name items bytes switches p worlds e same front is said listed =
     asked_text words held input name items bytes switches (listing_status worlds) (listing_text worlds) e same front is
-    (text_listed bytes switches p worlds said small listed)
+    (text_listed bytes switches p worlds said listed)
 
 -- the same for an answer that may be wanting
 pub asked_end : (words : List (List ℕ)) (held : Contents) (input name items bytes : List ℕ) (switches : Switches) (s : Status)
@@ -133,23 +129,16 @@ text_ended bytes switches line kind s first end = ⊎_elim
     (λ refused. subst (λ s. IfAnswered s (IsTextAnswer (text_result bytes switches) s (end_line s))) (sym refused.1) (rw (first refused.0) (refl, refl)))
     end
 
--- of a problem that is too large for today
-pub text_large : (bytes : List ℕ) (switches : Switches) (p : Problem) → IsProblemText bytes switches p → 8 < concept_count p
-    → IsTextAnswer (text_result bytes switches) status.NotBuilt (end_line status.NotBuilt)
-text_large bytes switches p said large = rw said (rw (lt-ltb 8 (concept_count p) large) (refl, refl))
+pub ruleset text_rules = (text_ended)
 
-pub ruleset text_rules = (text_ended, text_large)
-
--- the status of a listing
-pub status_none : (worlds : List (List Rel)) → length worlds ≡ 0 → status.NoWorld ≡ listing_status worlds
-status_none [] e = refl
-status_none (w ∷ ws) e = absurd (omega (arith, e))
-
-pub status_some : (worlds : List (List Rel)) → length worlds ≢ 0 → status.Done ≡ listing_status worlds
-status_some [] e = absurd (e refl)
-status_some (w ∷ ws) e = refl
-
-pub ruleset status_rules = (status_none, status_some)
+-- the status of a listing, by the count of its worlds
+status_counted : (worlds : List (List Rel)) (count : ℕ) → count ≡ counted_worlds worlds → count_status count ≡ listing_status worlds
+status_counted [] count e = rw e refl
+status_counted (w ∷ ws) count e = by (count == 0) refl
+  where
+    by : (b : Bool) → (count == 0) ≡ b → count_status count ≡ status.Done
+    by true zero = absurd (omega (arith, e, eqb-true count 0 zero))
+    by false some = rw some refl
 
 GrownInPart-all : (old new : Option (List ℕ)) (piece : List ℕ) → new ≡ added old piece → GrownInPart old new piece
 GrownInPart-all old new piece e = subst (GrownInPart old new) (append-nil piece) (GrownInPart-whole old new piece [] e)
@@ -193,7 +182,33 @@ listing_starved s r old mid new text before between now part same last = ⊎_eli
     other)
     last
 
-pub ruleset end_rules = (listing_whole, listing_refused, listing_starved)
+-- the same of the listing of a problem
+pub put_whole : (p : Problem) (count : ℕ) (r : Status) (old new : Option (List ℕ)) (before now : ℕ) → r ≡ count_status count → IsPutWhole p old new count → now ≡ before
+    → IsListingEnd p r old new before now
+put_whole p count r old new before now e whole same = record {
+  worlds = whole.worlds;
+  exactly = whole.exactly;
+  ended = listing_whole (listing_status whole.worlds) r old new (listing_text whole.worlds) before now (e ∙ status_counted whole.worlds count whole.counted) whole.put same;
+}
+
+pub put_refused : (p : Problem) (old new : Option (List ℕ)) (before now : ℕ) → IsPutPartly p old new → Rose before now
+    → IsListingEnd p status.WriteFault old new before now
+put_refused p old new before now partly rose = record {
+  worlds = partly.worlds;
+  exactly = partly.exactly;
+  ended = listing_refused (listing_status partly.worlds) old new (listing_text partly.worlds) before now partly.part rose;
+}
+
+pub put_starved : (p : Problem) (r : Status) (old mid new : Option (List ℕ)) (before between now : ℕ) → IsPutPartly p old mid → between ≡ before
+    → IsLastPut status.NoMemory r (end_line status.NoMemory) mid new between now
+    → IsListingEnd p r old new before now
+put_starved p r old mid new before between now partly same last = record {
+  worlds = partly.worlds;
+  exactly = partly.exactly;
+  ended = listing_starved (listing_status partly.worlds) r old mid new (listing_text partly.worlds) before between now partly.part same last;
+}
+
+pub ruleset end_rules = (put_whole, put_refused, put_starved)
 
 -- facts of a status, by its cases
 answered-any : (s : Status) (P : Type 0) → P → IfAnswered s P
@@ -204,7 +219,6 @@ answered-any status.ReadFault P h = tt
 answered-any status.WriteFault P h = tt
 answered-any status.NoWorld P h = h
 answered-any status.NoMemory P h = tt
-answered-any status.NotBuilt P h = h
 
 at_read_fault : (s : Status) (P : Status → Type 0) → P s → IfReadFault s (P status.ReadFault)
 at_read_fault status.Done P h = tt
@@ -214,7 +228,6 @@ at_read_fault status.ReadFault P h = h
 at_read_fault status.WriteFault P h = tt
 at_read_fault status.NoWorld P h = tt
 at_read_fault status.NoMemory P h = tt
-at_read_fault status.NotBuilt P h = tt
 
 never_write_fault : (s : Status) (P : Type 0) → IfWriteFault s ⊥ → IfWriteFault s P
 never_write_fault status.Done P never = tt
@@ -224,7 +237,6 @@ never_write_fault status.ReadFault P never = tt
 never_write_fault status.WriteFault P never = absurd never
 never_write_fault status.NoWorld P never = tt
 never_write_fault status.NoMemory P never = tt
-never_write_fault status.NotBuilt P never = tt
 
 -- a status with a part of its line on the sink
 part_asked : (words : List (List ℕ)) (held : Contents) (old new : Option (List ℕ)) (s : Status) (text : List ℕ)
@@ -252,7 +264,6 @@ part_put words held old new status.ReadFault asked never part = part_fault words
 part_put words held old new status.WriteFault asked never part = absurd never
 part_put words held old new status.NoWorld asked never part = part_asked words held old new _ _ asked part
 part_put words held old new status.NoMemory asked never part = part_fault words held old new _ (inr refl) part
-part_put words held old new status.NotBuilt asked never part = part_asked words held old new _ _ asked part
 
 cut-any : (s : Status) (P : Type 0) → P → IfCutShort s P
 cut-any status.Done P h = tt
@@ -262,7 +273,6 @@ cut-any status.ReadFault P h = tt
 cut-any status.WriteFault P h = h
 cut-any status.NoWorld P h = tt
 cut-any status.NoMemory P h = h
-cut-any status.NotBuilt P h = tt
 
 -- a status is put: what the clauses of a run say of it
 pub end_answer : (words : List (List ℕ)) (held : Contents) (s r : Status) (old new : Option (List ℕ)) (before now : ℕ)
@@ -400,16 +410,35 @@ listed_quiet reads reads' worlds r old new before now quiet end = ⊎_elim
     other)
     end
 
-pub ruleset run_rules = (end_answer, end_read_line, end_cut, end_read_fault, end_write_fault, end_quiet, listed_answer, listed_no_read, listed_cut, listed_write_fault, listed_quiet)
-
 -- the same with the request last
 pub end_of_file : (words : List (List ℕ)) (held : Contents) (name items bytes : List ℕ) (switches : Switches) (s : Status)
     → IfAnswered s (IsTextAnswer (text_result bytes switches) s (end_line s)) → IfSome (held name) (λ all. items ≡ take 1048577 all) → bytes ≡ items
     → request_of words ≡ Ok (Align name switches) → IfAnswered s (IsAsked words held s (end_line s))
 end_of_file words held name items bytes switches s answer front is e = asked_end words held name name items bytes switches s e refl front is answer
 
-pub worlds_of_file : (words : List (List ℕ)) (held : Contents) (name items bytes : List ℕ) (switches : Switches) (p : Problem) (worlds : List (List Rel))
-    → IsProblemText bytes switches p → concept_count p ≤ 8 → IsListing p [] None worlds → IfSome (held name) (λ all. items ≡ take 1048577 all) → bytes ≡ items
-    → request_of words ≡ Ok (Align name switches) → IsAsked words held (listing_status worlds) (listing_text worlds)
-worlds_of_file words held name items bytes switches p worlds said small listed front is e =
-    asked_listed words held name name items bytes switches p worlds e refl front is said small listed
+pub problem_of_file : (words : List (List ℕ)) (held : Contents) (name items bytes : List ℕ) (switches : Switches) (p : Problem)
+    → IsProblemText bytes switches p → IfSome (held name) (λ all. items ≡ take 1048577 all) → bytes ≡ items
+    → request_of words ≡ Ok (Align name switches) → AsksFor words held p
+problem_of_file words held name items bytes switches p said front is e worlds listed =
+    asked_listed words held name name items bytes switches p worlds e refl front is said listed
+
+-- a listing is put for what the words ask for
+pub put_answer : (words : List (List ℕ)) (held : Contents) (p : Problem) (r : Status) (old new : Option (List ℕ)) (before now : ℕ)
+    → AsksFor words held p → IsListingEnd p r old new before now → IfAnswered r (IsPut words held r old new)
+put_answer words held p r old new before now asks end = listed_answer words held end.worlds r old new before now (asks end.worlds end.exactly) end.ended
+
+pub put_no_read : (P : Type 0) (p : Problem) (r : Status) (old new : Option (List ℕ)) (before now : ℕ) → IsListingEnd p r old new before now → IfReadFault r P
+put_no_read P p r old new before now end = listed_no_read P end.worlds r old new before now end.ended
+
+pub put_cut : (words : List (List ℕ)) (held : Contents) (p : Problem) (r : Status) (old new : Option (List ℕ)) (before now : ℕ)
+    → AsksFor words held p → IsListingEnd p r old new before now → IfCutShort r (IsPutInPart words held old new)
+put_cut words held p r old new before now asks end = listed_cut words held end.worlds r old new before now (asks end.worlds end.exactly) end.ended
+
+pub put_write_fault : (p : Problem) (r : Status) (old new : Option (List ℕ)) (before now : ℕ) → IsListingEnd p r old new before now → IfWriteFault r (Rose before now)
+put_write_fault p r old new before now end = listed_write_fault end.worlds r old new before now end.ended
+
+pub put_quiet : (reads reads' : Counts) (p : Problem) (r : Status) (old new : Option (List ℕ)) (before now : ℕ)
+    → reads' ≡ reads → IsListingEnd p r old new before now → IfAnswered r ((reads' ≡ reads) × (now ≡ before))
+put_quiet reads reads' p r old new before now quiet end = listed_quiet reads reads' end.worlds r old new before now quiet end.ended
+
+pub ruleset run_rules = (end_answer, end_read_line, end_cut, end_read_fault, end_write_fault, end_quiet, put_answer, put_no_read, put_cut, put_write_fault, put_quiet)

@@ -12,7 +12,7 @@ use Rattle.cleantax_text.specs.Reading.{text_result}
 use Rattle.align_top.specs.declared.UsageKind.{UsageKind}
 use Rattle.align_top.specs.declared.UsageKind.TheVariants as usage
 use Rattle.align_top.specs.declared.Status.{Status}
-use Rattle.align_top.specs.declared.Status.TheVariants.{Done, RefusedText, Usage, ReadFault, WriteFault, NoWorld, NoMemory, NotBuilt}
+use Rattle.align_top.specs.declared.Status.TheVariants.{Done, RefusedText, Usage, ReadFault, WriteFault, NoWorld, NoMemory}
 use Rattle.align_top.specs.declared.Request.{Request}
 use Rattle.align_top.specs.declared.Request.TheVariants.{Align}
 use Rattle.align_top.specs.Words.{request_of}
@@ -26,7 +26,6 @@ code_of ReadFault = 3
 code_of WriteFault = 4
 code_of NoWorld = 6
 code_of NoMemory = 9
-code_of NotBuilt = 11
 
 -- a line: its words, and its end
 abbrev pub line_of : List ℕ → List ℕ
@@ -80,7 +79,6 @@ end_line ReadFault = line_of (codes "read fault")
 end_line WriteFault = []
 end_line NoWorld = []
 end_line NoMemory = line_of (codes "no memory")
-end_line NotBuilt = line_of (codes "not built")
 
 -- the last line is put and the status answered; or its put was refused; or memory was wanting
 abbrev pub IsLastPut : Status → Status → List ℕ → Option (List ℕ) → Option (List ℕ) → ℕ → ℕ → Type 0
@@ -93,9 +91,13 @@ IsLastPut status result line old new before now =
 abbrev pub world_line : List Rel → List ℕ
 world_line table = line_of (map letter_of table)
 
+-- the last line of a listing of so many worlds
+abbrev pub complete_line : ℕ → List ℕ
+complete_line count = line_of (codes "complete " ++ decimal count)
+
 -- the text of a listing: a line for each world, and how many they are, up to the last value of a u64
 abbrev pub listing_text : List (List Rel) → List ℕ
-listing_text worlds = flat_map world_line worlds ++ line_of (codes "complete " ++ decimal (min (length worlds) (2 ^ 64 - 1)))
+listing_text worlds = flat_map world_line worlds ++ complete_line (min (length worlds) (2 ^ 64 - 1))
 
 -- a good end: NoWorld where there is no world
 abbrev pub listing_status : List (List Rel) → Status
@@ -109,14 +111,9 @@ pub record IsListed (p : Problem) (status : Status) (text : List ℕ) : Type 0 w
   pub put : text ≡ listing_text worlds
   pub ended : status ≡ listing_status worlds
 
--- what comes of a problem: its listing, or that problems of more than 8 concepts are not built yet
-abbrev pub IsProblemAnswer : Problem → Status → List ℕ → Type 0
-IsProblemAnswer p status text =
-    MatchBool (nat_lt 8 (concept_count p)) ((status ≡ NotBuilt) × (text ≡ end_line NotBuilt)) (IsListed p status text)
-
--- what comes of a text: its problem's answer, or its refusal
+-- what comes of a text: the listing of its problem, or its refusal
 abbrev pub IsTextAnswer : Result Problem (ℕ × TextKind) → Status → List ℕ → Type 0
-IsTextAnswer (Ok p) status text = IsProblemAnswer p status text
+IsTextAnswer (Ok p) status text = IsListed p status text
 IsTextAnswer (Err fault) status text =
     (status ≡ RefusedText fault.0 fault.1) × (text ≡ end_line (RefusedText fault.0 fault.1))
 

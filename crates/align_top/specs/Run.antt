@@ -1,14 +1,17 @@
 -- How a run ends: its status beside what it put on the sink and what failed in it.
-use Rattle.std.specs.Prelude.{◌≡◌, ℕ, List, [], Option, IfSome, Result, Ok, ◌⊎◌, ⊤}
+use Rattle.std.specs.Prelude.{◌≡◌, ℕ, List, [], Option, None, IfSome, Result, Ok, ◌⊎◌, ⊤}
 use Rattle.outer_store.specs.Bytes.{GrownInPart, added}
 use Rattle.outer_store.specs.Contents.{Contents}
 use Rattle.outer_store.specs.Faults.{Counts, Rose}
 use Rattle.world_model.specs.declared.Switches.{Switches}
 use Rattle.align_top.specs.declared.Status.{Status}
-use Rattle.align_top.specs.declared.Status.TheVariants.{Done, RefusedText, Usage, ReadFault, WriteFault, NoWorld, NoMemory, NotBuilt}
+use Rattle.align_top.specs.declared.Status.TheVariants.{Done, RefusedText, Usage, ReadFault, WriteFault, NoWorld, NoMemory}
 use Rattle.align_top.specs.declared.Request.TheVariants.{Align}
 use Rattle.align_top.specs.Words.{request_of}
-use Rattle.align_top.specs.Output.{IsAnswer, end_line}
+use Rattle.rcc5_core.specs.declared.Rel.{Rel}
+use Rattle.world_model.specs.Problem.{Problem}
+use Rattle.world_model.specs.Listing.{IsListing}
+use Rattle.align_top.specs.Output.{IsAnswer, end_line, listing_status, listing_text}
 
 -- a fact of every status but those of a failed call and of want of memory
 abbrev pub IfAnswered : Status → Type 0 → Type 0
@@ -19,7 +22,6 @@ IfAnswered ReadFault fact = ⊤
 IfAnswered WriteFault fact = ⊤
 IfAnswered NoWorld fact = fact
 IfAnswered NoMemory fact = ⊤
-IfAnswered NotBuilt fact = fact
 
 -- a fact of the status of a failed read
 abbrev pub IfReadFault : Status → Type 0 → Type 0
@@ -30,7 +32,6 @@ IfReadFault ReadFault fact = fact
 IfReadFault WriteFault fact = ⊤
 IfReadFault NoWorld fact = ⊤
 IfReadFault NoMemory fact = ⊤
-IfReadFault NotBuilt fact = ⊤
 
 -- a fact of the status of a failed put
 abbrev pub IfWriteFault : Status → Type 0 → Type 0
@@ -41,7 +42,6 @@ IfWriteFault ReadFault fact = ⊤
 IfWriteFault WriteFault fact = fact
 IfWriteFault NoWorld fact = ⊤
 IfWriteFault NoMemory fact = ⊤
-IfWriteFault NotBuilt fact = ⊤
 
 -- a fact of the statuses after which an answer may be there in part: a failed put, and want of memory
 abbrev pub IfCutShort : Status → Type 0 → Type 0
@@ -52,7 +52,6 @@ IfCutShort ReadFault fact = ⊤
 IfCutShort WriteFault fact = fact
 IfCutShort NoWorld fact = ⊤
 IfCutShort NoMemory fact = fact
-IfCutShort NotBuilt fact = ⊤
 
 -- names hold these bytes, by all that the store tells
 abbrev pub AreHeld : (List ℕ → List ℕ) → Contents → Type 0
@@ -69,6 +68,10 @@ pub record IsPut (words : List (List ℕ)) (held : Contents) (status : Status) (
   pub text : List ℕ
   pub asked : IsAsked words held status text
   pub put : new ≡ added old text
+
+-- the words ask for the listing of a problem
+abbrev pub AsksFor : List (List ℕ) → Contents → Problem → Type 0
+AsksFor words held p = (worlds : List (List Rel)) → IsListing p [] None worlds → IsAsked words held (listing_status worlds) (listing_text worlds)
 
 -- the text of an answer, whatever its status
 pub record IsAskedText (words : List (List ℕ)) (held : Contents) (text : List ℕ) : Type 0 where

@@ -4,6 +4,7 @@
 ghost use Rattle.std.specs.Prelude.{◌≡◌, string_bytes};
 ghost use Rattle.align_top.specs.declared.WordsFault.TheVariants.{NoMemory};
 
+mod help;
 mod listing;
 mod names;
 mod put;
@@ -12,6 +13,7 @@ mod top;
 mod words;
 
 use cleantax_text::TextKind;
+pub use help::{fault_place, text_help, usage_help};
 pub use listing::put_listing;
 pub use names::text_name;
 pub use put::{put_end, put_line};
@@ -114,7 +116,6 @@ pub enum Status {
     WriteFault,
     NoWorld,
     NoMemory,
-    NotBuilt,
 }
 
 /// A command of the command line.

@@ -18,7 +18,6 @@ impl Status {
             Status::WriteFault => 4,
             Status::NoWorld => 6,
             Status::NoMemory => 9,
-            Status::NotBuilt => 11,
         }
     }
 }

@@ -80,7 +80,6 @@ fn put_end_line<W: Sink>(alloc: Global, out: &mut W, status: Status) -> Result<(
         Status::Usage(kind) => put_usage(alloc, out, kind),
         Status::ReadFault => out.put(b"read fault\n"),
         Status::NoMemory => out.put(b"no memory\n"),
-        Status::NotBuilt => out.put(b"not built\n"),
     }
 }
 

@@ -1,14 +1,14 @@
 //! All that the program does with its words, a store and a sink.
-ghost use Rattle.std.specs.Prelude.{◌≡◌, ◌≢◌, ◌≤◌, ◌⊎◌, [], None, map, string_bytes, IfOk, IfErr, IfSome, OnOk};
-ghost use Rattle.world_model.specs.Problem.{concept_count};
+ghost use Rattle.std.specs.Prelude.{◌≡◌, ◌≢◌, ◌⊎◌, map, string_bytes, IfOk, IfErr, OnOk};
 ghost use Rattle.outer_store.specs.Bytes.{added};
 ghost use Rattle.outer_store.specs.Faults.{Rose};
 ghost use Rattle.align_top.specs.declared.Status.TheVariants as status;
 ghost use Rattle.cleantax_text.specs.declared.TextKind.TheVariants as text;
 ghost use Rattle.cleantax_text.specs.Reading.{text_result, IsProblemText};
 ghost use Rattle.align_top.specs.Words.{request_of};
-ghost use Rattle.align_top.specs.Output.{listing_text, listing_status, end_line, IsLastPut, IsTextAnswer};
-ghost use Rattle.align_top.specs.Run.{IfAnswered, IfReadFault, IfWriteFault, IfCutShort, IsAsked, IsPut, IsPutInPart, IsEndOf, IsReadFailed};
+ghost use Rattle.align_top.specs.Output.{end_line, IsTextAnswer};
+ghost use Rattle.align_top.specs.Run.{IfAnswered, IfReadFault, IfWriteFault, IfCutShort, IsAsked, IsPut, IsPutInPart, IsReadFailed, AsksFor};
+ghost use Rattle.align_top.specs.Putting.{count_status, IsListingEnd};
 
 use crate::{
     Request, Status, TEXT_LIMIT, WordsFault, put_end, put_listing, read_front, read_words,
@@ -16,13 +16,8 @@ use crate::{
 use cleantax_text::{TextFault, TextKind, read_problem};
 use constraint_set::Problem;
 use outer_store::{Sink, Store, StoreFault};
-use rcc5_core::Position;
-use small_walk::worlds_of;
-use std::alloc::{AllocError, Global};
+use std::alloc::Global;
 use world_model::Switches;
-
-/// How many concepts a problem may have whose worlds are listed today.
-const MOST_CONCEPTS: u32 = 8;
 
 // How a run ends whose text is no problem.
 fn text_end(fault: TextFault) -> Status
@@ -42,56 +37,51 @@ fn text_end(fault: TextFault) -> Status
 #[tactic(auto, using(crate::proofs::RunLemmas::text_rules))]
 fn problem_of_text(alloc: Global, bytes: &[u8], switches: Switches) -> Result<Problem, Status>
     ensures problem { IfOk result (λ p. IsProblemText bytes.now switches p) }
-    ensures small { IfOk result (λ p. concept_count p ≤ 8) }
     ensures ended { IfErr result (λ status. IfAnswered status (IsTextAnswer (text_result bytes.now switches) status (end_line status))) }
     ensures own { IfErr result (λ status. IfReadFault status ⊥ × IfWriteFault status ⊥) }
 {
-    let problem = match read_problem(alloc, bytes, switches) {
-        Ok(problem) => problem,
-        Err(fault) => return Err(text_end(fault)),
-    };
-    if problem.concept_count() > MOST_CONCEPTS {
-        return Err(Status::NotBuilt);
+    match read_problem(alloc, bytes, switches) {
+        Ok(problem) => Ok(problem),
+        Err(fault) => Err(text_end(fault)),
     }
-    Ok(problem)
 }
 
-#[tactic(auto, using(crate::proofs::RunLemmas::status_rules))]
-fn status_of(worlds: &[Position]) -> Status
-    ensures { result ≡ listing_status worlds.now }
+// How a whole listing of so many worlds ends.
+fn status_of(count: u64) -> Status
+    ensures { result ≡ count_status count }
 {
-    if worlds.is_empty() {
+    if count == 0 {
         Status::NoWorld
     } else {
         Status::Done
     }
 }
 
-// Puts a listing, and answers how the run ends.
+// Puts the listing of a problem, and answers how the run ends.
 #[tactic(auto, using(crate::proofs::RunLemmas::end_rules))]
-fn end_listing<W: Sink>(alloc: Global, out: &mut W, worlds: &[Position]) -> Status
-    ensures ended { IsEndOf (listing_status worlds.now) (listing_text worlds.now) result (W.received out.old) (W.received out.new) (W.faults out.old) (W.faults out.new) }
+fn end_listing<W: Sink>(alloc: Global, out: &mut W, problem: &Problem) -> Status
+    ensures ended { IsListingEnd problem.now result (W.received out.old) (W.received out.new) (W.faults out.old) (W.faults out.new) }
 {
-    match put_listing(alloc, out, worlds) {
-        Ok(()) => status_of(worlds),
+    match put_listing(alloc, out, problem) {
+        Ok(count) => status_of(count),
         Err(StoreFault::Failed) => Status::WriteFault,
         Err(StoreFault::NoMemory) => put_end(alloc, out, Status::NoMemory),
     }
 }
 
-// The worlds that the words ask for, or how the run ends without them.
+// The problem whose worlds the words ask for, or how the run ends without it.
 #[tactic(auto, using(crate::proofs::RunLemmas::asked_rules))]
-fn worlds_of_words<S: Store>(
+fn problem_of_words<S: Store>(
     alloc: Global,
     words: &[String],
     store: &mut S,
-) -> Result<Vec<Position>, Status>
-    ensures worlds { IfOk result (λ worlds. IsAsked (map string_bytes words.now) (S.held store.old) (listing_status worlds.items) (listing_text worlds.items)) }
+) -> Result<Problem, Status>
+    ensures problem { IfOk result (AsksFor (map string_bytes words.now) (S.held store.old)) }
     ensures ended { IfErr result (λ status. IfAnswered status (IsAsked (map string_bytes words.now) (S.held store.old) status (end_line status))) }
     ensures contents { S.held store.new ≡ S.held store.old }
     ensures read_fault { IfErr result (λ status. IfReadFault status (IsReadFailed (map string_bytes words.now) (S.read_faults store.old) (S.read_faults store.new))) }
     ensures no_write { IfErr result (λ status. IfWriteFault status ⊥) }
-    ensures quiet_worlds { OnOk result (S.read_faults store.new ≡ S.read_faults store.old) }
+    ensures quiet_problem { OnOk result (S.read_faults store.new ≡ S.read_faults store.old) }
     ensures quiet_end { IfErr result (λ status. IfAnswered status (S.read_faults store.new ≡ S.read_faults store.old)) }
 {
     let Request::Align { input, switches } = match read_words(alloc, words) {
@@ -104,13 +94,9 @@ fn worlds_of_words<S: Store>(
         Err(StoreFault::Failed) => return Err(Status::ReadFault),
         Err(StoreFault::NoMemory) => return Err(Status::NoMemory),
     };
-    let problem = match problem_of_text(alloc, &bytes, switches) {
-        Ok(problem) => problem,
-        Err(status) => return Err(status),
-    };
-    match worlds_of(alloc, &problem) {
-        Ok(worlds) => Ok(worlds),
-        Err(AllocError) => Err(Status::NoMemory),
+    match problem_of_text(alloc, &bytes, switches) {
+        Ok(problem) => Ok(problem),
+        Err(status) => Err(status),
     }
 }
 
@@ -125,8 +111,8 @@ pub fn run<S: Store, W: Sink>(alloc: Global, words: &[String], store: &mut S, ou
     ensures cut_short { IfCutShort result (IsPutInPart (map string_bytes words.now) (S.held store.old) (W.received out.old) (W.received out.new)) }
     ensures contents { S.held store.new ≡ S.held store.old }
 {
-    match worlds_of_words(alloc, words, store) {
-        Ok(worlds) => end_listing(alloc, out, &worlds),
+    match problem_of_words(alloc, words, store) {
+        Ok(problem) => end_listing(alloc, out, &problem),
         Err(status) => put_end(alloc, out, status),
     }
 }

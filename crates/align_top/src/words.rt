@@ -2,7 +2,7 @@
 ghost use Rattle.std.specs.Prelude.{◌≡◌, ◌<◌, not, length, [], Ok, Err, IfOk, IfSome, IfNone, map, find, bytes_eq, string_bytes, unwrap_or};
 ghost use Rattle.std.specs.List.{list_any};
 ghost use Rattle.std.specs.Option.{option_copied};
-ghost use Rattle.align_top.specs.Words.{row_of, key_name, kind_of, same_key, command_named, is_equals, cut_word, key_among, key_in, is_switch, value_fault, is_given, operand_of, operands_of, value_of, is_on, switches_of, is_lacking, request_for, request_of, IfUsage};
+ghost use Rattle.align_top.specs.Words.{row_of, all_commands, key_name, kind_of, same_key, command_named, is_equals, cut_word, key_among, key_in, is_switch, value_fault, is_given, operand_of, operands_of, value_of, is_on, switches_of, is_lacking, request_for, request_of, IfUsage};
 
 use crate::{Command, Key, KeyKind, Operand, Request, UsageKind, Word, WordsFault};
 use std::alloc::{AllocError, Global};
@@ -15,6 +15,13 @@ static ALIGN_REQUIRED: [Key; 1] = [Key::In];
 static ALIGN_OPTIONAL: [Key; 3] = [Key::Nonempty, Key::Sibling, Key::Coverage];
 
 impl Command {
+    /// All of them, in the order of the table.
+    pub fn all() -> &'static [Command]
+        ensures { result.now ≡ all_commands }
+    {
+        &COMMANDS
+    }
+
     /// The word that stands for it.
     pub fn name(self) -> &'static str
         ensures { result.now ≡ (row_of self).name }
@@ -46,7 +53,7 @@ impl Command {
     fn named(word: &str) -> Option<Command>
         ensures { result ≡ command_named word.now }
     {
-        COMMANDS
+        Command::all()
             .iter()
             .find(|command| word == command.name())
             .copied()

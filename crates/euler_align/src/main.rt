@@ -1,8 +1,9 @@
 //! Lists the possible merged worlds of the taxonomies in a file.
 #![tactic(auto)]
 
-use align_top::run;
+use align_top::{Status, fault_place, read_words, run, text_help, usage_help};
 use outer_store::{FileStore, StdoutSink};
+use std::alloc::Global;
 use std::process::ExitCode;
 use std::{env, io};
 
@@ -41,6 +42,26 @@ fn words(rt: &HostRuntime) -> Result<Vec<String>, NoWords> {
     Ok(words)
 }
 
+// Tells people, on standard error, what a fault of theirs means: after a usage fault the words that
+// there are, and after a refused text where it is wrong and what to do about it.
+fn explain(rt: &impl Eprint, alloc: Global, words: &[String], status: Status) -> io::Result<()> {
+    match status {
+        Status::Usage(kind) => {
+            let help = usage_help(alloc)?;
+            eprint!(rt; "{kind}\n{help}")
+        }
+        Status::RefusedText { line, kind } => {
+            let Ok(request) = read_words(alloc, words) else {
+                return Ok(());
+            };
+            let place = fault_place(alloc, request.input(), line)?;
+            let sentence = text_help(kind);
+            eprintln!(rt; "{place}{sentence}")
+        }
+        _ => Ok(()),
+    }
+}
+
 fn main(rt: HostRuntime) -> ExitCode {
     let alloc = rt.alloc();
     let words = match words(&rt) {
@@ -50,5 +71,7 @@ fn main(rt: HostRuntime) -> ExitCode {
     let mut store = FileStore::new(alloc, &rt);
     let mut out = StdoutSink::new(&rt);
     let status = run(alloc, &words, &mut store, &mut out);
+    // How the run ended doesn't hang on whether this could be written.
+    let _ = explain(&rt, alloc, &words, status);
     ExitCode::from(status.code())
 }
