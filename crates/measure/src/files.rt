@@ -71,3 +71,17 @@ pub fn write<S: Store>(
         Err(StoreFault::NoMemory) => Err(AllocError),
     }
 }
+
+/// The bytes of a file, up to 4 MiB.
+pub fn bytes_of<S: Store>(alloc: Global, store: &mut S, name: &str) -> Result<Vec<u8>, StoreFault> {
+    let mut bytes = Vec::new(alloc);
+    let mut piece = vec![in alloc; 0u8; 65536]?;
+    'pieces: for _ in 0..64 {
+        let count = store.read(name, bytes.len() as u64, &mut piece)?;
+        if count == 0 {
+            return Ok(bytes);
+        }
+        bytes.extend_from_slice(&piece[..count])?;
+    }
+    Ok(bytes)
+}

@@ -1,12 +1,15 @@
-//! A small program for benchmarks and for tries on devices, which stand outside the gate: it reads or
-//! writes a file by the real store, or checks a long derivation, and prints what came of it.
+//! A small program for benchmarks and for tries on devices, which stand outside the gate. It prints what came of its words,
+//! which are one or more triples:
 //!
-//! Its words are one or more triples: `read FILE PIECES` reads pieces of 64 KiB, so many at most, up to
-//! the file's end; `write FILE PIECES` makes the file of so many pieces; `derive lines LINES` checks a
-//! derivation of so many lines, each with ten hints of five literals.
+//! - `read FILE PIECES` reads pieces of 64 KiB, so many at most, up to the file's end;
+//! - `write FILE PIECES` makes the file of so many pieces;
+//! - `derive lines LINES` checks a derivation of so many lines, each with ten hints of five literals;
+//! - `problem FILE 1` reads the problem in the file;
+//! - `family FILE TIMES` asks so many times whether a family of 1,000 elements meets the problem in the file and has its table.
 #![tactic(auto)]
 
 mod derive;
+mod families;
 mod files;
 
 use outer_store::FileStore;
@@ -30,6 +33,8 @@ fn answer(rt: &HostRuntime, command: &str, name: &str, count: &str) -> Result<St
         "read" => files::read(alloc, &mut FileStore::new(alloc, rt), name, count),
         "write" => files::write(alloc, &mut FileStore::new(alloc, rt), name, count),
         "derive" => derive::check(alloc, count),
+        "problem" => families::read(alloc, &mut FileStore::new(alloc, rt), name),
+        "family" => families::meet(alloc, &mut FileStore::new(alloc, rt), name, count),
         _ => format!(in alloc; "unknown"),
     }
 }
