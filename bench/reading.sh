@@ -1,10 +1,9 @@
 #!/usr/bin/env bash
-# Reads a problem text of 1 MiB with 1,024 concepts, 4,096 articulations and comments, and prints the
-# processor time and the peak memory. The program ends with `not built`, since there are too many
-# concepts to list today: what is measured is the reading and the making of the problem.
+# Reads a problem text of 1 MiB with 1,024 concepts, 4,096 articulations and comments into a problem,
+# and prints the processor time and the peak memory.
 set -eu
-cd "$(git rev-parse --show-toplevel)/crates/euler_align"
-[ -x out/euler_align ] || rt run >/dev/null
+cd "$(git rev-parse --show-toplevel)/crates/measure"
+[ -x out/measure ] || rt run >/dev/null
 file=$(mktemp)
 trap 'rm -f "$file"' EXIT
 python3 - "$file" <<'PYTHON'
@@ -31,7 +30,7 @@ PYTHON
 python3 - "$file" <<'PYTHON'
 import resource, subprocess, sys
 
-run = subprocess.run(["out/euler_align", "align", "in=" + sys.argv[1]], capture_output=True, text=True)
+run = subprocess.run(["out/measure", "problem", sys.argv[1], "1"], capture_output=True, text=True)
 used = resource.getrusage(resource.RUSAGE_CHILDREN)
 print(run.stdout.strip(), "status", run.returncode)
 print(f"{used.ru_utime + used.ru_stime:.3f} s, {used.ru_maxrss / 1024:.0f} MiB")
