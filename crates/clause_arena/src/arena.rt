@@ -135,6 +135,17 @@ impl Arena {
         }
     }
 
+    /// The clause at a place of the list; none where there are not so many.
+    pub fn nth(&self, place: usize) -> Option<Ref>
+        ensures { result ≡ (if nat_lt place (length self.now) then Some place else None) }
+    {
+        if place < self.heads.len() {
+            Some(Ref::new(place as u32))
+        } else {
+            None
+        }
+    }
+
     /// The clause after a clause of the list; none after the last one.
     pub fn after(&self, at: Ref) -> Option<Ref>
         requires { at < length self.now }

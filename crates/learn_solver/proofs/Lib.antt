@@ -7,7 +7,7 @@ mod Guidance
 mod Reasons
 mod StepLemmas
 mod Weighing
-mod Answering
+pub mod Answering
 mod Teaching
 mod Conflicts
 mod Idle

@@ -30,7 +30,7 @@ AreRecords-same one other given r h =
     record {
       enough = omega arith;
       live = λ at lt. (h.each at).live ∙ r.live at (omega arith);
-      numbered = λ at lt. (h.each at).id ∙ r.numbered at lt;
+      numbered = λ at lt. (h.each at).id ∙ r.numbered at (omega arith);
       apart = λ a b lt within e. r.apart a b lt (omega arith) (sym (h.each a).id ∙ e ∙ (h.each b).id);
       from_one = λ at lt. let id = (h.each at).id in let pos = r.from_one at (omega arith) in omega arith;
       most = λ at lt. let id = (h.each at).id in let bound = r.most at (omega arith) in omega arith;
@@ -93,7 +93,7 @@ unfolding state_of
 live-at records given at r within =
     elim (cases_lt at given) [
       | inl lt ↦
-          let number = r.numbered at lt in
+          let number = r.numbered at within in
           let some : eqb (record_at records at).id 0 ≡ false = ne_eqb (record_at records at).id 0 (omega arith) in
           let back : (record_at records at).id - 1 ≡ at = omega arith in
           let found : given_clause (map (λ (r : Record). r.lits) (take given records)) (record_at records at).id ≡ Some (record_at records at).lits = rw (some, back) (given-at records given at lt within) in
@@ -121,6 +121,18 @@ fresh-free records given id r lt =
     let none = given-none records given id (omega arith) in
     rw none (derived-none records given id (λ at from within e. let bound = r.most at within in absurd (omega arith)))
 
+-- no live clause has the id 0
+pub zero-free : (records : List Record) (given : ℕ) → AreRecords records given → live_clause (state_of records given) 0 ≡ None
+unfolding state_of
+zero-free records given r = derived-none records given 0 (λ at from within e. let pos = r.from_one at within in absurd (omega arith))
+
+-- the live clause of an id is that of the record whose number it is
+pub live-numbered : (records : List Record) (given id : ℕ) → AreRecords records given → 1 ≤ id → id ≤ length records → live_clause (state_of records given) id ≡ Some (record_at records (id - 1)).lits
+live-numbered records given id r least most =
+    let number = r.numbered (id - 1) (omega arith) in
+    let same : (record_at records (id - 1)).id ≡ id = omega arith in
+    subst (λ (n : ℕ). live_clause (state_of records given) n ≡ Some (record_at records (id - 1)).lits) same (live-at records given (id - 1) r (omega arith))
+
 -- one record more
 pub record-old : (records : List Record) (r : Record) (at : ℕ) → at < length records → record_at (records ++ r ∷ []) at ≡ record_at records at
 record-old records r at lt = get_or_append_left records (r ∷ []) no_record at lt
@@ -134,8 +146,8 @@ state-pushed records given id lits hints le =
     rw (take-append-le given records (new_record id lits ∷ []) le, drop-append-le given records (new_record id lits ∷ []) le, map-append {B = ℕ × List ℕ} (λ r. (r.id, r.lits)) (drop given records) (new_record id lits ∷ [])) refl
 
 -- one record more, with a fresh id; it may be one more given clause
-pub AreRecords-more : (records : List Record) (given more id : ℕ) (lits : List ℕ) → AreRecords records given → id ≡ length records + 1 → more ≤ length records + 1 → ((at : ℕ) → at < more → (record_at (records ++ new_record id lits ∷ []) at).id ≡ at + 1) → DerivedFollow (state_of (records ++ new_record id lits ∷ []) more) → AreRecords (records ++ new_record id lits ∷ []) more
-AreRecords-more records given more id lits r fresh enough numbered follow =
+pub AreRecords-more : (records : List Record) (given more id : ℕ) (lits : List ℕ) → AreRecords records given → id ≡ length records + 1 → more ≤ length records + 1 → DerivedFollow (state_of (records ++ new_record id lits ∷ []) more) → AreRecords (records ++ new_record id lits ∷ []) more
+AreRecords-more records given more id lits r fresh enough follow =
     let count : length (records ++ new_record id lits ∷ []) ≡ length records + 1 = length_push records (new_record id lits) in
     let old : (at : ℕ) → at < length records → record_at (records ++ new_record id lits ∷ []) at ≡ record_at records at = λ at lt. record-old records (new_record id lits) at lt in
     let new : (at : ℕ) → length records ≡ at → record_at (records ++ new_record id lits ∷ []) at ≡ new_record id lits = λ at e. record-new records (new_record id lits) at e in
@@ -147,7 +159,10 @@ AreRecords-more records given more id lits r fresh enough numbered follow =
         | inl early ↦ ap (λ (q : Record). q.live) (old at early) ∙ r.live at early
         | inr late ↦ ap (λ (q : Record). q.live) (new at (omega arith))
       ];
-      numbered = numbered;
+      numbered = λ at lt. elim (cases_lt at (length records)) [
+        | inl early ↦ let e = old_id at early in let n = r.numbered at early in omega arith
+        | inr late ↦ let e = new_id at (omega arith) in omega arith
+      ];
       apart = λ a b lt within e. elim (cases_lt b (length records)) [
         | inl early ↦ r.apart a b lt early (sym (old_id a (omega arith)) ∙ e ∙ old_id b early)
         | inr late ↦
@@ -171,8 +186,7 @@ AreRecords-more records given more id lits r fresh enough numbered follow =
 pub AreRecords-pushed : (records : List Record) (given id : ℕ) (lits : List ℕ) → AreRecords records given → id ≡ length records + 1 → DerivedFollow (state_of (records ++ new_record id lits ∷ []) given) → AreRecords (records ++ new_record id lits ∷ []) given
 AreRecords-pushed records given id lits r fresh follow =
     let enough = r.enough in
-    AreRecords-more records given given id lits r fresh (omega arith)
-    (λ at lt. let e = ap (λ (q : Record). q.id) (record-old records (new_record id lits) at (omega arith)) in let n = r.numbered at lt in omega arith) follow
+    AreRecords-more records given given id lits r fresh (omega arith) follow
 
 -- where nothing is derived, all records are given clauses
 pub given-all : (records : List Record) (given : ℕ) → (state_of records given).derived ≡ [] → length records ≤ given
@@ -205,10 +219,6 @@ pub AreRecords-given : (records : List Record) (given id : ℕ) (lits : List ℕ
 AreRecords-given records given id lits r all fresh =
     let size : length (records ++ new_record id lits ∷ []) ≡ length records + 1 = length_push records (new_record id lits) in
     AreRecords-more records given (given + 1) id lits r fresh (omega arith)
-    (λ at lt. elim (cases_lt at given) [
-      | inl early ↦ let e = ap (λ (q : Record). q.id) (record-old records (new_record id lits) at (omega arith)) in let n = r.numbered at early in omega arith
-      | inr late ↦ let e = ap (λ (q : Record). q.id) (record-new records (new_record id lits) at (omega arith)) in omega arith
-    ])
     (follow-nothing (state_of (records ++ new_record id lits ∷ []) (given + 1)) (derived-nothing (records ++ new_record id lits ∷ []) (given + 1) (omega arith)))
 
 pub AreNoted-pushed : (records : List Record) (r : Record) (given : ℕ) (noted : List Bool) → given ≤ length records → AreNoted records given noted → AreNoted (records ++ r ∷ []) given noted

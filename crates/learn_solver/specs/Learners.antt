@@ -23,12 +23,12 @@ seen l = record {
   idle = idle_of l.trail.places l.trail.records l.given;
 }
 
--- records, of which the first ones are given clauses: all are live, a given one's id is its number, no two have one id, and
--- no id is more than there are records
+-- records, of which the first ones are given clauses: all are live, each one's id is its number, no two have one id, and no
+-- id is more than there are records
 pub record AreRecords (records : List Record) (given : ℕ) : Type 0 where
   pub enough : given ≤ length records
   pub live : (at : ℕ) → at < length records → (record_at records at).live ≡ true
-  pub numbered : (at : ℕ) → at < given → (record_at records at).id ≡ at + 1
+  pub numbered : (at : ℕ) → at < length records → (record_at records at).id ≡ at + 1
   pub apart : (a b : ℕ) → a < b → b < length records → (record_at records a).id ≢ (record_at records b).id
   pub from_one : (at : ℕ) → at < length records → 1 ≤ (record_at records at).id
   pub most : (at : ℕ) → at < length records → (record_at records at).id ≤ length records

@@ -3,6 +3,7 @@
 
 mod heap;
 mod learner;
+mod literals;
 mod order;
 mod reading;
 mod search;

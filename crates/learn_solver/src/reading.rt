@@ -1,7 +1,8 @@
 //! What the search reads of the trail.
-ghost use Rattle.std.specs.Prelude.{◌≡◌, ◌==◌, ◌<◌, ◌≤◌, ◌⊎◌, ℕ, false, not, Some, length, slice_index_or, IfSome, IsTrue, Contains};
+ghost use Rattle.std.specs.Prelude.{◌≡◌, ◌==◌, ◌<◌, ◌≤◌, ◌⊎◌, ℕ, false, not, Some, length, slice_index_or, IfSome, MatchOption, IsTrue, Contains};
 ghost use Rattle.std.specs.Option.{option_map_or};
 ghost use Rattle.lits_core.specs.Literals.{variable_of, negation_of};
+ghost use Rattle.lits_core.specs.Derivation.{live_clause};
 ghost use Rattle.clause_arena.specs.Records.{record_at};
 ghost use Rattle.watch_arena.specs.Places.{place_at, place_of, is_true, reason_of};
 ghost use Rattle.conflict_clause.specs.Taught.{level_in, is_decided};
@@ -116,6 +117,17 @@ impl Learner {
             }
         }
         true
+    }
+
+    // The record of the live clause with an id.
+    pub(crate) fn find(&self, id: u64) -> Option<Ref>
+        requires { IsSound self.now }
+        ensures { MatchOption result (live_clause (seen self.now).state id ≡ None) (λ at. (at < length self.now.trail.records) × (live_clause (seen self.now).state id ≡ Some (record_at self.now.trail.records at).lits)) }
+    {
+        if id == 0 {
+            return None;
+        }
+        self.trail.arena().nth(id as usize - 1)
     }
 
     // Whether a clause is the reason of a literal's variable.

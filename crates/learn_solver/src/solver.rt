@@ -1,11 +1,12 @@
 //! The solver, as its users see it.
 ghost use Rattle.std.specs.Prelude.{◌≡◌, ◌+◌, [], length, IfOk, OnOk, OnErr, MatchResult, ⊤};
-ghost use Rattle.lits_core.specs.Derivation.{State, first_state};
+ghost use Rattle.lits_core.specs.Derivation.{State, first_state, live_clause};
 ghost use Rattle.watch_arena.specs.Trails.{AreInRange};
 ghost use Rattle.learn_solver.specs.Solving.{SolverState, GoesTo, IsSolver, AddsGiven, AreConsistent, IsModel, IsRefutation};
 ghost use Rattle.learn_solver.specs.Answers.{IsAnswer};
 
 use crate::learner::Learner;
+use crate::literals::Literals;
 use lits_core::{Bits, Line, Lit};
 use std::alloc::{AllocError, Global};
 use std::marker::Model;
@@ -71,6 +72,14 @@ impl Solver {
         ensures answer { IfOk result (IsAnswer self.new assumptions.now) }
     {
         self.learner.solve(assumptions)
+    }
+
+    /// The literals of the live clause with this id.
+    pub fn clause(&self, id: u64) -> Option<Literals<'_>>
+        ensures { result ≡ live_clause self.now.state id }
+    {
+        let at = self.learner.find(id)?;
+        Some(Literals::new(self.learner.trail.arena(), at))
     }
 
     /// The lines that wait.
