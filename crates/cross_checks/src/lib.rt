@@ -1,0 +1,5 @@
+//! Tests that set one crate beside another which knows nothing of it.
+#![tactic(auto)]
+
+#[cfg(test)]
+mod solver_and_book;
