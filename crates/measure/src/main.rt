@@ -5,12 +5,17 @@
 //! - `write FILE PIECES` makes the file of so many pieces;
 //! - `derive lines LINES` checks a derivation of so many lines, each with ten hints of five literals;
 //! - `problem FILE 1` reads the problem in the file;
-//! - `family FILE TIMES` asks so many times whether a family of 1,000 elements meets the problem in the file and has its table.
+//! - `family FILE TIMES` asks so many times whether a family of 1,000 elements meets the problem in the file and has its table;
+//! - `chain TIMES VARIABLES` propagates so many times along a chain of so many variables, each of which implies the next;
+//! - `random TIMES VARIABLES` assumes random literals over random clauses until one is false, so many times;
+//! - `solve FILE 1` gives the solver the formula in the file, which is in the DIMACS form.
 #![tactic(auto)]
 
 mod derive;
 mod families;
 mod files;
+mod propagation;
+mod solving;
 
 use outer_store::FileStore;
 use std::alloc::AllocError;
@@ -35,6 +40,9 @@ fn answer(rt: &HostRuntime, command: &str, name: &str, count: &str) -> Result<St
         "derive" => derive::check(alloc, count),
         "problem" => families::read(alloc, &mut FileStore::new(alloc, rt), name),
         "family" => families::meet(alloc, &mut FileStore::new(alloc, rt), name, count),
+        "chain" => propagation::follow_chain(alloc, files::number(name), count),
+        "random" => propagation::follow_random(alloc, files::number(name), count),
+        "solve" => solving::solve(alloc, &mut FileStore::new(alloc, rt), name),
         _ => format!(in alloc; "unknown"),
     }
 }
