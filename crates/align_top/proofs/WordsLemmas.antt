@@ -1,10 +1,11 @@
 -- Keys, operands and words.
 use Rattle.std.proofs.Common.{◌≡◌, ℕ, ◌+◌, ◌<◌, Bool, true, false, cond, List, [], ◌∷◌, ◌++◌, None, Some, Result, Ok, Err, length, map, drop, get_or, refl, sym, ap, ◌∙◌, arith}
 use Rattle.std.specs.Prelude.{string_bytes, bytes_eq}
-use Rattle.std.specs.List.{list_any, position_or_len, before_first, after_first}
+use Rattle.std.specs.List.{position_or_len, before_first, after_first}
 use Rattle.std.proofs.lemmas.List.{drop_more}
 use Rattle.std.specs.declared.string.String.{String}
 use Rattle.std.specs.declared.alloc.Global.{Global}
+use Rattle.cleantax_text.proofs.WordLemmas.{any_placed, none_placed}
 use Rattle.align_top.specs.declared.Key.{Key}
 use Rattle.align_top.specs.declared.Operand.{Operand}
 use Rattle.align_top.specs.declared.UsageKind.{UsageKind}
@@ -30,33 +31,12 @@ key_among-second (k ∷ ks) second name h = by (bytes_eq name (key_name k)) (key
 
 pub ruleset key_rules = (key_among-first, key_among-second)
 
--- an element passes the test where the first that does has a place
-any_placed : (p : ℕ → Bool) (xs : List ℕ) → position_or_len p xs < length xs → list_any p xs ≡ true
-any_placed p [] h = absurd (omega arith)
-any_placed p (x ∷ xs) h = by (any_placed p xs) (p x) refl h
-  where
-    by : (position_or_len p xs < length xs → list_any p xs ≡ true) → (b : Bool) → p x ≡ b → position_or_len p (x ∷ xs) < length (x ∷ xs) → list_any p (x ∷ xs) ≡ true
-    by rest true e g = rw e refl
-    by rest false e g =
-        let more : position_or_len p (x ∷ xs) ≡ 1 + position_or_len p xs = rw e refl in
-        rw e (rest (omega arith))
-
-none_placed : (p : ℕ → Bool) (xs : List ℕ) → position_or_len p xs ≡ length xs → list_any p xs ≡ false
-none_placed p [] h = refl
-none_placed p (x ∷ xs) h = by (none_placed p xs) (p x) refl h
-  where
-    by : (position_or_len p xs ≡ length xs → list_any p xs ≡ false) → (b : Bool) → p x ≡ b → position_or_len p (x ∷ xs) ≡ length (x ∷ xs) → list_any p (x ∷ xs) ≡ false
-    by rest true e g = let z : position_or_len p (x ∷ xs) ≡ 0 = rw e refl in absurd (omega arith)
-    by rest false e g =
-        let more : position_or_len p (x ∷ xs) ≡ 1 + position_or_len p xs = rw e refl in
-        rw e (rest (omega arith))
-
 -- a word with = is cut, and one without it is not
 pub cut_word-equals : (word : List ℕ) → position_or_len is_equals word < length word → cut_word word ≡ Some (before_first is_equals word, after_first is_equals word)
 cut_word-equals word h = rw (any_placed is_equals word h) refl
 
 pub cut_word-none : (word : List ℕ) → position_or_len is_equals word ≡ length word → cut_word word ≡ None
-cut_word-none word h = rw (none_placed is_equals word h) refl
+cut_word-none word h = rw (none_placed is_equals word (omega (arith, h))) refl
 
 pub ruleset cut_rules = (cut_word-equals, cut_word-none)
 

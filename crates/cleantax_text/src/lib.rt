@@ -83,7 +83,7 @@ impl From<AllocError> for TextKind {
 }
 
 impl From<AllocError> for TextFault {
-    ghost from_gives = { λ _ fault. fault.kind ≡ NoMemory };
+    ghost from_gives = { λ _ fault. (fault.line ≡ 0) × (fault.kind ≡ NoMemory) };
 
     fn from(_refused: AllocError) -> TextFault {
         TextFault {
