@@ -1,4 +1,5 @@
 pub mod Asking
 pub mod Answers
 pub mod Queries
-pub mod Seeking
+pub mod Stands
+pub mod Walks

@@ -3,8 +3,14 @@
 
 mod answers;
 mod asker;
+mod assume;
+mod fresh;
+mod given;
 mod query;
-mod seek;
+mod same;
+mod stand;
+mod waiting;
+mod walk;
 
 pub use answers::{Alive, Found, Points, Probe};
 pub use asker::Asker;
