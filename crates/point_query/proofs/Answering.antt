@@ -1,15 +1,15 @@
 -- What a walk whose needs are settled answers.
-use Rattle.std.proofs.Common.{Vec, Global, ◌≡◌, ℕ, ◌+◌, ◌*◌, ◌/◌, ◌%◌, ◌-◌, ◌<◌, ◌≤◌, Bool, true, false, cond, List, [], ◌∷◌, ◌++◌, length, get_or, inl, inr, refl, sym, ap, ◌∙◌, subst, arith}
+use Rattle.std.proofs.Common.{◌≡◌, ℕ, ◌+◌, ◌*◌, ◌/◌, ◌%◌, ◌-◌, ◌<◌, Bool, true, false, cond, List, [], ◌∷◌, ◌++◌, get_or, inl, inr, sym, ap, ◌∙◌, subst, arith}
 use Rattle.std.specs.Prelude.{IsTrue, Contains}
 use Rattle.std.proofs.lemmas.List.{append-nil}
 use Rattle.std.proofs.lemmas.Bool.{lt-ltb, le-ltb}
 use Rattle.rcc5_core.specs.declared.Rel.{Rel}
 use Rattle.rcc5_core.specs.declared.Occupancy.TheVariants.{Occupied}
-use Rattle.rcc5_core.specs.Region.{word_at, same_word, forced_regions}
+use Rattle.rcc5_core.specs.Region.{word_at, same_word}
 use Rattle.learn_solver.specs.Solving.{SolverState}
-use Rattle.world_model.specs.Problem.{Problem, concept_count, pair_count}
+use Rattle.world_model.specs.Problem.{Problem, pair_count}
 use Rattle.world_model.specs.Node.{pair_at}
-use Rattle.world_model.specs.Alive.{Need, InRegion, InConcept, allowed, all_allow, needs, problem_at, HasPoint, IsAlive}
+use Rattle.world_model.specs.Alive.{Need, InRegion, InConcept, all_allow, needs, problem_at, HasPoint, IsAlive}
 use Rattle.world_model.proofs.Members.{In, none_in, in_from_contains}
 use Rattle.world_model.proofs.PointAlive as alive
 use Rattle.cert_model.specs.Forced.{region_with}
@@ -84,15 +84,17 @@ pub numbered_need : (p : Problem) (need : code.Need) → IsInRange p need → (n
 numbered_need p (Region pair part) range =
     let small : 3 * pair + part < 3 * pair_count p = omega (arith, range) in
     let third : (3 * pair + part) / 3 ≡ pair = omega (arith, range) in
-    let rest : (3 * pair + part) % 3 ≡ part = omega (arith, range) in
-    (omega (arith, range),
-    ap (λ b. cond b (InRegion (pair_at p ((3 * pair + part) / 3)) (region_with ((3 * pair + part) % 3))) (InConcept ((3 * pair + part) - 3 * pair_count p))) (lt-ltb (3 * pair + part) (3 * pair_count p) small) ∙
-    ap (λ k. InRegion (pair_at p k) (region_with ((3 * pair + part) % 3))) third ∙ ap (λ k. InRegion (pair_at p pair) (region_with k)) rest)
+    let rest : (3 * pair + part) % 3 ≡ part = omega (arith, range) in (
+      omega (arith, range),
+      ap (λ b. cond b (InRegion (pair_at p ((3 * pair + part) / 3)) (region_with ((3 * pair + part) % 3))) (InConcept ((3 * pair + part) - 3 * pair_count p))) (lt-ltb (3 * pair + part) (3 * pair_count p) small) ∙
+          ap (λ k. InRegion (pair_at p k) (region_with ((3 * pair + part) % 3))) third ∙ ap (λ k. InRegion (pair_at p pair) (region_with k)) rest,
+    )
 numbered_need p (Concept c) range =
-    let left : (3 * pair_count p + c) - 3 * pair_count p ≡ c = omega arith in
-    (omega (arith, range),
-    ap (λ b. cond b (InRegion (pair_at p ((3 * pair_count p + c) / 3)) (region_with ((3 * pair_count p + c) % 3))) (InConcept ((3 * pair_count p + c) - 3 * pair_count p))) (le-ltb (3 * pair_count p + c) (3 * pair_count p) (omega arith)) ∙
-    ap InConcept left)
+    let left : (3 * pair_count p + c) - 3 * pair_count p ≡ c = omega arith in (
+      omega (arith, range),
+      ap (λ b. cond b (InRegion (pair_at p ((3 * pair_count p + c) / 3)) (region_with ((3 * pair_count p + c) % 3))) (InConcept ((3 * pair_count p + c) - 3 * pair_count p))) (le-ltb (3 * pair_count p + c) (3 * pair_count p) (omega arith)) ∙
+          ap InConcept left,
+    )
 
 pub numbered_needed : (p : Problem) (m : List Rel) (need : code.Need) → IsInRange p need → Contains (needs (problem_at p m)) (need_seen p need) → is_needed (problem_at p m) (number_of p need) ≡ true
 numbered_needed p m (Region pair part) range there =

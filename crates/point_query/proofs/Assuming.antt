@@ -1,6 +1,6 @@
 -- The selectors of a prefix, in the order in which they are assumed.
-use Rattle.std.proofs.Common.{◌≡◌, ℕ, zero, suc, ◌+◌, ◌*◌, ◌<◌, ◌≤◌, ◌⊎◌, Bool, true, false, cond, List, [], ◌∷◌, ◌++◌, map, length, get_or, take, append_assoc, inl, inr, refl, sym, ap, ◌∙◌, subst, arith}
-use Rattle.std.specs.Prelude.{flat_map, filter, Contains, Some, slice_get}
+use Rattle.std.proofs.Common.{◌≡◌, ℕ, zero, suc, ◌+◌, ◌*◌, ◌<◌, Bool, true, false, cond, List, [], ◌∷◌, ◌++◌, length, get_or, append_assoc, inl, inr, sym, ap, ◌∙◌, subst, arith}
+use Rattle.std.specs.Prelude.{flat_map, filter}
 use Rattle.std.specs.List.{range_with_len}
 use Rattle.std.proofs.lemmas.Bool.{cases_lt}
 use Rattle.std.proofs.lemmas.List.{append-nil}
@@ -14,7 +14,7 @@ use Rattle.world_model.specs.Problem.{Problem, concept_count, pairs, pair_count}
 use Rattle.world_model.specs.Node.{pair_at}
 use Rattle.world_model.specs.Alive.{allowed, forced_of, forced_pairs, problem_at}
 use Rattle.world_model.specs.Laws.{PositionsNarrow}
-use Rattle.world_model.proofs.Members.{In, here, there, none_in, In-map, from_map, In-filter, from_filter, In-left, In-right, from_append, In-flat_map, from_flat_map, In-range, from_range, in_from_contains, contains_from_in, IsImage, IsOf}
+use Rattle.world_model.proofs.Members.{In, none_in, In-map, from_map, In-filter, from_filter, In-left, In-right, from_append, In-flat_map, from_flat_map, In-range, from_range, in_from_contains, contains_from_in, IsImage, IsOf}
 use Rattle.world_model.proofs.PointSets.{Forces}
 use Rattle.constraint_set.specs.Readers.{sum_places}
 use Rattle.constraint_set.proofs.Lists.{range_more}

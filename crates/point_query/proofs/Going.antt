@@ -1,17 +1,16 @@
 -- The first pair that a prefix leaves nothing.
-use Rattle.std.proofs.Common.{◌≡◌, ◌≢◌, ℕ, zero, suc, ◌+◌, ◌<◌, ◌≤◌, Bool, true, false, ◌&&◌, not, List, [], ◌∷◌, ◌++◌, length, get_or, take, inl, inr, refl, sym, ap, ◌∙◌, subst, arith}
-use Rattle.std.specs.Prelude.{IsTrue, Option, Some, None, slice_get}
+use Rattle.std.proofs.Common.{◌≡◌, ℕ, ◌+◌, ◌<◌, ◌≤◌, Bool, true, false, ◌&&◌, not, List, [], ◌∷◌, ◌++◌, length, get_or, take, inl, inr, refl, sym, ap, ◌∙◌, subst, arith}
+use Rattle.std.specs.Prelude.{Option, Some, None, slice_get}
 use Rattle.std.proofs.lemmas.Option.{get_or_from_slice_get}
-use Rattle.std.specs.List.{list_all}
-use Rattle.std.proofs.lemmas.Bool.{cases_lt, false≢true, true≢false}
-use Rattle.std.proofs.lemmas.List.{get_or-take, take_all, length-take-le, take_more, get_or_default}
+use Rattle.std.proofs.lemmas.Bool.{cases_lt, true≢false}
+use Rattle.std.proofs.lemmas.List.{get_or-take, take_more, get_or_default}
 use Rattle.rcc5_core.specs.declared.Rel.{Rel}
 use Rattle.rcc5_core.specs.declared.Rel.TheVariants.{Equals, Includes, IncludedIn, Overlaps, Disjoint}
 use Rattle.rcc5_core.specs.declared.RelSet.{RelSet}
 use Rattle.rcc5_core.specs.RelationSet.{has, only, both_of, is_empty_set}
 use Rattle.world_model.specs.Problem.{Problem, pairs, pair_count}
 use Rattle.world_model.specs.Node.{pair_at}
-use Rattle.world_model.specs.Alive.{allowed, all_allow, problem_at}
+use Rattle.world_model.specs.Alive.{allowed, problem_at}
 use Rattle.world_model.specs.Laws.{PositionsNarrow}
 use Rattle.world_model.proofs.Members.{all_at, In-get_or}
 use Rattle.world_model.proofs.PointSets.{has_some}
@@ -71,12 +70,12 @@ empty_at_prefix law p m None o allow =
 empty_at_prefix law p m (Some pair) o first = elim (cases_lt pair (length m)) [
   | inl inside ↦ absurd (true≢false (sym first.empty ∙ has_some (allowed p (pair_at p pair)) (get_or m pair Equals) (o.each pair inside)))
   | inr past ↦ record {
-      within = first.within;
-      empty = ap is_empty_set (law.beyond p m pair past first.within) ∙ first.empty;
-      first = λ k h. elim (cases_lt k (length m)) [
-        | inl before ↦ open_allows law p m k o before
-        | inr beyond ↦ ap (λ set. not (is_empty_set set)) (law.beyond p m k beyond (omega (arith, first.within))) ∙ first.first k h
-      ];
+    within = first.within;
+    empty = ap is_empty_set (law.beyond p m pair past first.within) ∙ first.empty;
+    first = λ k h. elim (cases_lt k (length m)) [
+      | inl before ↦ open_allows law p m k o before
+      | inr beyond ↦ ap (λ set. not (is_empty_set set)) (law.beyond p m k beyond (omega (arith, first.within))) ∙ first.first k h
+    ];
   }
 ]
 

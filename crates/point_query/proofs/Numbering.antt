@@ -1,20 +1,18 @@
 -- The needs of a problem, number by number.
-use Rattle.std.proofs.Common.{◌≡◌, ℕ, zero, suc, ◌+◌, ◌-◌, ◌*◌, ◌/◌, ◌%◌, ◌<◌, ◌≤◌, Bool, true, false, cond, List, [], ◌∷◌, ◌++◌, map, length, get_or, append_assoc, refl, sym, ap, ◌∙◌, subst, inl, inr, arith}
-use Rattle.std.specs.Prelude.{flat_map, filter, Contains, nat_lt, if◌then◌else◌}
+use Rattle.std.proofs.Common.{◌≡◌, ℕ, zero, suc, ◌+◌, ◌-◌, ◌*◌, ◌/◌, ◌%◌, ◌<◌, ◌≤◌, Bool, true, false, cond, List, [], ◌∷◌, ◌++◌, map, length, get_or, append_assoc, refl, sym, ap, ◌∙◌, subst, arith}
+use Rattle.std.specs.Prelude.{flat_map, if◌then◌else◌}
 use Rattle.std.specs.List.{range_with_len}
-use Rattle.std.proofs.lemmas.Bool.{lt-ltb, le-ltb, cases_Bool}
+use Rattle.std.proofs.lemmas.Bool.{lt-ltb, le-ltb}
 use Rattle.std.proofs.lemmas.List.{append-nil}
 use Rattle.std.proofs.lemmas.Grind.{flat_map-append}
-use Rattle.rcc5_core.specs.declared.Rel.{Rel}
 use Rattle.rcc5_core.specs.declared.Region.{Region}
 use Rattle.rcc5_core.specs.declared.Region.TheVariants.{LeftOnly, Both, RightOnly}
-use Rattle.rcc5_core.specs.declared.Regions.{Regions}
 use Rattle.rcc5_core.specs.declared.Occupancy.TheVariants.{Occupied}
-use Rattle.rcc5_core.specs.Region.{all_regions, word_at, same_word, forced_regions}
+use Rattle.rcc5_core.specs.Region.{word_at, same_word, forced_regions}
 use Rattle.world_model.specs.Problem.{Problem, concept_count, concepts, pairs, pair_count}
 use Rattle.world_model.specs.Node.{pair_at}
-use Rattle.world_model.specs.Alive.{Need, InRegion, InConcept, allowed, forced_of, forced_pairs, needs_at, needs}
-use Rattle.world_model.proofs.Members.{In, here, there, none_in, In-flat_map, from_flat_map, In-range, from_range, contains_from_in, IsOf}
+use Rattle.world_model.specs.Alive.{Need, InRegion, InConcept, allowed, forced_of, needs_at, needs}
+use Rattle.world_model.proofs.Members.{In, here, there, none_in, In-flat_map, from_flat_map, In-range, from_range, IsOf}
 use Rattle.constraint_set.proofs.Lists.{range_split, range_more}
 use Rattle.cert_model.specs.Forced.{region_with}
 use Rattle.point_query.specs.Stands.{forced_at, need_at, is_needed, one_need, needs_below}

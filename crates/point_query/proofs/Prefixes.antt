@@ -1,26 +1,25 @@
 -- What a prefix forces, each longer open prefix forces: so its points are points of the shorter ones, and needs stay needs.
-use Rattle.std.proofs.Common.{◌≡◌, ℕ, ◌+◌, ◌*◌, ◌/◌, ◌%◌, ◌<◌, ◌≤◌, Bool, true, false, ◌&&◌, not, cond, List, [], ◌∷◌, ◌++◌, length, get_or, take, inl, inr, refl, sym, ap, ◌∙◌, subst, arith}
-use Rattle.std.specs.Prelude.{IsTrue, nat_lt, if◌then◌else◌}
-use Rattle.std.specs.List.{list_all}
-use Rattle.std.proofs.lemmas.Bool.{cases_eq, cases_lt, cases_Bool, false≢true, true≢false, false_from_ne_true, lt-ltb, le-ltb, ltb-true}
-use Rattle.std.proofs.lemmas.List.{get_or-take, length-take-le, length-append, get_or_append_left, get_or_push, take_all}
+use Rattle.std.proofs.Common.{◌≡◌, ℕ, ◌+◌, ◌*◌, ◌/◌, ◌%◌, ◌<◌, ◌≤◌, Bool, true, false, ◌&&◌, not, List, [], ◌∷◌, ◌++◌, length, get_or, take, inl, inr, refl, sym, ap, ◌∙◌, subst, arith}
+use Rattle.std.specs.Prelude.{if◌then◌else◌}
+use Rattle.std.proofs.lemmas.Bool.{cases_eq, cases_lt, false≢true, false_from_ne_true, lt-ltb, le-ltb}
+use Rattle.std.proofs.lemmas.List.{get_or-take, length-take-le, length-append, get_or_append_left, get_or_push}
 use Rattle.rcc5_core.specs.declared.Rel.{Rel}
 use Rattle.rcc5_core.specs.declared.Rel.TheVariants.{Equals, Includes, IncludedIn, Overlaps, Disjoint}
 use Rattle.rcc5_core.specs.declared.RelSet.{RelSet}
 use Rattle.rcc5_core.specs.declared.Region.{Region}
 use Rattle.rcc5_core.specs.declared.Occupancy.TheVariants.{Empty, Occupied}
 use Rattle.rcc5_core.specs.RelationSet.{has, only, is_empty_set}
-use Rattle.rcc5_core.specs.Region.{all_regions, word_at, same_word, forced_regions, row_of}
+use Rattle.rcc5_core.specs.Region.{word_at, same_word, forced_regions, row_of}
 use Rattle.world_model.specs.Problem.{Problem, pairs, pair_count}
 use Rattle.world_model.specs.Node.{pair_at}
-use Rattle.world_model.specs.Alive.{allowed, lies_in, avoids, meets_structure, is_point, problem_at}
+use Rattle.world_model.specs.Alive.{allowed, lies_in, avoids, is_point, problem_at}
 use Rattle.world_model.specs.Laws.{PositionsNarrow}
 use Rattle.world_model.proofs.Members.{In, all_at, In-get_or, place_of, IsPlaced}
-use Rattle.world_model.proofs.PointSets.{IsInside, Forces, forces_inside, has_some, In-all_regions}
+use Rattle.world_model.proofs.PointSets.{Forces, forces_inside, In-all_regions}
 use Rattle.world_model.proofs.PointAlive.{Pointed, point_parts, point_whole}
 use Rattle.cert_model.specs.Forced.{region_with}
 use Rattle.point_query.specs.Stands.{IsOpen, forced_at, is_needed}
-use Rattle.point_query.proofs.Standing.{allowed_inside, open_fewer, open_more, forced_only}
+use Rattle.point_query.proofs.Standing.{allowed_inside, open_fewer, forced_only}
 
 -- the set of one relation is inside each set that has it
 only_inside : (set : RelSet) (rel other : Rel) → has set rel ≡ true → has (only rel) other ≡ true → has set other ≡ true

@@ -1,13 +1,10 @@
 -- Points beside the needs that they serve.
-use Rattle.std.proofs.Common.{◌≡◌, ℕ, suc, ◌+◌, ◌<◌, ◌≤◌, Bool, true, List, [], ◌∷◌, ◌++◌, map, length, get_or, take, drop, refl, sym, ap, ◌∙◌, subst, arith}
-use Rattle.std.specs.Prelude.{All, IsTrue}
+use Rattle.std.proofs.Common.{◌≡◌, ℕ, suc, ◌<◌, Bool, true, List, [], ◌∷◌, ◌++◌, length, get_or, refl, sym, subst, arith}
+use Rattle.std.specs.Prelude.{IsTrue}
 use Rattle.std.specs.List.{list_all, list_any}
-use Rattle.std.proofs.lemmas.Bool.{and_parts, and_from, or_left, or_right, eqb-true}
-use Rattle.std.proofs.lemmas.List.{map-append, length-append, take_more, get_or_append_left, take-append-drop, drop_more}
-use Rattle.std.proofs.lemmas.List.Elements.{All-push, All-head, All-tail, All-weaker}
-use Rattle.rcc5_core.specs.declared.Rel.{Rel}
-use Rattle.world_model.specs.Problem.{Problem, concept_count}
-use Rattle.world_model.specs.Alive.{Need, all_allow, needs, problem_at, meets_structure, is_point, is_in_need, HasPoint, IsAlive, each_has_one, avoids, forced_pairs}
+use Rattle.std.proofs.lemmas.Bool.{and_parts, and_from, or_left, or_right}
+use Rattle.world_model.specs.Problem.{Problem}
+use Rattle.world_model.specs.Alive.{Need, all_allow, needs, is_point, is_in_need, HasPoint, IsAlive, each_has_one}
 use Rattle.world_model.proofs.Members.{In, here, there, none_in, in_from_contains}
 use Rattle.point_query.specs.Answers.{EachServed, IsServed}
 

@@ -1,13 +1,13 @@
 -- What is forced of pairs as a prefix grows and shrinks.
-use Rattle.std.proofs.Common.{◌≡◌, ◌≢◌, ℕ, zero, suc, ◌+◌, ◌-◌, ◌*◌, ◌/◌, ◌%◌, ◌<◌, ◌≤◌, Bool, true, false, ◌&&◌, not, List, [], ◌∷◌, ◌++◌, length, get_or, set, take, inl, inr, refl, sym, ap, ◌∙◌, subst, arith}
-use Rattle.std.specs.Prelude.{IsTrue, Option, nat_lt, if◌then◌else◌}
+use Rattle.std.proofs.Common.{◌≡◌, ◌≢◌, ℕ, ◌+◌, ◌*◌, ◌/◌, ◌%◌, ◌<◌, ◌≤◌, Bool, true, false, ◌&&◌, List, [], ◌∷◌, ◌++◌, length, get_or, set, take, inl, inr, refl, sym, ap, ◌∙◌, arith}
+use Rattle.std.specs.Prelude.{Option, nat_lt, if◌then◌else◌}
 use Rattle.std.proofs.lemmas.Bool.{cases_eq, cases_lt, lt-ltb, le-ltb}
-use Rattle.std.proofs.lemmas.List.{get_or-set_same, get_or-set_other, get_or_append_left, get_or_push, get_or-take, get_or_default, length-set, length-append, length-take-le, take_more, take_all, get_or_at}
+use Rattle.std.proofs.lemmas.List.{get_or-set_same, get_or-set_other, get_or_append_left, get_or_push, get_or-take, length-set, length-append, length-take-le}
 use Rattle.rcc5_core.specs.declared.Rel.{Rel}
 use Rattle.rcc5_core.specs.declared.Rel.TheVariants.{Equals, Includes, IncludedIn, Overlaps, Disjoint}
 use Rattle.rcc5_core.specs.declared.RelSet.{RelSet}
 use Rattle.rcc5_core.specs.declared.Regions.{Regions}
-use Rattle.rcc5_core.specs.RelationSet.{has, only, both_of, is_empty_set}
+use Rattle.rcc5_core.specs.RelationSet.{has, only, both_of}
 use Rattle.rcc5_core.specs.declared.Occupancy.TheVariants.{Occupied}
 use Rattle.rcc5_core.specs.Region.{forced_regions, row_of, word_at, same_word}
 use Rattle.world_model.specs.Problem.{Problem, pair_count}
@@ -123,14 +123,15 @@ forced_fewer law p m n start now d o one begin are =
 -- the forced regions of one pair more
 pub regions_more : (p : Problem) (regions : List Regions) (more : Regions) (i : ℕ) → length regions ≡ i → ((k : ℕ) (d : Regions) → k < i → get_or regions k d ≡ forced_at p k) →
     more ≡ forced_at p i → (length (regions ++ more ∷ []) ≡ i + 1) × ((k : ℕ) (d : Regions) → k < i + 1 → get_or (regions ++ more ∷ []) k d ≡ forced_at p k)
-regions_more p regions more i counted each is =
-    (omega (arith, length-append regions (more ∷ [])),
-    λ k d small. elim (cases_lt k i) [
-      | inl before ↦ get_or_append_left regions (more ∷ []) d k (omega arith) ∙ each k d before
-      | inr here ↦
-          let same : k ≡ i = omega arith in
-          get_or_push regions more d k (counted ∙ sym same) ∙ is ∙ ap (forced_at p) (sym same)
-    ])
+regions_more p regions more i counted each is = (
+  omega (arith, length-append regions (more ∷ [])),
+  λ k d small. elim (cases_lt k i) [
+    | inl before ↦ get_or_append_left regions (more ∷ []) d k (omega arith) ∙ each k d before
+    | inr here ↦
+        let same : k ≡ i = omega arith in
+        get_or_push regions more d k (counted ∙ sym same) ∙ is ∙ ap (forced_at p) (sym same)
+  ],
+)
 
 -- what is kept of a prefix, with one relation more and with the last one taken off
 pub stand_more : PositionsNarrow → (p : Problem) (m : List Rel) (at_start at_path : List Regions) (empty : Option ℕ) (rel : Rel) (n : ℕ) → IsStand p m at_start at_path empty →

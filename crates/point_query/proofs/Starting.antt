@@ -1,22 +1,21 @@
 -- Points of other problems of a shape, tested against a problem.
-use Rattle.std.proofs.Common.{◌≡◌, ℕ, zero, suc, ◌+◌, ◌<◌, ◌≤◌, Bool, true, false, ◌&&◌, ◌||◌, not, cond, List, [], ◌∷◌, ◌++◌, length, get_or, take, drop, inl, inr, refl, sym, ap, ◌∙◌, subst, arith}
+use Rattle.std.proofs.Common.{◌≡◌, ℕ, suc, ◌+◌, ◌<◌, ◌≤◌, Bool, true, false, ◌&&◌, ◌||◌, not, cond, List, [], ◌∷◌, ◌++◌, length, get_or, take, drop, inl, inr, refl, sym, ap, ◌∙◌, subst, arith}
 use Rattle.std.specs.Prelude.{IsTrue, Option, Some, None, IfSome, IfNone, filter, filter_map, slice_get}
-use Rattle.std.specs.List.{list_all, list_any, range_with_len, items_where_true}
+use Rattle.std.specs.List.{list_all, range_with_len, items_where_true}
 use Rattle.std.proofs.lemmas.Bool.{cases_Bool, cases_lt, and_from, false≢true}
-use Rattle.std.proofs.lemmas.List.{drop_more, drop_all, take_more, length-append, length-take-le, get_or_append_left, get_or_push, get_or-take}
+use Rattle.std.proofs.lemmas.List.{drop_more, drop_all, take_more, length-append, length-take-le, get_or_append_left, get_or_push}
 use Rattle.std.proofs.lemmas.Option.{slice_get_within, get_or_from_slice_get}
 use Rattle.std.proofs.lemmas.List.Elements.{filter-append}
 use Rattle.rcc5_core.specs.declared.Regions.{Regions}
-use Rattle.rcc5_core.specs.declared.Region.{Region}
 use Rattle.rcc5_core.specs.declared.Region.TheVariants.{LeftOnly, Both, RightOnly}
 use Rattle.rcc5_core.specs.declared.Occupancy.TheVariants.{Empty}
-use Rattle.rcc5_core.specs.Region.{all_regions, word_at, same_word, forced_regions}
+use Rattle.rcc5_core.specs.Region.{word_at, same_word, forced_regions}
 use Rattle.world_model.specs.declared.Articulation.{Articulation}
 use Rattle.world_model.specs.declared.Articulation.TheVariants.{Pair, Sum}
 use Rattle.world_model.specs.Problem.{Problem, pairs, pair_count, kept_sums, as_sum}
 use Rattle.world_model.specs.Node.{pair_at}
 use Rattle.world_model.specs.Alive.{allowed, forced_of, forced_pairs, bit_of, lies_in, avoids, point_sums, is_point}
-use Rattle.world_model.proofs.Members.{In, here, there, none_in, all_at, all_from, In-filter, from_filter, In-get_or, In-range, from_range}
+use Rattle.world_model.proofs.Members.{all_at, In-filter, from_filter, In-get_or, In-range, from_range}
 use Rattle.constraint_set.proofs.Lists.{range_more}
 use Rattle.point_query.specs.Stands.{forced_at}
 use Rattle.point_query.specs.Walks.{IsUnstruck, point_at, depth_at, meets_trees, avoids_by, has_empty, empty_pairs, avoids_at, sum_holds, sums_from, AreStarted}

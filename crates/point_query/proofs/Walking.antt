@@ -1,5 +1,5 @@
 -- How points are struck out and taken back, and needs watched, along a walk.
-use Rattle.std.proofs.Common.{Vec, Global, ◌≡◌, ◌≢◌, ℕ, zero, suc, ◌+◌, ◌-◌, ◌*◌, ◌/◌, ◌%◌, ◌<◌, ◌≤◌, ◌⊎◌, Bool, true, false, ◌&&◌, not, List, [], ◌∷◌, ◌++◌, length, get_or, set, take, inl, inr, refl, sym, ap, ◌∙◌, subst, arith}
+use Rattle.std.proofs.Common.{Vec, Global, ◌≡◌, ◌≢◌, ℕ, zero, suc, ◌+◌, ◌*◌, ◌<◌, ◌≤◌, ◌⊎◌, Bool, true, List, [], ◌∷◌, ◌++◌, length, get_or, set, take, inl, inr, refl, sym, ap, ◌∙◌, subst, arith}
 use Rattle.std.specs.Prelude.{IsTrue, Option, Some, None, All, Contains}
 use Rattle.std.proofs.lemmas.Bool.{cases_eq, cases_lt, and_parts}
 use Rattle.std.specs.List.{list_all}
@@ -8,7 +8,7 @@ use Rattle.std.proofs.lemmas.List.{get_or-set_same, get_or-set_other, set_past, 
 use Rattle.rcc5_core.specs.declared.Rel.{Rel}
 use Rattle.rcc5_core.specs.declared.Regions.{Regions}
 use Rattle.lits_core.specs.declared.Bits.{Bits}
-use Rattle.world_model.specs.Problem.{Problem, pair_count, kept_sums}
+use Rattle.world_model.specs.Problem.{Problem, kept_sums}
 use Rattle.world_model.specs.Node.{pair_at}
 use Rattle.world_model.specs.Alive.{point_sums, meets_structure, is_point, is_in_need, forced_pairs, avoids, problem_at, HasPoint}
 use Rattle.world_model.specs.Laws.{PositionsNarrow}
@@ -17,7 +17,7 @@ use Rattle.constraint_set.specs.Shape.{shape_of}
 use Rattle.point_query.specs.declared.walk.Walk.{Walk}
 use Rattle.point_query.specs.declared.waiting.Numbers.{Numbers}
 use Rattle.point_query.specs.Stands.{StandState, IsOpen, need_at, is_needed}
-use Rattle.point_query.specs.Walks.{IsUnstruck, IsStruckBeyond, IsUndone, point_at, depth_at, served_at, ArePooled, IsFit, IsServed, IsServedNow, IsAdded, IsKept, IsNeeded, AreStarted, meets_trees, AreWatched, IsWalk, IsWalkBut, StrikesOut, IsStriking, need_count}
+use Rattle.point_query.specs.Walks.{IsUnstruck, IsStruckBeyond, IsUndone, point_at, depth_at, served_at, ArePooled, IsFit, IsServed, IsServedNow, IsAdded, IsKept, IsNeeded, AreStarted, meets_trees, IsWalk, IsWalkBut, StrikesOut, IsStriking, need_count}
 use Rattle.point_query.proofs.Prefixes.{point_more, point_later, needed_later, needed_before}
 
 -- a depth beyond n was not reached at n or before
@@ -86,12 +86,15 @@ striking_left w regions i is left =
       ];
       each = λ number within needed. elim (is.each number within needed) [
         | inl waits ↦ inl waits
-        | inr served ↦ inr (served.0, λ small. elim (cases_eq (get_or w.witness.items number 0) i) [
-          | inr apart ↦ served.1 (omega arith)
-          | inl same ↦
-              let kept : IsUnstruck n (depth_at w.depths.items i) = subst (λ k. IsUnstruck n (depth_at w.depths.items k)) same served.0.0.kept in
-              subst (λ k. IsUnstruck (n + 1) (depth_at w.depths.items k)) (sym same) (left kept).0
-        ])
+        | inr served ↦ inr (
+          served.0,
+          λ small. elim (cases_eq (get_or w.witness.items number 0) i) [
+            | inr apart ↦ served.1 (omega arith)
+            | inl same ↦
+                let kept : IsUnstruck n (depth_at w.depths.items i) = subst (λ k. IsUnstruck n (depth_at w.depths.items k)) same served.0.0.kept in
+                subst (λ k. IsUnstruck (n + 1) (depth_at w.depths.items k)) (sym same) (left kept).0
+          ],
+        )
       ];
     }
 
@@ -160,9 +163,13 @@ striking_out old new regions i depth is within deep kept out =
           | inl same ↦ inl (out.moved number (subst (λ k. Contains (served_at old.serves.items k) number) same served.0.1))
           | inr apart ↦
               let depth_stays : depth_at (set old.depths.items i (Some depth)) place ≡ depth_at old.depths.items place = set_apart old.depths.items i place depth apart in
-              inr ((record { there = served.0.0.there; kept = subst (λ d. IsUnstruck (length old.stand.path) d) (sym depth_stays) served.0.0.kept; in_need = served.0.0.in_need },
-              subst (λ ns. Contains ns number) (sym (out.others place apart)) served.0.1),
-              λ small. subst (λ d. IsUnstruck (length old.stand.path + 1) d) (sym depth_stays) (served.1 (omega arith)))
+              inr (
+                (
+                  record { there = served.0.0.there; kept = subst (λ d. IsUnstruck (length old.stand.path) d) (sym depth_stays) served.0.0.kept; in_need = served.0.0.in_need },
+                  subst (λ ns. Contains ns number) (sym (out.others place apart)) served.0.1,
+                ),
+                λ small. subst (λ d. IsUnstruck (length old.stand.path + 1) d) (sym depth_stays) (served.1 (omega arith)),
+              )
         ]
 
 -- one number more of which it is known that it waits or is served, if it is a need
@@ -221,12 +228,15 @@ walk_back law w n stand depths struck is o fewer same counted undone places =
       };
       watched = λ number within needed. elim (is.watched number within (needed_later law p m n number o fewer needed)) [
         | inl waits ↦ inl waits
-        | inr served ↦ inr (record {
+        | inr served ↦ inr (
+          record {
             there = served.0.there;
             kept = subst (λ e. IsUnstruck e (depth_at depths.items (get_or w.witness.items number 0))) (sym short)
                 ((undone (get_or w.witness.items number 0)).later (length m) fewer served.0.kept);
             in_need = served.0.in_need;
-        }, served.1)
+          },
+          served.1,
+        )
       ];
     })
 
@@ -265,11 +275,14 @@ walk_more law w rel stand o more is same =
           let before = needed_before law p m rel number more o (λ small here. counts.1 (omega arith) (omega arith)) counts.0 in
           elim (is.each number within before) [
             | inl waits ↦ inl waits
-            | inr served ↦ inr (record {
+            | inr served ↦ inr (
+              record {
                 there = served.0.0.there;
                 kept = subst (λ e. IsUnstruck e (depth_at w.depths.items (get_or w.witness.items number 0))) (sym longer) (served.1 served.0.0.there);
                 in_need = served.0.0.in_need;
-            }, served.0.1)
+              },
+              served.0.1,
+            )
           ];
     })
 
@@ -286,25 +299,27 @@ assigned w number place witness slots serves is within fit by same lists =
     ap (λ ls. served_at ls place) lists ∙ get_or-set_same w.serves.items place (served_at w.serves.items place ++ number ∷ []) [] (omega (arith, fit.there)) in
     let mine : get_or witness.items number 0 ≡ place = ap (λ ks. get_or ks number 0) by ∙ get_or-set_same w.witness.items number place 0 (omega (arith, is.kept.numbered)) in
     let now : IsServed p n w.points.items w.depths.items serves.items number place = (fit, subst (λ ns. Contains ns number) (sym listed) (Contains-push (served_at w.serves.items place) number)) in
-    let served : IsServed p n w.points.items w.depths.items serves.items number (get_or witness.items number 0) = subst (λ k. IsServed p n w.points.items w.depths.items serves.items number k) (sym mine) now in
-    (record {
-      kept = record {
-        pooled = is.kept.pooled;
-        counted = ap length lists ∙ length-set w.serves.items place (served_at w.serves.items place ++ number ∷ []) ∙ sized;
-        numbered = ap length by ∙ length-set w.witness.items number place ∙ is.kept.numbered;
-        slotted = same ∙ is.kept.slotted;
-        places = is.kept.places;
-      };
-      watched = λ other small needed. elim (cases_eq other number) [
-        | inl here ↦ inr (subst (λ k. IsServed p n w.points.items w.depths.items serves.items k (get_or witness.items k 0)) (sym here) served)
-        | inr apart ↦ elim (is.watched other small (needed, λ above below. apart (omega arith))) [
-          | inl waits ↦ inl waits
-          | inr old ↦
-              let stays : get_or witness.items other 0 ≡ get_or w.witness.items other 0 = ap (λ ks. get_or ks other 0) by ∙ get_or-set_other w.witness.items number other place 0 apart in
-              inr (subst (λ k. IsServed p n w.points.items w.depths.items serves.items other k) (sym stays) (old.0, still other (get_or w.witness.items other 0) old.1))
-        ]
-      ];
-    }, served)
+    let served : IsServed p n w.points.items w.depths.items serves.items number (get_or witness.items number 0) = subst (λ k. IsServed p n w.points.items w.depths.items serves.items number k) (sym mine) now in (
+      record {
+        kept = record {
+          pooled = is.kept.pooled;
+          counted = ap length lists ∙ length-set w.serves.items place (served_at w.serves.items place ++ number ∷ []) ∙ sized;
+          numbered = ap length by ∙ length-set w.witness.items number place ∙ is.kept.numbered;
+          slotted = same ∙ is.kept.slotted;
+          places = is.kept.places;
+        };
+        watched = λ other small needed. elim (cases_eq other number) [
+          | inl here ↦ inr (subst (λ k. IsServed p n w.points.items w.depths.items serves.items k (get_or witness.items k 0)) (sym here) served)
+          | inr apart ↦ elim (is.watched other small (needed, λ above below. apart (omega arith))) [
+            | inl waits ↦ inl waits
+            | inr old ↦
+                let stays : get_or witness.items other 0 ≡ get_or w.witness.items other 0 = ap (λ ks. get_or ks other 0) by ∙ get_or-set_other w.witness.items number other place 0 apart in
+                inr (subst (λ k. IsServed p n w.points.items w.depths.items serves.items other k) (sym stays) (old.0, still other (get_or w.witness.items other 0) old.1))
+          ]
+        ];
+      },
+      served,
+    )
   where
     still : (other k : ℕ) → Contains (served_at w.serves.items k) other → Contains (served_at serves.items k) other
     still other k h = elim (cases_eq k place) [
@@ -339,38 +354,43 @@ point_added law w bits low high points depths serves is o point by deep lists =
     let depth_stays = λ (place : ℕ) (h : place < k). ap (λ ds. depth_at ds place) deep ∙ get_or_append_left w.depths.items (None ∷ []) None place (omega arith) in
     let list_stays = λ (place : ℕ) (h : place < k). ap (λ ls. served_at ls place) lists ∙ get_or_append_left w.serves.items ([] ∷ []) [] place (omega arith) in
     let new_point : point_at points.items k ≡ bits = ap (λ ps. point_at ps k) by ∙ get_or_push w.points.items bits [] k refl in
-    let new_depth : depth_at depths.items k ≡ None = ap (λ ds. depth_at ds k) deep ∙ get_or_push w.depths.items None None k sized in
-    (record {
-      kept = record {
-        pooled = record {
-          counted = ap length deep ∙ length-append w.depths.items (None ∷ []) ∙ ap (λ n. n + 1) sized ∙ sym longer;
-          trees = subst (λ ps. All (λ b. IsTrue (meets_trees p b)) ps) (sym by)
-              (All-push (λ b. IsTrue (meets_trees p b)) w.points.items bits is.kept.pooled.trees (trees_of_point (problem_at p m) bits point));
-          unstruck = λ place n there low unstruck. elim (cases_lt place k) [
-            | inl before ↦
-                subst (λ b. IsTrue (is_point (problem_at p (take n m)) b)) (sym (point_stays place before))
-                (is.kept.pooled.unstruck place n before low (subst (λ d. IsUnstruck n d) (depth_stays place before) unstruck))
-            | inr later ↦
-                let here : place ≡ k = omega arith in
-                subst (λ b. IsTrue (is_point (problem_at p (take n m)) b)) (sym (ap (point_at points.items) here ∙ new_point)) (point_later law p m n bits o low point)
-          ];
+    let new_depth : depth_at depths.items k ≡ None = ap (λ ds. depth_at ds k) deep ∙ get_or_push w.depths.items None None k sized in (
+      record {
+        kept = record {
+          pooled = record {
+            counted = ap length deep ∙ length-append w.depths.items (None ∷ []) ∙ ap (λ n. n + 1) sized ∙ sym longer;
+            trees = subst (λ ps. All (λ b. IsTrue (meets_trees p b)) ps) (sym by)
+                (All-push (λ b. IsTrue (meets_trees p b)) w.points.items bits is.kept.pooled.trees (trees_of_point (problem_at p m) bits point));
+            unstruck = λ place n there low unstruck. elim (cases_lt place k) [
+              | inl before ↦
+                  subst (λ b. IsTrue (is_point (problem_at p (take n m)) b)) (sym (point_stays place before))
+                  (is.kept.pooled.unstruck place n before low (subst (λ d. IsUnstruck n d) (depth_stays place before) unstruck))
+              | inr later ↦
+                  let here : place ≡ k = omega arith in
+                  subst (λ b. IsTrue (is_point (problem_at p (take n m)) b)) (sym (ap (point_at points.items) here ∙ new_point)) (point_later law p m n bits o low point)
+            ];
+          };
+          counted = ap length lists ∙ length-append w.serves.items ([] ∷ []) ∙ ap (λ n. n + 1) rows ∙ sym longer;
+          numbered = is.kept.numbered;
+          slotted = is.kept.slotted;
+          places = All-weaker (λ place. place < k) (λ place. place < length points.items) (λ place h. omega arith) w.struck.items is.kept.places;
         };
-        counted = ap length lists ∙ length-append w.serves.items ([] ∷ []) ∙ ap (λ n. n + 1) rows ∙ sym longer;
-        numbered = is.kept.numbered;
-        slotted = is.kept.slotted;
-        places = All-weaker (λ place. place < k) (λ place. place < length points.items) (λ place h. omega arith) w.struck.items is.kept.places;
-      };
-      watched = λ number within counts. elim (is.watched number within counts) [
-        | inl waits ↦ inl waits
-        | inr old ↦
-            let place = get_or w.witness.items number 0 in
-            inr (record {
-              there = omega (arith, old.0.there);
-              kept = subst (λ d. IsUnstruck (length m) d) (sym (depth_stays place old.0.there)) old.0.kept;
-              in_need = subst (λ b. IsTrue (is_in_need (need_at p number) b)) (sym (point_stays place old.0.there)) old.0.in_need;
-            }, subst (λ ns. Contains ns number) (sym (list_stays place old.0.there)) old.1)
-      ];
-    }, record { there = omega arith; is = new_point; unstruck = new_depth })
+        watched = λ number within counts. elim (is.watched number within counts) [
+          | inl waits ↦ inl waits
+          | inr old ↦
+              let place = get_or w.witness.items number 0 in
+              inr (
+                record {
+                  there = omega (arith, old.0.there);
+                  kept = subst (λ d. IsUnstruck (length m) d) (sym (depth_stays place old.0.there)) old.0.kept;
+                  in_need = subst (λ b. IsTrue (is_in_need (need_at p number) b)) (sym (point_stays place old.0.there)) old.0.in_need;
+                },
+                subst (λ ns. Contains ns number) (sym (list_stays place old.0.there)) old.1,
+              )
+        ];
+      },
+      record { there = omega arith; is = new_point; unstruck = new_depth },
+    )
 
 -- a number is known to wait no more
 pub but_settled : (w : Walk) (number : ℕ) → IsWalkBut w number (number + 1) → (IsNeeded w number → IsServedNow w number) → IsWalk w
@@ -402,9 +422,10 @@ pub served_point : (w : Walk) (number place : ℕ) → IsKept w → IsServed w.s
     IsTrue (is_point (problem_at w.stand.problem w.stand.path) (point_at w.points.items place)) × IsTrue (is_in_need (need_at w.stand.problem number) (point_at w.points.items place))
 served_point w number place kept served =
     let m = w.stand.path in
-    let whole : take (length m) m ≡ m = take_all (length m) m (omega arith) in
-    (subst (λ t. IsTrue (is_point (problem_at w.stand.problem t) (point_at w.points.items place))) whole (kept.pooled.unstruck place (length m) served.0.there (omega arith) served.0.kept),
-    served.0.in_need)
+    let whole : take (length m) m ≡ m = take_all (length m) m (omega arith) in (
+      subst (λ t. IsTrue (is_point (problem_at w.stand.problem t) (point_at w.points.items place))) whole (kept.pooled.unstruck place (length m) served.0.there (omega arith) served.0.kept),
+      served.0.in_need,
+    )
 
 -- a need that is served has a point
 pub served_has : (w : Walk) (number place : ℕ) → IsKept w → IsServed w.stand.problem (length w.stand.path) w.points.items w.depths.items w.serves.items number place →

@@ -152,13 +152,7 @@ fn last_struck(depths: &[Option<usize>], struck: &[usize], count: usize) -> Opti
 {
     let place = *struck.last()?;
     match depths[place] {
-        Some(depth) => {
-            if count < depth {
-                Some(place)
-            } else {
-                None
-            }
-        }
+        Some(depth) => { if count < depth { Some(place) } else { None } }
         None => None,
     }
 }
@@ -176,10 +170,13 @@ fn unstrike(depths: &mut Vec<Option<usize>>, struck: &mut Vec<usize>, count: usi
     }
 }
 
-
 impl Walk {
     // At the empty prefix of a problem, with points that meet the rules of its trees.
-    pub(crate) fn new(alloc: Global, problem: Problem, points: Vec<Bits>) -> Result<Walk, AllocError>
+    pub(crate) fn new(
+        alloc: Global,
+        problem: Problem,
+        points: Vec<Bits>,
+    ) -> Result<Walk, AllocError>
         requires { All (λ bits. IsTrue (meets_trees problem bits)) points.items }
         ensures walk { IfOk result IsWalk }
         ensures stand { IfOk result (λ w. w.stand ≡ record { problem = problem; path = [] }) }
@@ -294,12 +291,7 @@ impl Walk {
     }
 
     // Strikes out a point if it is in a region of the next pair that is forced empty.
-    fn strike_if_out(
-        &mut self,
-        place: usize,
-        pair: u32,
-        regions: Regions,
-    ) -> Result<(), AllocError>
+    fn strike_if_out(&mut self, place: usize, pair: u32, regions: Regions) -> Result<(), AllocError>
         requires striking { IsStriking self.old regions place }
         requires there { place < length self.old.points.items }
         requires pair { pair ≡ length self.old.stand.path }

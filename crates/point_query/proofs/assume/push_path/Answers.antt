@@ -1,4 +1,4 @@
-use Rattle.std.proofs.Common.{◌≡◌, ℕ, ◌+◌, ◌*◌, ◌++◌, ◌∙◌, ap, List}
+use Rattle.std.proofs.Common.{◌+◌, ◌*◌, ◌++◌, ◌∙◌, ap}
 use Rattle.world_model.specs.Problem.{concept_count}
 use Rattle.world_model.specs.Alive.{problem_at}
 use Rattle.point_query.specs.Stands.{forced_at}

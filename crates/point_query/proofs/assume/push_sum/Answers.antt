@@ -1,9 +1,9 @@
-use Rattle.std.proofs.Common.{◌≡◌, ℕ, Bool, ◌+◌, ◌*◌, ◌≤◌, ◌<◌, ◌++◌, [], ◌∷◌, ◌∙◌, ap, sym, length, cond, true, false, append-nil, get_or, arith}
+use Rattle.std.proofs.Common.{◌≡◌, ℕ, Bool, ◌+◌, ◌*◌, ◌≤◌, ◌++◌, [], ◌∷◌, ◌∙◌, ap, sym, length, cond, true, false, append-nil, get_or, arith}
 use Rattle.std.specs.Prelude.{slice_index, slice_get, Some}
 use Rattle.std.proofs.lemmas.Option.{get_or_from_slice_get}
 use Rattle.constraint_set.specs.Readers.{sum_places, is_sum_at}
 use Rattle.constraint_set.proofs.Lists.{few_filtered}
-use Rattle.world_model.specs.Problem.{Problem, concept_count, pair_count}
+use Rattle.world_model.specs.Problem.{Problem, concept_count}
 use Rattle.constraint_set.specs.Facts.{IsBuilt}
 use Rattle.cert_model.specs.Clauses.{is_so, first_sum_selector}
 use Rattle.point_query.specs.Queries.{kept_selector}

@@ -1,4 +1,4 @@
-use Rattle.std.proofs.Common.{◌≡◌, ◌++◌, ◌∙◌, ap}
+use Rattle.std.proofs.Common.{◌++◌, ◌∙◌, ap}
 use Rattle.point_query.specs.Queries.{start_selectors, kept_selectors, path_selectors}
 use Rattle.point_query.proofs.Assuming.{selectors_are}
 use Rattle.point_query.proofs.assume.selectors.Goals as goal

@@ -1,4 +1,4 @@
-use Rattle.std.proofs.Common.{◌≡◌, ◌∙◌, ap, subst, sym}
+use Rattle.std.proofs.Common.{◌∙◌, ap}
 use Rattle.world_model.specs.Node.{pair_at}
 use Rattle.point_query.proofs.Starting.{avoided_pair}
 use Rattle.point_query.proofs.fresh.avoids_pair.Goals as goal

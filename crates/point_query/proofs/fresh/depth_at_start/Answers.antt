@@ -1,4 +1,4 @@
-use Rattle.std.proofs.Common.{◌≡◌, ◌<◌, ℕ, length, get_or, refl, subst, sym}
+use Rattle.std.proofs.Common.{◌<◌, refl, subst, sym}
 use Rattle.std.specs.Prelude.{All, IsTrue}
 use Rattle.std.specs.List.{list_all}
 use Rattle.world_model.specs.Problem.{pair_count, kept_sums}

@@ -1,4 +1,3 @@
-use Rattle.std.proofs.Common.{subst, sym}
 use Rattle.point_query.proofs.Starting.{started_more}
 use Rattle.point_query.proofs.fresh.depths_at_start.Goals as goal
 

@@ -1,4 +1,4 @@
-use Rattle.std.proofs.Common.{◌≡◌, ◌∙◌, ap, sym, ◌+◌, ◌&&◌, true, false}
+use Rattle.std.proofs.Common.{◌∙◌, ap, sym, ◌+◌, ◌&&◌}
 use Rattle.point_query.specs.Walks.{sums_from}
 use Rattle.point_query.proofs.Starting.{sums_got, sums_skipped}
 use Rattle.point_query.proofs.fresh.holds_if_kept.Goals as goal

@@ -1,4 +1,4 @@
-use Rattle.std.proofs.Common.{◌≡◌, ℕ, ◌++◌, ◌∷◌, [], ◌∙◌, cond, ap}
+use Rattle.std.proofs.Common.{◌++◌, ◌∷◌, [], ◌∙◌, cond, ap}
 use Rattle.point_query.specs.Stands.{forced_at}
 use Rattle.point_query.specs.Walks.{has_empty}
 use Rattle.point_query.proofs.Starting.{pairs_more}

@@ -1,4 +1,4 @@
-use Rattle.std.proofs.Common.{◌≡◌, ◌+◌, ◌∙◌, sym, ap, true, ◌&&◌, arith}
+use Rattle.std.proofs.Common.{◌≡◌, ◌+◌, ◌∙◌, sym, true, ◌&&◌, arith}
 use Rattle.world_model.specs.Problem.{kept_articulations}
 use Rattle.point_query.specs.Walks.{sums_from}
 use Rattle.point_query.proofs.Starting.{sums_done, sums_all}

@@ -1,4 +1,4 @@
-use Rattle.std.proofs.Common.{◌≡◌, ◌+◌, ◌*◌, ◌-◌, ◌≤◌, arith}
+use Rattle.std.proofs.Common.{◌*◌, ◌-◌, ◌≤◌, arith}
 use Rattle.std.proofs.Math.Nat.{mul-le-mul}
 use Rattle.world_model.specs.Problem.{concept_count}
 use Rattle.point_query.proofs.stand.count_pairs.Goals as goal

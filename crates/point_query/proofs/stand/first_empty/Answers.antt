@@ -1,4 +1,4 @@
-use Rattle.std.proofs.Common.{◌≡◌, false, not, arith, sym, ap, ◌∙◌, below_more}
+use Rattle.std.proofs.Common.{not, arith, sym, ap, ◌∙◌, below_more}
 use Rattle.rcc5_core.specs.RelationSet.{is_empty_set}
 use Rattle.world_model.specs.Problem.{pairs}
 use Rattle.world_model.specs.Alive.{allowed}

@@ -1,4 +1,4 @@
-use Rattle.std.proofs.Common.{◌≡◌, ap, ◌∙◌}
+use Rattle.std.proofs.Common.{ap, ◌∙◌}
 use Rattle.rcc5_core.specs.Region.{forced_regions}
 use Rattle.point_query.proofs.Standing.{regions_more}
 use Rattle.point_query.proofs.stand.forced_alone.Goals as goal

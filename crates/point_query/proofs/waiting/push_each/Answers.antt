@@ -1,4 +1,4 @@
-use Rattle.std.proofs.Common.{◌≡◌, ℕ, ◌≤◌, length, get_or, subst, sym, ◌∙◌, below_more, arith}
+use Rattle.std.proofs.Common.{◌≡◌, get_or, subst, ◌∙◌, below_more, arith}
 use Rattle.std.specs.Prelude.{Contains}
 use Rattle.std.proofs.lemmas.List.{get_or_default}
 use Rattle.point_query.proofs.waiting.push_each.Goals as goal

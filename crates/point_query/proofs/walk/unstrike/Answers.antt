@@ -1,5 +1,5 @@
-use Rattle.std.proofs.Common.{◌≡◌, ◌<◌, ℕ, length, ◌∙◌, subst, sym}
-use Rattle.std.specs.Prelude.{All, None}
+use Rattle.std.proofs.Common.{◌<◌, length, ◌∙◌, subst}
+use Rattle.std.specs.Prelude.{None}
 use Rattle.std.proofs.lemmas.List.{length-set}
 use Rattle.std.proofs.lemmas.List.Elements.{All-pop}
 use Rattle.point_query.specs.Walks.{IsStruckBeyond, depth_at}

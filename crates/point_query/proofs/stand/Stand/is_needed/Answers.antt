@@ -1,5 +1,4 @@
-use Rattle.std.proofs.Common.{◌≡◌, ◌<◌, ◌≤◌, ◌/◌, ◌%◌, Bool, length, get_or, refl, subst, sym, ap, ◌∙◌, arith}
-use Rattle.std.specs.Prelude.{vec_len}
+use Rattle.std.proofs.Common.{◌≡◌, ◌<◌, ◌≤◌, ◌/◌, ◌%◌, length, refl, subst, ap, ◌∙◌, arith}
 use denote.Enum.Bare.{sameb}
 use Rattle.rcc5_core.specs.contracts.Occupancy.{the_type}
 use Rattle.rcc5_core.specs.declared.Occupancy.{Occupancy}

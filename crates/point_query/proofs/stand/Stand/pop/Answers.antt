@@ -1,6 +1,5 @@
-use Rattle.std.proofs.Common.{◌≡◌, ◌+◌, ◌-◌, ◌<◌, length, get_or, set, take, subst, sym, ap, arith}
+use Rattle.std.proofs.Common.{◌≡◌, ◌+◌, ◌-◌, ◌<◌, length, set, take, subst, sym, arith}
 use Rattle.point_query.specs.Stands.{IsStand}
-use Rattle.std.specs.Prelude.{vec_len}
 use Rattle.point_query.proofs.Standing.{stand_fewer}
 use Rattle.point_query.proofs.stand.Stand.pop.Goals as goal
 

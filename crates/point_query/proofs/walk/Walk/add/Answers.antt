@@ -1,4 +1,4 @@
-use Rattle.std.proofs.Common.{◌≡◌, ◌+◌, ◌∙◌, ap, [], ◌∷◌, ◌++◌}
+use Rattle.std.proofs.Common.{◌+◌, ◌∙◌, ap, [], ◌∷◌, ◌++◌}
 use Rattle.point_query.proofs.Walking.{point_added}
 use Rattle.point_query.proofs.walk.Walk.add.Goals as goal
 

@@ -1,5 +1,3 @@
-use Rattle.std.proofs.Common.{◌≡◌, ap, ◌∙◌, subst}
-use Rattle.point_query.specs.Stands.{IsOpen}
 use Rattle.point_query.proofs.Walking.{walk_back}
 use Rattle.point_query.proofs.walk.Walk.back_to.Goals as goal
 

@@ -1,8 +1,7 @@
-use Rattle.std.proofs.Common.{◌≡◌, ◌+◌, ◌≤◌, ◌++◌, ◌∷◌, [], length, take, sym, ap, ◌∙◌, subst, arith}
+use Rattle.std.proofs.Common.{◌≡◌, ◌+◌, ◌++◌, ◌∷◌, [], length, take, sym, ap, ◌∙◌, subst, arith}
 use Rattle.std.proofs.lemmas.List.{take_all, length-append}
 use Rattle.std.specs.Prelude.{slice_get}
 use Rattle.std.proofs.lemmas.Option.{get_or_from_slice_get}
-use Rattle.world_model.specs.Problem.{pair_count}
 use Rattle.world_model.specs.Alive.{problem_at}
 use Rattle.point_query.specs.Stands.{IsOpen, IsEmptyPair}
 use Rattle.point_query.proofs.Going.{refused_at, allowed_here, empty_at_prefix, front_more}

@@ -1,4 +1,4 @@
-use Rattle.std.proofs.Common.{◌≡◌, ℕ, [], sym, ap, ◌∙◌, subst}
+use Rattle.std.proofs.Common.{◌≡◌, ℕ, [], ap, ◌∙◌, subst}
 use Rattle.std.specs.Prelude.{Option, IfSome, IfNone}
 use Rattle.world_model.specs.Alive.{problem_at}
 use Rattle.point_encode.specs.Needs.{need_seen}

@@ -1,4 +1,4 @@
-use Rattle.std.proofs.Common.{◌≡◌, ◌<◌, ◌∙◌, ℕ, refl, ap, sym, subst}
+use Rattle.std.proofs.Common.{◌≡◌, ◌<◌, ◌∙◌, ℕ, refl, sym, subst}
 use Rattle.std.specs.Prelude.{IsTrue, IfSome, IfNone}
 use Rattle.world_model.specs.Alive.{problem_at, HasPoint}
 use Rattle.point_query.specs.Queries.{IsSolverOf}
