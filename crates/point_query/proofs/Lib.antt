@@ -11,3 +11,5 @@ pub mod Starting
 pub mod Going
 pub mod Answering
 pub mod Sameness
+pub mod Seeking
+pub mod Deciding

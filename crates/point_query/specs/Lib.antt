@@ -3,3 +3,4 @@ pub mod Answers
 pub mod Queries
 pub mod Stands
 pub mod Walks
+pub mod Seeking

@@ -1,7 +1,7 @@
 //! The asker, as its users see it.
-ghost use Rattle.std.specs.Prelude.{◌≡◌, ◌≤◌, [], length, IfOk, Contains};
+ghost use Rattle.std.specs.Prelude.{◌≡◌, ◌≤◌, ◌↔◌, [], length, IfOk, IsTrue, Contains};
 ghost use Rattle.world_model.specs.Problem.{pair_count};
-ghost use Rattle.world_model.specs.Alive.{needs, problem_at};
+ghost use Rattle.world_model.specs.Alive.{needs, problem_at, IsAlive};
 ghost use Rattle.constraint_set.specs.Shape.{shape_of};
 ghost use Rattle.point_encode.specs.Needs.{need_seen, IsInRange};
 ghost use Rattle.point_query.specs.Asking.{IsNewAsker, AskerGoes, IsAsker};
@@ -105,6 +105,20 @@ impl Asker {
         let answer = walk.probe(&mut self.solver, prefix)?;
         self.walk = Some(walk);
         Ok(answer)
+    }
+
+    /// Whether the prefix is alive, and no more: neither a need without a point nor a clause is named.
+    pub fn is_alive(&mut self, problem: &Problem, prefix: &Position) -> Result<bool, AllocError>
+        requires shape { self.old.shape ≡ shape_of problem.now }
+        requires prefix { length prefix.now ≤ pair_count problem.now }
+        ensures kept { AskerGoes self.old self.new }
+        ensures alive { IfOk result (λ yes. IsTrue yes ↔ IsAlive (problem_at problem.now prefix.now)) }
+    {
+        match self.probe(problem, prefix)? {
+            Probe::Alive => Ok(true),
+            Probe::EmptyPair(_) => Ok(false),
+            Probe::Closed(_, _) => Ok(false),
+        }
     }
 
     // The walk that was kept, brought to a problem. Until it is put back the asker keeps none.

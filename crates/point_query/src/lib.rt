@@ -6,11 +6,14 @@ mod asker;
 mod assume;
 mod fresh;
 mod given;
+mod plain;
 mod query;
 mod same;
+mod seek;
 mod stand;
 mod waiting;
 mod walk;
 
 pub use answers::{Alive, Found, Points, Probe};
 pub use asker::Asker;
+pub use plain::PlainAsker;

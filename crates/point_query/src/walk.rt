@@ -88,7 +88,7 @@ fn is_in(wanted: Wanted, bits: &Bits) -> bool
 }
 
 // Whether a point lies in a region of a pair, by whether it is in the left concept and in the right one.
-fn lies_in(part: u32, left: bool, right: bool) -> bool
+pub(crate) fn lies_in(part: u32, left: bool, right: bool) -> bool
     ensures { result ≡ lies_by (region_with part) left right }
 {
     if part == 0 {
