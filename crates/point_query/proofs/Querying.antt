@@ -17,13 +17,15 @@ use Rattle.world_model.specs.Problem.{Problem, concept_count}
 use Rattle.world_model.specs.Alive.{Need, is_point, is_in_need, needs, problem_at}
 use Rattle.world_model.proofs.Members.{all_at, all_from, in_from_contains, contains_from_in}
 use Rattle.constraint_set.specs.Facts.{IsBuilt}
-use Rattle.constraint_set.specs.Shape.{shape_of}
+use Rattle.constraint_set.specs.Shape.{shape_of, SameShape}
 use Rattle.cert_model.specs.Clauses.{given_clauses, variable_count}
 use Rattle.cert_model.specs.Forced.{selectors_of, need_lits, asked_of, IsClosedAt}
 use Rattle.cert_model.specs.Laws.{ClausesArePoints, NeedsAreLiterals, Extends}
 use Rattle.point_query.specs.Asking.{AskerState, AskerGoes}
 use Rattle.point_query.specs.Answers.{IsClosed}
 use Rattle.point_query.specs.Queries.{IsSolverOf, AreSelectors, asker_with}
+use Rattle.point_query.specs.declared.walk.Walk.{Walk}
+use Rattle.point_query.specs.Walks.{IsWalk, IsKeptAsker}
 
 -- what holds of all of a list holds of all of a list inside it
 all_inside : (test : ℕ → Bool) (xs ys : List ℕ) → ((x : ℕ) → Contains xs x → Contains ys x) → list_all test ys ≡ true → list_all test xs ≡ true
@@ -209,3 +211,8 @@ solver_moves p q s same is = record {
 
 pub asker_goes_nowhere : (s : AskerState) → AskerGoes s s
 asker_goes_nowhere s = record { shape = refl; solver = goes_nowhere s.solver }
+
+-- so does an asker's, and the walk that it keeps
+pub keeps_walk : (shape p : Problem) (s : SolverState) (walk : Option Walk) → shape_of shape ≡ shape_of p → IsSolverOf p s → MatchOption walk (Unit {0}) (λ w. IsWalk w × SameShape w.stand.problem shape) →
+    IsKeptAsker shape s walk
+keeps_walk shape p s walk same is walked = record { solved = solver_moves p shape s (sym same) is; walked = walked }
