@@ -1,5 +1,5 @@
 -- The selectors of a prefix, in the order in which they are assumed.
-use Rattle.std.proofs.Common.{◌≡◌, ℕ, zero, suc, ◌+◌, ◌*◌, ◌<◌, Bool, true, false, cond, List, [], ◌∷◌, ◌++◌, length, get_or, append_assoc, inl, inr, sym, ap, ◌∙◌, subst, arith}
+use Rattle.std.proofs.Common.{◌≡◌, ℕ, zero, suc, ◌+◌, ◌*◌, ◌<◌, Bool, true, false, cond, List, [], ◌∷◌, ◌++◌, length, get_or, append_assoc, inl, inr, sym, ap, ◌∙◌, subst, arith, Contains, refl}
 use Rattle.std.specs.Prelude.{flat_map, filter}
 use Rattle.std.specs.List.{range_with_len}
 use Rattle.std.proofs.lemmas.Bool.{cases_lt}
@@ -7,6 +7,7 @@ use Rattle.std.proofs.lemmas.List.{append-nil}
 use Rattle.std.proofs.lemmas.Grind.{flat_map-append}
 use Rattle.rcc5_core.specs.declared.Rel.{Rel}
 use Rattle.rcc5_core.specs.declared.Region.{Region}
+use Rattle.rcc5_core.specs.declared.Region.TheVariants.{LeftOnly, Both, RightOnly}
 use Rattle.rcc5_core.specs.declared.Regions.{Regions}
 use Rattle.rcc5_core.specs.declared.Occupancy.TheVariants.{Empty}
 use Rattle.rcc5_core.specs.Region.{all_regions, word_at, same_word, forced_regions}
@@ -14,7 +15,7 @@ use Rattle.world_model.specs.Problem.{Problem, concept_count, pairs, pair_count}
 use Rattle.world_model.specs.Node.{pair_at}
 use Rattle.world_model.specs.Alive.{allowed, forced_of, forced_pairs, problem_at}
 use Rattle.world_model.specs.Laws.{PositionsNarrow}
-use Rattle.world_model.proofs.Members.{In, none_in, In-map, from_map, In-filter, from_filter, In-left, In-right, from_append, In-flat_map, from_flat_map, In-range, from_range, in_from_contains, contains_from_in, IsImage, IsOf}
+use Rattle.world_model.proofs.Members.{In, none_in, In-map, from_map, In-filter, from_filter, In-left, In-right, from_append, In-flat_map, from_flat_map, In-range, from_range, in_from_contains, contains_from_in, IsImage, IsOf, here, there}
 use Rattle.world_model.proofs.PointSets.{Forces}
 use Rattle.constraint_set.specs.Readers.{sum_places}
 use Rattle.constraint_set.proofs.Lists.{range_more}
@@ -157,3 +158,26 @@ selectors_are law p m lits o same = record {
         | inr sum ↦ In-right (region_selectors n (forced_pairs q)) (kept_in lit sum)
       ]
     ]
+
+-- each region is one of the three
+one_of_three : (region : Region) → In region all_regions
+one_of_three LeftOnly = here refl
+one_of_three Both = there (here refl)
+one_of_three RightOnly = there (there (here refl))
+
+-- the selector of a region that is forced empty is one of the prefix
+pub empty_is_selector : (p : Problem) (m : List Rel) (k : ℕ) (region : Region) → k < pair_count p → same_word (word_at (forced_at (problem_at p m) k) region) Empty ≡ true →
+    Contains (selectors_of p m) (is_so (concept_count p + 3 * k + region_number region))
+empty_is_selector p m k region h e =
+    let q = problem_at p m in
+    contains_from_in (In-left (sum_selectors p.kept (first_sum_selector p) (sum_places p))
+    (into_regions q (concept_count p) (pairs p) (is_so (concept_count p + 3 * k + region_number region)) k h
+    (In-map (λ r. is_so (concept_count p + 3 * k + region_number r)) (In-filter (λ r. same_word (word_at (forced_at q k) r) Empty) (one_of_three region) e))))
+
+-- the selector of a sum that is kept is one of each prefix
+pub kept_is_selector : (p : Problem) (m : List Rel) (sum : ℕ) → sum < length (sum_places p) → get_or p.kept (get_or (sum_places p) sum 0) false ≡ true →
+    Contains (selectors_of p m) (is_so (first_sum_selector p + sum))
+kept_is_selector p m sum h kept =
+    contains_from_in (In-right (region_selectors (concept_count p) (forced_pairs (problem_at p m)))
+    (into_sums p.kept (first_sum_selector p) (sum_places p) (is_so (first_sum_selector p + sum)) sum h
+    (subst (λ b. In (is_so (first_sum_selector p + sum)) (cond b (is_so (first_sum_selector p + sum) ∷ []) [])) (sym kept) (here refl))))

@@ -10,10 +10,10 @@ ghost use Rattle.point_query.specs.Walks.{IsWalkAt};
 
 use crate::answers::{Alive, Found, Probe};
 use crate::given::solver_of;
+use crate::oracle::Oracle;
 use crate::same::same_problem;
-use crate::walk::Walk;
+use crate::walk::{Walk, count_needs};
 use constraint_set::Problem;
-use learn_solver::Solver;
 use lits_core::Line;
 use point_encode::Need;
 use rcc5_core::Position;
@@ -28,7 +28,7 @@ use std::marker::Model;
 #[derive(Drop)]
 pub struct Asker {
     shape: Problem,
-    solver: Solver,
+    solver: Oracle,
     walk: Option<Walk>,
     alloc: Global,
 }
@@ -52,6 +52,7 @@ impl Asker {
         ensures { IfOk result (IsNewAsker problem.now) }
     {
         let solver = solver_of(alloc, problem)?;
+        let solver = Oracle::new(alloc, solver, count_needs(problem))?;
         let shape = same_problem(alloc, problem)?;
         Ok(Asker {
             shape,
@@ -152,6 +153,11 @@ impl Asker {
         ensures { result ≡ length self.now.solver.idle }
     {
         self.solver.idle()
+    }
+
+    /// How many questions went to the solver.
+    pub fn questions(&self) -> u64 {
+        self.solver.questions()
     }
 
     /// What is so of an asker at any time, for a proof.

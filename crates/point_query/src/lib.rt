@@ -7,6 +7,7 @@ mod assume;
 mod fresh;
 mod given;
 mod plain;
+mod oracle;
 mod query;
 mod same;
 mod seek;

@@ -182,7 +182,7 @@ fn first_empty(problem: &Problem) -> Option<u32>
 }
 
 // What is known of a region, by its number among the three.
-fn word_of(regions: Regions, part: u32) -> Occupancy
+pub(crate) fn word_of(regions: Regions, part: u32) -> Occupancy
     ensures { result ≡ word_at regions (region_with part) }
 {
     if part == 0 {

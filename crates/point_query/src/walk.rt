@@ -15,16 +15,15 @@ ghost use Rattle.point_query.specs.Walks.{need_count, lies_by, wanted_seen, IsBe
 ghost use Rattle.point_query.specs.Stands.{need_at, is_needed, needs_below, IsEmptyPair};
 
 use crate::answers::{Alive, Found, Points, Probe};
-use crate::assume::selectors;
 use crate::fresh::depths_at_start;
-use crate::query::{copy, query};
+use crate::oracle::Oracle;
+use crate::query::copy;
 use crate::same::{is_same, same_problem};
 use crate::stand::{Stand, count_pairs};
 use crate::waiting::{Numbers, Waiting};
 use constraint_set::Problem;
-use learn_solver::Solver;
 use lits_core::{Bits, law_literals_are_sets};
-use point_encode::{Need, selectors_of};
+use point_encode::Need;
 use rcc5_core::{Occupancy, Position, Regions, Rel};
 use std::alloc::{AllocError, Global};
 use world_model::positions_narrow;
@@ -442,7 +441,7 @@ impl Walk {
     // Sees to it that a need has a witness, or answers the clause that shows that it has no point.
     fn serve(
         &mut self,
-        solver: &mut Solver,
+        solver: &mut Oracle,
         prefix: &Position,
         number: u32,
     ) -> Result<Option<u64>, AllocError>
@@ -475,7 +474,7 @@ impl Walk {
     // Sees to it that a number waits no more: it is no need, or served; or answers the clause that shows that it has no point.
     fn settle_one(
         &mut self,
-        solver: &mut Solver,
+        solver: &mut Oracle,
         prefix: &Position,
         number: u32,
     ) -> Result<Option<u64>, AllocError>
@@ -504,7 +503,7 @@ impl Walk {
     // Sees to it that each need has a witness, or answers the first need without a point and the clause that shows it.
     fn settle(
         &mut self,
-        solver: &mut Solver,
+        solver: &mut Oracle,
         prefix: &Position,
     ) -> Result<Option<(u32, u64)>, AllocError>
         requires walk { IsWalk self.old }
@@ -530,7 +529,7 @@ impl Walk {
     // Asks the solver for a point in a need of the prefix.
     fn ask_solver(
         &self,
-        solver: &mut Solver,
+        solver: &mut Oracle,
         prefix: &Position,
         number: u32,
     ) -> Result<Found, AllocError>
@@ -542,22 +541,13 @@ impl Walk {
         ensures solver { IsSolverOf self.now.stand.problem solver.new }
         ensures found { IfOk result (IsFound (asker_with self.now.stand.problem solver.new) self.now.stand.problem self.now.stand.path (need_at self.now.stand.problem number)) }
     {
-        let selectors = selectors(self.alloc, &self.stand)?;
-        let need = need_of(self.stand.problem(), number);
-        query(
-            self.alloc,
-            solver,
-            self.stand.problem(),
-            prefix,
-            &selectors,
-            need,
-        )
+        solver.ask(&self.stand, prefix, number)
     }
 
     // Whether a prefix is alive.
     pub(crate) fn probe(
         &mut self,
-        solver: &mut Solver,
+        solver: &mut Oracle,
         prefix: &Position,
     ) -> Result<Probe, AllocError>
         requires walk { IsWalk self.old }
@@ -581,7 +571,7 @@ impl Walk {
     // Whether a prefix is alive, with a point for each need.
     pub(crate) fn alive(
         &mut self,
-        solver: &mut Solver,
+        solver: &mut Oracle,
         prefix: &Position,
     ) -> Result<Alive, AllocError>
         requires walk { IsWalk self.old }
@@ -635,7 +625,7 @@ impl Walk {
     // A point of a prefix in a need, or the clause that shows that there is none.
     pub(crate) fn ask(
         &mut self,
-        solver: &mut Solver,
+        solver: &mut Oracle,
         prefix: &Position,
         need: Need,
     ) -> Result<Found, AllocError>
@@ -652,18 +642,14 @@ impl Walk {
     {
         match self.go_to(prefix)? {
             None => self.ask_here(solver, prefix, need),
-            Some(_) => {
-                let problem = self.stand.problem();
-                let selectors = selectors_of(self.alloc, problem, prefix)?;
-                query(self.alloc, solver, problem, prefix, &selectors, need)
-            }
+            Some(_) => solver.ask_at(self.stand.problem(), prefix, need),
         }
     }
 
     // The same at the prefix of the walk.
     fn ask_here(
         &mut self,
-        solver: &mut Solver,
+        solver: &mut Oracle,
         prefix: &Position,
         need: Need,
     ) -> Result<Found, AllocError>
@@ -690,7 +676,7 @@ impl Walk {
 }
 
 // How many needs there may be.
-fn count_needs(problem: &Problem) -> u32
+pub(crate) fn count_needs(problem: &Problem) -> u32
     ensures { result ≡ need_count problem.now }
 {
     let pairs = count_pairs(problem);
@@ -733,7 +719,7 @@ fn no_numbers(alloc: Global, count: usize) -> Result<Vec<Numbers>, AllocError>
 }
 
 // The need with a number, as callers have it.
-fn need_of(problem: &Problem, number: u32) -> Need
+pub(crate) fn need_of(problem: &Problem, number: u32) -> Need
     requires { number < need_count problem.now }
     ensures value { need_seen problem.now result ≡ need_at problem.now number }
     ensures range { IsInRange problem.now result }
