@@ -1,3 +1,15 @@
 pub mod Querying
 pub mod Ranges
 pub mod Serving
+pub mod Waits
+pub mod Standing
+pub mod Walking
+pub mod Prefixes
+pub mod Assuming
+pub mod Numbering
+pub mod Starting
+pub mod Going
+pub mod Answering
+pub mod Sameness
+pub mod Seeking
+pub mod Deciding

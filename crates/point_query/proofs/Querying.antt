@@ -12,18 +12,21 @@ use Rattle.lits_core.specs.declared.Line.TheVariants.{Derive, Forget}
 use Rattle.lits_core.specs.Derivation.{State, first_state, live_clause, line_fault, next_state, state_after, is_valid_derivation, SameLits, SameGiven, SameDerived, SameState, SameLine, DerivedClausesFollow, LiteralsAreSets}
 use Rattle.lits_core.proofs.LiteralSets.{same-self}
 use Rattle.watch_arena.specs.Trails.{AreInRange}
-use Rattle.learn_solver.specs.Solving.{SolverState, AddsGiven, FromOne, GoesTo, AreConsistent, IsModel, IsClosedBy, IsRefutation}
+use Rattle.learn_solver.proofs.Answering.{closed-hopeless}
+use Rattle.learn_solver.specs.Solving.{SolverState, IsSolver, AddsGiven, FromOne, GoesTo, AreConsistent, IsModel, IsClosedBy, IsRefutation}
 use Rattle.world_model.specs.Problem.{Problem, concept_count}
 use Rattle.world_model.specs.Alive.{Need, is_point, is_in_need, needs, problem_at}
 use Rattle.world_model.proofs.Members.{all_at, all_from, in_from_contains, contains_from_in}
 use Rattle.constraint_set.specs.Facts.{IsBuilt}
-use Rattle.constraint_set.specs.Shape.{shape_of}
+use Rattle.constraint_set.specs.Shape.{shape_of, SameShape}
 use Rattle.cert_model.specs.Clauses.{given_clauses, variable_count}
 use Rattle.cert_model.specs.Forced.{selectors_of, need_lits, asked_of, IsClosedAt}
 use Rattle.cert_model.specs.Laws.{ClausesArePoints, NeedsAreLiterals, Extends}
 use Rattle.point_query.specs.Asking.{AskerState, AskerGoes}
 use Rattle.point_query.specs.Answers.{IsClosed}
 use Rattle.point_query.specs.Queries.{IsSolverOf, AreSelectors, asker_with}
+use Rattle.point_query.specs.declared.walk.Walk.{Walk}
+use Rattle.point_query.specs.Walks.{IsWalk, IsKeptAsker}
 
 -- what holds of all of a list holds of all of a list inside it
 all_inside : (test : ℕ → Bool) (xs ys : List ℕ) → ((x : ℕ) → Contains xs x → Contains ys x) → list_all test ys ≡ true → list_all test xs ≡ true
@@ -209,3 +212,19 @@ solver_moves p q s same is = record {
 
 pub asker_goes_nowhere : (s : AskerState) → AskerGoes s s
 asker_goes_nowhere s = record { shape = refl; solver = goes_nowhere s.solver }
+
+-- so does an asker's, and the walk that it keeps
+pub keeps_walk : (shape p : Problem) (s : SolverState) (walk : Option Walk) → shape_of shape ≡ shape_of p → IsSolverOf p s → MatchOption walk (Unit {0}) (λ w. IsWalk w × SameShape w.stand.problem shape) →
+    IsKeptAsker shape s walk
+keeps_walk shape p s walk same is walked = record { solved = solver_moves p shape s (sym same) is; walked = walked }
+
+-- a live clause with only negations of what must be true closes the need
+pub known_is_closed : ClausesArePoints → NeedsAreLiterals → LiteralsAreSets → (p : Problem) (m : List Rel) (need : Need) (s : SolverState) (id : ℕ) →
+    IsBuilt p → IsSolverOf p s → Contains (needs (problem_at p m)) need → IsSolver s → MatchOption (live_clause s.state id) ⊥ (IsClosedAt p m need) → IsClosed (asker_with p s) p m need id
+known_is_closed points literals sets p m need s id built is forced solver named =
+    refuted_is_closed points literals sets p m need (selectors_of p m) (asked_of p m need) s id built is forced (record { there = λ lit h. h; no_others = λ lit h. h }) refl
+    (record { named = named; hopeless = hopeless (live_clause s.state id) refl named })
+  where
+    hopeless : (found : Option (List ℕ)) → live_clause s.state id ≡ found → MatchOption found ⊥ (IsClosedAt p m need) → (bits : List Bool) → IsTrue (meets_all bits s.state.given) → IsTrue (list_all (lit_true bits) (asked_of p m need)) → ⊥
+    hopeless None e h = absurd h
+    hopeless (Some clause) e h = closed-hopeless s.state (asked_of p m need) clause id solver.follow e h

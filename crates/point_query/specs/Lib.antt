@@ -1,4 +1,6 @@
 pub mod Asking
 pub mod Answers
 pub mod Queries
+pub mod Stands
+pub mod Walks
 pub mod Seeking

@@ -1,14 +1,20 @@
 -- What a query is asked with.
-use Rattle.std.specs.Prelude.{◌≡◌, ℕ, Bool, List, All, Contains, IsTrue}
+use Rattle.std.specs.Prelude.{◌≡◌, ℕ, ◌+◌, ◌*◌, Bool, false, List, [], ◌∷◌, length, map, filter, flat_map, slice_index, slice_index_or, All, Contains, IsTrue, if◌then◌else◌}
+use Rattle.std.specs.List.{range_with_len}
 use Rattle.rcc5_core.specs.declared.Rel.{Rel}
+use Rattle.rcc5_core.specs.declared.Regions.{Regions}
+use Rattle.rcc5_core.specs.declared.Occupancy.TheVariants.{Empty}
+use Rattle.rcc5_core.specs.Region.{all_regions, word_at, same_word}
 use Rattle.lits_core.specs.Derivation.{SameGiven}
-use Rattle.world_model.specs.Problem.{Problem}
-use Rattle.world_model.specs.Alive.{is_point}
+use Rattle.world_model.specs.Problem.{Problem, concept_count, pair_count}
+use Rattle.world_model.specs.Alive.{is_point, problem_at}
 use Rattle.constraint_set.specs.Shape.{shape_of}
-use Rattle.cert_model.specs.Clauses.{given_clauses, variable_count}
-use Rattle.cert_model.specs.Forced.{selectors_of}
+use Rattle.constraint_set.specs.Readers.{sum_places}
+use Rattle.cert_model.specs.Clauses.{is_so, first_sum_selector, given_clauses, variable_count}
+use Rattle.cert_model.specs.Forced.{region_number, selectors_of}
 use Rattle.learn_solver.specs.Solving.{SolverState}
 use Rattle.point_query.specs.Asking.{AskerState}
+use Rattle.point_query.specs.Stands.{forced_at}
 
 -- a solver has the variables and the given clauses of a problem
 pub record IsSolverOf (p : Problem) (s : SolverState) : Type 0 where
@@ -27,3 +33,21 @@ asker_with p s = record { shape = shape_of p; solver = s }
 -- lists of bits are points of a problem
 abbrev pub ArePoints : Problem → List (List Bool) → Type 0
 ArePoints p points = All (λ bits. IsTrue (is_point p bits)) points
+
+-- the selectors of a pair's regions that are forced empty, the first selector of the pair given
+abbrev pub pair_selectors : ℕ → Regions → List ℕ
+pair_selectors first regions = map (λ region. is_so (first + region_number region)) (filter (λ region. same_word (word_at regions region) Empty) all_regions)
+
+-- the selector of a sum, by its number among all sums, if it is kept
+abbrev pub kept_selector : Problem → ℕ → List ℕ
+kept_selector p sum = if slice_index_or p.kept (slice_index (sum_places p) sum) false then is_so (first_sum_selector p + sum) ∷ [] else []
+
+-- the selectors that a problem alone makes true, those of its kept sums, and those that a prefix makes true at its own pairs
+abbrev pub start_selectors : Problem → List ℕ
+start_selectors p = flat_map (λ k. pair_selectors (concept_count p + 3 * k) (forced_at p k)) (range_with_len 0 (pair_count p))
+
+abbrev pub kept_selectors : Problem → List ℕ
+kept_selectors p = flat_map (kept_selector p) (range_with_len 0 (length (sum_places p)))
+
+abbrev pub path_selectors : Problem → List Rel → List ℕ
+path_selectors p m = flat_map (λ k. pair_selectors (concept_count p + 3 * k) (forced_at (problem_at p m) k)) (range_with_len 0 (length m))

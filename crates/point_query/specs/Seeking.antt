@@ -1,8 +1,6 @@
 -- What a search for the points of all needs finds.
-use Rattle.std.specs.Prelude.{◌≡◌, ℕ, ◌<◌, Bool, not, ◌&&◌, List, length, All, [], ◌∷◌, ◌++◌, map, slice_index_or, Contains, IsTrue}
+use Rattle.std.specs.Prelude.{◌≡◌, ℕ, ◌<◌, Bool, List, length, All, [], ◌∷◌, ◌++◌, map, slice_index_or, Contains, IsTrue}
 use Rattle.rcc5_core.specs.declared.Rel.{Rel}
-use Rattle.rcc5_core.specs.declared.Region.{Region}
-use Rattle.rcc5_core.specs.declared.Region.TheVariants.{LeftOnly, Both, RightOnly}
 use Rattle.world_model.specs.Problem.{Problem}
 use Rattle.world_model.specs.Alive.{HasPoint, is_in_need, needs, problem_at}
 use Rattle.point_encode.specs.declared.need.Need.{Need}
@@ -51,9 +49,3 @@ IsFront front all = (more : List (List Bool)) × (all ≡ front ++ more)
 abbrev pub IsPlaced : AskerState → Problem → List Rel → List (List Bool) → Rattle.world_model.specs.Alive.Need → Placed → Type 0
 IsPlaced asker p m points need (At place) = (place < length points) × IsTrue (is_in_need need (slice_index_or points place []))
 IsPlaced asker p m points need (placed.Closed id) = IsClosed asker p m need id
-
--- whether a point lies in a region of a pair, by whether it is in the left concept and in the right one
-abbrev pub lies_by : Region → Bool → Bool → Bool
-lies_by LeftOnly left right = left && not right
-lies_by Both left right = left && right
-lies_by RightOnly left right = not left && right

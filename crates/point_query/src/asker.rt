@@ -1,43 +1,49 @@
 //! The asker, as its users see it.
-ghost use Rattle.std.specs.Prelude.{◌≡◌, ◌<◌, ◌≤◌, All, [], length, IfOk, OnOk, Contains};
-ghost use Rattle.lits_core.specs.Derivation.{first_state, SameState};
-ghost use Rattle.cert_model.specs.Clauses.{given_clauses, variable_count};
+ghost use Rattle.std.specs.Prelude.{◌≡◌, ◌≤◌, ◌↔◌, [], length, IfOk, IsTrue, Contains};
 ghost use Rattle.world_model.specs.Problem.{pair_count};
-ghost use Rattle.world_model.specs.Alive.{needs, problem_at};
-ghost use Rattle.constraint_set.specs.Shape.{shape_of, SameShape};
+ghost use Rattle.world_model.specs.Alive.{needs, problem_at, IsAlive};
+ghost use Rattle.constraint_set.specs.Shape.{shape_of};
 ghost use Rattle.point_encode.specs.Needs.{need_seen, IsInRange};
 ghost use Rattle.point_query.specs.Asking.{IsNewAsker, AskerGoes, IsAsker};
 ghost use Rattle.point_query.specs.Answers.{IsFound, IsAliveAnswer, IsProbeAnswer};
-ghost use Rattle.point_query.specs.Seeking.{chosen, IsSoughtAt};
+ghost use Rattle.point_query.specs.Walks.{IsWalkAt};
 
-use crate::answers::{Alive, Found, Points, Probe};
-use crate::query::query;
-use crate::seek::{Sought, copy, first_empty, seek};
+use crate::answers::{Alive, Found, Probe};
+use crate::given::solver_of;
+use crate::oracle::Oracle;
+use crate::same::same_problem;
+use crate::walk::{Walk, count_needs};
 use constraint_set::Problem;
-use learn_solver::Solver;
-use lits_core::{Bits, Clause, Line};
-use point_encode::{Need, given_clauses, needs_of, selectors_of, variable_count};
+use lits_core::Line;
+use point_encode::Need;
 use rcc5_core::Position;
 use std::alloc::{AllocError, Global};
 use std::marker::Model;
 
 /// Asks for points of the prefixes of problems of one shape.
+///
+/// Points that were found are kept, and the last prefix with a point for each of its needs: a prefix that differs from it by
+/// a relation costs a look at the points, and at the needs that lost theirs, of which few go to the solver. So does a walk
+/// down and up a tree of prefixes. Another problem of the shape keeps the points that meet it.
 #[derive(Drop)]
 pub struct Asker {
     shape: Problem,
-    solver: Solver,
+    solver: Oracle,
+    walk: Option<Walk>,
     alloc: Global,
 }
 
 impl Model for Asker {
     ghost use Rattle.point_query.specs.Asking.{AskerState};
-    ghost use Rattle.point_query.specs.Queries.{IsSolverOf, asker_with};
+    ghost use Rattle.point_query.specs.Queries.{asker_with};
 
     ghost Value = { AskerState };
 
+    ghost use Rattle.point_query.specs.Walks.{IsKeptAsker};
+
     ghost view = { λ s. asker_with s.shape s.solver };
 
-    ghost invariant = { λ s. IsSolverOf s.shape s.solver };
+    ghost invariant = { λ s. IsKeptAsker s.shape s.solver s.walk };
 }
 
 impl Asker {
@@ -45,13 +51,13 @@ impl Asker {
     pub fn new(alloc: Global, problem: &Problem) -> Result<Asker, AllocError>
         ensures { IfOk result (IsNewAsker problem.now) }
     {
-        let clauses = given_clauses(alloc, problem)?;
-        let mut solver = Solver::new(alloc, variable_count(problem))?;
-        add_each(&mut solver, problem, &clauses)?;
-        let shape = same_shape(alloc, problem)?;
+        let solver = solver_of(alloc, problem)?;
+        let solver = Oracle::new(alloc, solver, count_needs(problem))?;
+        let shape = same_problem(alloc, problem)?;
         Ok(Asker {
             shape,
             solver,
+            walk: None,
             alloc,
         })
     }
@@ -70,15 +76,10 @@ impl Asker {
         ensures kept { AskerGoes self.old self.new }
         ensures found { IfOk result (IsFound self.new problem.now prefix.now (need_seen problem.now need)) }
     {
-        let selectors = selectors_of(self.alloc, problem, prefix)?;
-        query(
-            self.alloc,
-            &mut self.solver,
-            problem,
-            prefix,
-            &selectors,
-            need,
-        )
+        let mut walk = self.take_walk(problem)?;
+        let found = walk.ask(&mut self.solver, prefix, need)?;
+        self.walk = Some(walk);
+        Ok(found)
     }
 
     /// Whether the prefix is alive, with a point for each need.
@@ -88,16 +89,10 @@ impl Asker {
         ensures kept { AskerGoes self.old self.new }
         ensures answer { IfOk result (IsAliveAnswer self.new problem.now prefix.now) }
     {
-        if let Some(pair) = first_empty(problem, prefix) {
-            return Ok(Alive::EmptyPair(pair));
-        }
-        match self.seek(problem, prefix)? {
-            Sought::Points { found, places } => {
-                let points = copies(self.alloc, &found, &places)?;
-                Ok(Alive::Points(points))
-            }
-            Sought::Closed(need, id) => Ok(Alive::Closed(need, id)),
-        }
+        let mut walk = self.take_walk(problem)?;
+        let answer = walk.alive(&mut self.solver, prefix)?;
+        self.walk = Some(walk);
+        Ok(answer)
     }
 
     /// Whether the prefix is alive.
@@ -107,32 +102,36 @@ impl Asker {
         ensures kept { AskerGoes self.old self.new }
         ensures answer { IfOk result (IsProbeAnswer self.new problem.now prefix.now) }
     {
-        if let Some(pair) = first_empty(problem, prefix) {
-            return Ok(Probe::EmptyPair(pair));
-        }
-        match self.seek(problem, prefix)? {
-            Sought::Points { .. } => Ok(Probe::Alive),
-            Sought::Closed(need, id) => Ok(Probe::Closed(need, id)),
-        }
+        let mut walk = self.take_walk(problem)?;
+        let answer = walk.probe(&mut self.solver, prefix)?;
+        self.walk = Some(walk);
+        Ok(answer)
     }
 
-    // Points for all needs of a prefix, or the first need without a point.
-    fn seek(&mut self, problem: &Problem, prefix: &Position) -> Result<Sought, AllocError>
+    /// Whether the prefix is alive, and no more: neither a need without a point nor a clause is named.
+    pub fn is_alive(&mut self, problem: &Problem, prefix: &Position) -> Result<bool, AllocError>
         requires shape { self.old.shape ≡ shape_of problem.now }
         requires prefix { length prefix.now ≤ pair_count problem.now }
         ensures kept { AskerGoes self.old self.new }
-        ensures sought { IfOk result (IsSoughtAt self.new problem.now prefix.now) }
+        ensures alive { IfOk result (λ yes. IsTrue yes ↔ IsAlive (problem_at problem.now prefix.now)) }
     {
-        let selectors = selectors_of(self.alloc, problem, prefix)?;
-        let needs = needs_of(self.alloc, problem, prefix)?;
-        seek(
-            self.alloc,
-            &mut self.solver,
-            problem,
-            prefix,
-            &selectors,
-            &needs,
-        )
+        match self.probe(problem, prefix)? {
+            Probe::Alive => Ok(true),
+            Probe::EmptyPair(_) => Ok(false),
+            Probe::Closed(_, _) => Ok(false),
+        }
+    }
+
+    // The walk that was kept, brought to a problem. Until it is put back the asker keeps none.
+    fn take_walk(&mut self, problem: &Problem) -> Result<Walk, AllocError>
+        requires shape { self.old.shape ≡ shape_of problem.now }
+        ensures same { self.new ≡ self.old }
+        ensures walk { IfOk result (IsWalkAt problem.now) }
+    {
+        match self.walk.take() {
+            Some(walk) => walk.moved_to(self.alloc, problem),
+            None => new_walk(self.alloc, problem),
+        }
     }
 
     /// The lines that wait.
@@ -156,6 +155,11 @@ impl Asker {
         self.solver.idle()
     }
 
+    /// How many questions went to the solver.
+    pub fn questions(&self) -> u64 {
+        self.solver.questions()
+    }
+
     /// What is so of an asker at any time, for a proof.
     pub fn facts(&self)
         ensures { IsAsker self.now }
@@ -164,40 +168,9 @@ impl Asker {
     }
 }
 
-// The points at some places.
-fn copies(alloc: Global, points: &[Bits], places: &[usize]) -> Result<Points, AllocError>
-    requires { All (λ place. place < length points.now) places.now }
-    ensures { IfOk result (λ list. list ≡ chosen points.now places.now) }
+// A walk at a problem, without points.
+fn new_walk(alloc: Global, problem: &Problem) -> Result<Walk, AllocError>
+    ensures { IfOk result (IsWalkAt problem.now) }
 {
-    let mut list = Vec::with_capacity(alloc, places.len())?;
-    for place in places {
-        list.push(copy(alloc, &points[*place])?)?;
-    }
-    Ok(Points::new(list))
-}
-
-// Adds each of a problem's given clauses.
-fn add_each(solver: &mut Solver, problem: &Problem, clauses: &[Clause]) -> Result<(), AllocError>
-    requires variables { solver.old.variables ≡ variable_count problem.now }
-    requires all { clauses.now ≡ given_clauses problem.now }
-    requires first { solver.old.state ≡ first_state [] }
-    requires quiet { solver.old.waiting ≡ [] }
-    ensures variables { OnOk result (solver.new.variables ≡ solver.old.variables) }
-    ensures given { OnOk result (SameState (first_state clauses.now) solver.new.state) }
-    ensures quiet { OnOk result (solver.new.waiting ≡ []) }
-    ensures idle { OnOk result (solver.new.idle ≡ solver.old.idle) }
-{
-    let _built = problem.taxonomy_count();
-    for clause in clauses {
-        solver.add(clause.lits())?;
-    }
-    Ok(())
-}
-
-// A problem of the same shape, which costs little.
-fn same_shape(alloc: Global, problem: &Problem) -> Result<Problem, AllocError>
-    ensures { IfOk result (λ p. SameShape p problem.now) }
-{
-    let flags = vec![in alloc; true; problem.articulation_count() as usize]?;
-    problem.restricted(alloc, &flags)
+    Walk::new(alloc, same_problem(alloc, problem)?, Vec::new(alloc))
 }

@@ -3,8 +3,18 @@
 
 mod answers;
 mod asker;
+mod assume;
+mod fresh;
+mod given;
+mod plain;
+mod oracle;
 mod query;
+mod same;
 mod seek;
+mod stand;
+mod waiting;
+mod walk;
 
 pub use answers::{Alive, Found, Points, Probe};
 pub use asker::Asker;
+pub use plain::PlainAsker;

@@ -79,7 +79,7 @@ fn push_there(all: &mut Vec<Lit>, lit: Option<Lit>) -> Result<(), AllocError>
 }
 
 // The first bits.
-pub(crate) fn front(alloc: Global, bits: &Bits, count: usize) -> Result<Bits, AllocError>
+fn front(alloc: Global, bits: &Bits, count: usize) -> Result<Bits, AllocError>
     requires { count ≤ length bits.now }
     ensures { IfOk result (λ front. front ≡ take count bits.now) }
 {
@@ -88,4 +88,11 @@ pub(crate) fn front(alloc: Global, bits: &Bits, count: usize) -> Result<Bits, Al
         front.set(place, bits.get(place));
     }
     Ok(front)
+}
+
+// A second list of the same bits.
+pub(crate) fn copy(alloc: Global, bits: &Bits) -> Result<Bits, AllocError>
+    ensures { IfOk result (λ copy. copy ≡ bits.now) }
+{
+    front(alloc, bits, bits.len())
 }

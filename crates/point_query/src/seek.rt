@@ -1,8 +1,6 @@
 //! Points for all needs of a prefix.
 ghost use Rattle.std.specs.Prelude.{◌≡◌, ◌<◌, ◌≤◌, [], ◌++◌, length, map, All, Contains, IfOk, IfSome, IfNone, IsTrue, slice_index_or};
 ghost use Rattle.world_model.specs.Problem.{pair_count, concept_count};
-ghost use Rattle.cert_model.specs.Forced.{region_with};
-ghost use Rattle.point_query.specs.Seeking.{lies_by};
 ghost use Rattle.world_model.specs.Node.{pair_at};
 ghost use Rattle.world_model.specs.Alive.{allowed, all_allow, needs, problem_at, is_in_need};
 ghost use Rattle.point_encode.specs.Needs.{need_seen, IsInRange};
@@ -12,7 +10,8 @@ ghost use Rattle.point_query.specs.Queries.{IsSolverOf, AreSelectors, ArePoints,
 ghost use Rattle.point_query.specs.Seeking.{IsSought, IsPlaced, IsFront};
 
 use crate::answers::Found;
-use crate::query::{front, query};
+use crate::query::query;
+use crate::walk::lies_in;
 use constraint_set::Problem;
 use learn_solver::Solver;
 use lits_core::{Bits, Lit, law_literals_are_sets};
@@ -152,27 +151,11 @@ fn is_in_need(problem: &Problem, need: Need, bits: &Bits) -> bool
         Need::Concept(concept) => bits.get(concept as usize),
         Need::Region { pair, part } => {
             let (x, y) = problem.pair_at(pair);
-            lies_in(part, bits.get(x as usize), bits.get(y as usize))
+            lies_in(
+                u32::from(part),
+                bits.get(x as usize),
+                bits.get(y as usize),
+            )
         }
     }
-}
-
-// Whether a point lies in a region of a pair, by whether it is in the left concept and in the right one.
-fn lies_in(part: u8, left: bool, right: bool) -> bool
-    ensures { result ≡ lies_by (region_with part) left right }
-{
-    if part == 0 {
-        left && !right
-    } else if part == 1 {
-        left && right
-    } else {
-        !left && right
-    }
-}
-
-// A second list of the same bits.
-pub(crate) fn copy(alloc: Global, bits: &Bits) -> Result<Bits, AllocError>
-    ensures { IfOk result (λ copy. copy ≡ bits.now) }
-{
-    front(alloc, bits, bits.len())
 }

@@ -7,7 +7,7 @@ use Rattle.world_model.specs.Alive.{problem_at}
 use Rattle.point_query.specs.Queries.{ArePoints, asker_with}
 use Rattle.point_query.specs.Seeking.{IsPlaced}
 use Rattle.point_query.proofs.Querying.{goes_nowhere, goes_chain}
-use Rattle.point_query.proofs.Serving.{none_served, served_more, stopped_at}
+use Rattle.point_query.proofs.Seeking.{none_served, served_more, stopped_at}
 use Rattle.point_query.proofs.seek.seek.Goals as goal
 
 pub loop-need-init : goal.loop-need-init

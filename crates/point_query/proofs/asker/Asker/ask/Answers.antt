@@ -1,14 +1,29 @@
-use Rattle.std.proofs.Common.{◌∙◌, ap, sym}
-use Rattle.point_query.proofs.Querying.{asker_goes_nowhere, solver_moves}
+use Rattle.std.proofs.Common.{sym, ap, ◌∙◌, subst}
+use Rattle.constraint_set.specs.Shape.{shape_of}
+use Rattle.point_query.specs.Asking.{AskerGoes}
+use Rattle.point_query.specs.Queries.{IsSolverOf}
+use Rattle.point_query.proofs.Querying.{asker_goes_nowhere, solver_moves, keeps_walk}
 use Rattle.point_query.proofs.asker.Asker.ask.Goals as goal
 
-pub returns-in_err-selectors-clause-kept : goal.returns-in_err-selectors-clause-kept
-returns-in_err-selectors-clause-kept c = asker_goes_nowhere c.args.self.now
+pub returns-in_err-walk-clause-kept : goal.returns-in_err-walk-clause-kept
+returns-in_err-walk-clause-kept c = subst (λ a. AskerGoes c.args.self.now a) (sym c.in_err-walk.ensures.same) (asker_goes_nowhere c.args.self.now)
 
-pub query-requires-clause-solver : goal.query-requires-clause-solver
-query-requires-clause-solver c =
-    solver_moves c.self.inside.shape c.args.problem.now c.self.inside.solver (ap (λ a. a.shape) c.self.view_is ∙ c.requires.shape) c.self.invariant
+pub ask-requires-clause-solver : goal.ask-requires-clause-solver
+ask-requires-clause-solver c =
+    let s = c.self.inside in
+    let shape = ap (λ a. a.shape) (c.self.view_is ∙ c.in_ok-walk.ensures.same) ∙ c.requires.shape in
+    subst (λ q. IsSolverOf q s.solver) (sym c.in_ok-walk.ensures.walk.problem) (solver_moves s.shape c.args.problem.now s.solver shape c.self.invariant.solved)
 
 pub invariant_of-self : goal.invariant_of-self
 invariant_of-self c =
-    solver_moves c.args.problem.now c.self.inside.shape c.query.new.solver (sym (ap (λ a. a.shape) c.self.view_is ∙ c.requires.shape)) c.query.ensures.solver
+    let s = c.self.inside in
+    let shape = ap (λ a. a.shape) (c.self.view_is ∙ c.in_ok-walk.ensures.same) ∙ c.requires.shape in
+    keeps_walk s.shape c.args.problem.now c.ask.new.solver s.walk shape (subst (λ q. IsSolverOf q c.ask.new.solver) c.in_ok-walk.ensures.walk.problem c.ask.ensures.solver) c.self.invariant.walked
+
+pub invariant_of-self-2 : goal.invariant_of-self-2
+invariant_of-self-2 c =
+    let s = c.self.inside in
+    let shape = ap (λ a. a.shape) (c.self.view_is ∙ c.in_ok-walk.ensures.same) ∙ c.requires.shape in
+    let problem = c.in_ok-found.ensures.problem ∙ c.in_ok-walk.ensures.walk.problem in
+    keeps_walk s.shape c.args.problem.now c.ask.new.solver _ shape (subst (λ q. IsSolverOf q c.ask.new.solver) c.in_ok-walk.ensures.walk.problem c.ask.ensures.solver)
+    (c.in_ok-found.ensures.walk, ap shape_of problem ∙ sym shape)

@@ -3,4 +3,4 @@ use Rattle.point_query.specs.Asking.{IsAsker}
 use Rattle.point_query.proofs.asker.Asker.facts.Goals as goal
 
 pub returns : goal.returns
-returns c = subst (λ a. IsAsker a) c.self.view_is (record { variables = c.self.invariant.variables; given = c.self.invariant.given; solver = c.facts.ensures })
+returns c = subst (λ a. IsAsker a) c.self.view_is (record { variables = c.self.invariant.solved.variables; given = c.self.invariant.solved.given; solver = c.facts.ensures })

@@ -1,25 +1,29 @@
-use Rattle.std.proofs.Common.{subst}
-use Rattle.std.specs.Prelude.{IsTrue}
-use Rattle.world_model.specs.Alive.{all_allow, problem_at}
-use Rattle.point_query.specs.Seeking.{IsSoughtAt}
-use Rattle.point_query.proofs.Querying.{asker_goes_nowhere}
-use Rattle.point_query.proofs.Serving.{answer_alive, answer_closed}
+use Rattle.std.proofs.Common.{sym, ap, ◌∙◌, subst}
+use Rattle.constraint_set.specs.Shape.{shape_of}
+use Rattle.point_query.specs.Asking.{AskerGoes}
+use Rattle.point_query.specs.Queries.{IsSolverOf}
+use Rattle.point_query.proofs.Querying.{asker_goes_nowhere, solver_moves, keeps_walk}
 use Rattle.point_query.proofs.asker.Asker.probe.Goals as goal
-use Rattle.point_query.proofs.asker.Asker.probe.Goals.{in-Points, in-Closed}
 
-pub returns-in-Some-clause-kept : goal.returns-in-Some-clause-kept
-returns-in-Some-clause-kept c = asker_goes_nowhere c.args.self.now
+pub returns-in_err-walk-clause-kept : goal.returns-in_err-walk-clause-kept
+returns-in_err-walk-clause-kept c = subst (λ a. AskerGoes c.args.self.now a) (sym c.in_err-walk.ensures.same) (asker_goes_nowhere c.args.self.now)
 
-pub returns-clause-answer : goal.returns-clause-answer
-returns-clause-answer c =
-    let p = c.args.problem.now in
-    let m = c.args.prefix.now in
-    let allow : IsTrue (all_allow (problem_at p m)) = c.in_default.ensures.none in
-    elim c.match-branch-2.branch [
-      | in-Points w ↦
-          let sought = subst (λ s. IsSoughtAt c.seek.new.self p m s) w.in-Points.is c.in_ok-need.ensures.sought in
-          rw w.result-is (answer_alive c.seek.new.self p m w.in-Points.found w.in-Points.places allow sought)
-      | in-Closed w ↦
-          let sought = subst (λ s. IsSoughtAt c.seek.new.self p m s) w.in-Closed.is c.in_ok-need.ensures.sought in
-          rw w.result-is (answer_closed c.seek.new.self p m w.in-Closed.need w.in-Closed.id allow sought)
-    ]
+pub probe-requires-clause-solver : goal.probe-requires-clause-solver
+probe-requires-clause-solver c =
+    let s = c.self.inside in
+    let shape = ap (λ a. a.shape) (c.self.view_is ∙ c.in_ok-walk.ensures.same) ∙ c.requires.shape in
+    subst (λ q. IsSolverOf q s.solver) (sym c.in_ok-walk.ensures.walk.problem) (solver_moves s.shape c.args.problem.now s.solver shape c.self.invariant.solved)
+
+pub invariant_of-self : goal.invariant_of-self
+invariant_of-self c =
+    let s = c.self.inside in
+    let shape = ap (λ a. a.shape) (c.self.view_is ∙ c.in_ok-walk.ensures.same) ∙ c.requires.shape in
+    keeps_walk s.shape c.args.problem.now c.probe.new.solver s.walk shape (subst (λ q. IsSolverOf q c.probe.new.solver) c.in_ok-walk.ensures.walk.problem c.probe.ensures.solver) c.self.invariant.walked
+
+pub invariant_of-self-2 : goal.invariant_of-self-2
+invariant_of-self-2 c =
+    let s = c.self.inside in
+    let shape = ap (λ a. a.shape) (c.self.view_is ∙ c.in_ok-walk.ensures.same) ∙ c.requires.shape in
+    let problem = c.in_ok-answer.ensures.problem ∙ c.in_ok-walk.ensures.walk.problem in
+    keeps_walk s.shape c.args.problem.now c.probe.new.solver _ shape (subst (λ q. IsSolverOf q c.probe.new.solver) c.in_ok-walk.ensures.walk.problem c.probe.ensures.solver)
+    (c.in_ok-answer.ensures.walk, ap shape_of problem ∙ sym shape)

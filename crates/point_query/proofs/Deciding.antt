@@ -1,0 +1,24 @@
+-- What shows that a prefix is dead.
+use Rattle.std.proofs.Common.{◌≡◌, ℕ, Bool, true, false, not, List, ◌∷◌, ◌++◌, refl, sym, ap, ◌∙◌, subst}
+use Rattle.std.specs.Prelude.{Contains}
+use Rattle.std.proofs.lemmas.Bool.{true≢false, not-true}
+use Rattle.rcc5_core.specs.declared.Rel.{Rel}
+use Rattle.rcc5_core.specs.RelationSet.{is_empty_set}
+use Rattle.world_model.specs.Problem.{Problem, pairs}
+use Rattle.world_model.specs.Node.{pair_at}
+use Rattle.world_model.specs.Alive.{Need, allowed, needs, problem_at, IsAlive}
+use Rattle.world_model.proofs.Members.{here, In-right, contains_from_in, all_at, In-get_or}
+use Rattle.point_query.specs.Asking.{AskerState}
+use Rattle.point_query.specs.Answers.{IsFirstEmpty, IsFirstClosed}
+
+-- a pair that allows nothing
+pub empty_is_dead : (p : Problem) (pair : ℕ) → IsFirstEmpty p pair → IsAlive p → ⊥
+empty_is_dead p pair empty alive =
+    true≢false (sym empty.empty ∙ not-true (is_empty_set (allowed p (pair_at p pair)))
+    (all_at (λ pair. not (is_empty_set (allowed p pair))) alive.allow (In-get_or (pairs p) pair (0, 0) empty.within)))
+
+-- a need without a point
+pub closed_is_dead : (asker : AskerState) (p : Problem) (m : List Rel) (need : Need) (id : ℕ) → IsFirstClosed asker p m need id → IsAlive (problem_at p m) → ⊥
+closed_is_dead asker p m need id closed alive =
+    let among : Contains (needs (problem_at p m)) need = subst (λ ns. Contains ns need) (sym closed.among) (contains_from_in (In-right closed.before (here refl))) in
+    closed.closed.no_point (alive.points need among)

@@ -1,0 +1,15 @@
+use Rattle.std.proofs.Common.{◌∙◌, List, ℕ, sym, subst}
+use Rattle.std.specs.Prelude.{Contains}
+use Rattle.point_query.proofs.Querying.{goes_nowhere}
+use Rattle.point_query.proofs.oracle.Oracle.ask_at.Goals as goal
+
+pub returns-in_err-selectors-clause-kept : goal.returns-in_err-selectors-clause-kept
+returns-in_err-selectors-clause-kept c = goes_nowhere c.args.self.now
+
+pub query-requires-clause-selectors : goal.query-requires-clause-selectors
+query-requires-clause-selectors c =
+    let same = c.deref.ensures.value ∙ c.in_ok-selectors.ensures in
+    record {
+      there = λ lit h. subst (λ ls. Contains ls lit) (sym same) h;
+      no_others = λ lit h. subst (λ ls. Contains ls lit) same h;
+    }

@@ -1,0 +1,17 @@
+use Rattle.std.proofs.Common.{◌≡◌, ◌∙◌, sym, ap, subst, arith}
+use Rattle.std.specs.Prelude.{IsTrue}
+use Rattle.world_model.specs.Alive.{problem_at}
+use Rattle.point_query.specs.Stands.{is_needed}
+use Rattle.point_query.specs.Walks.{need_count, AreStarted}
+use Rattle.point_query.proofs.Walking.{walk_made}
+use Rattle.point_query.proofs.walk.Walk.new.Goals as goal
+
+pub returns-clause-walk : goal.returns-clause-walk
+returns-clause-walk c =
+    let p = c.args.problem in
+    let stand = c.in_ok-stand.ensures in
+    let counted : c.count_needs-count.result ≡ need_count p = c.count_needs-count.ensures ∙ ap need_count (c.problem.ensures ∙ ap (λ s. s.problem) stand) in
+    let started = subst (λ ps. AreStarted p ps c.in_ok-depths.depths.items) c.deref.ensures.value (subst (λ s. AreStarted s.problem c.deref.result.now c.in_ok-depths.depths.items) stand c.in_ok-depths.ensures) in
+    walk_made c.positions_narrow.ensures _ p (c.stand.view_is ∙ stand) started c.requires (omega (arith, c.in_ok-serves.ensures, c.len.ensures, c.args.points.ok))
+    (omega (arith, c.in_ok-vec.ensures.len, c.in_ok-vec.field-0.ok, counted)) (omega (arith, c.in_ok-vec-2.ensures.len, c.in_ok-vec-2.field-0.ok, counted)) c.new-2.ensures.items
+    (λ number within needed. c.in_ok-waiting.ensures number (omega (arith, within, counted)) (subst (λ s. IsTrue (is_needed (problem_at s.problem s.path) number)) (sym stand) needed))

@@ -1,0 +1,8 @@
+use Rattle.point_query.proofs.Querying.{goes_nowhere}
+use Rattle.point_query.proofs.walk.Walk.serve.Goals as goal
+
+pub returns-in_err-assign-clause-kept : goal.returns-in_err-assign-clause-kept
+returns-in_err-assign-clause-kept c = goes_nowhere c.args.solver.now
+
+pub returns-in-Some-clause-kept : goal.returns-in-Some-clause-kept
+returns-in-Some-clause-kept c = goes_nowhere c.args.solver.now

@@ -1,0 +1,342 @@
+//! The solver of an asker, with the clauses that closed needs before.
+ghost use Rattle.std.specs.Prelude.{◌≡◌, ℕ, [], List, ◌+◌, ◌*◌, ◌<◌, ◌≤◌, ◌⊎◌, length, Contains, IfOk, OnOk, IfSome, MatchOption, IsTrue, slice_index_or, None, Some};
+ghost use Rattle.rcc5_core.specs.declared.Rel.{Rel};
+ghost use Rattle.lits_core.specs.Derivation.{live_clause};
+ghost use Rattle.world_model.specs.Problem.{pair_count, concept_count};
+ghost use Rattle.world_model.specs.Alive.{needs, problem_at};
+ghost use Rattle.constraint_set.specs.Readers.{sum_places};
+ghost use Rattle.cert_model.specs.Clauses.{is_so, first_sum_selector};
+ghost use Rattle.cert_model.specs.Forced.{selectors_of, need_lits, asked_of, IsClosedAt};
+ghost use Rattle.point_encode.specs.Needs.{need_seen, lits_there, IsInRange};
+ghost use Rattle.learn_solver.specs.Solving.{GoesTo, IsSolver};
+ghost use Rattle.point_query.specs.Answers.{IsFound, IsClosed};
+ghost use Rattle.point_query.specs.Queries.{IsSolverOf, asker_with};
+ghost use Rattle.point_query.specs.Stands.{need_at, is_needed};
+ghost use Rattle.point_query.specs.Walks.{need_count};
+
+use crate::answers::Found;
+use crate::assume::selectors;
+
+use crate::query::query;
+use crate::stand::{Stand, count_pairs, word_of};
+use crate::walk::need_of;
+use cert_model::{clauses_are_points, needs_are_literals};
+use constraint_set::Problem;
+use learn_solver::Solver;
+use lits_core::{Line, Lit, law_literals_are_sets};
+use point_encode::{Need, need_lits, selectors_of};
+use rcc5_core::{Occupancy, Position};
+use std::alloc::{AllocError, Global};
+use std::marker::Model;
+use world_model::positions_narrow;
+
+/// A solver, and for each need the ids of clauses that closed it at some prefix.
+///
+/// A need that one of these clauses closes again costs no question. The ids are hints: what a clause says is read anew.
+#[derive(Drop)]
+pub(crate) struct Oracle {
+    solver: Solver,
+    closings: Vec<Vec<u64>>,
+    questions: u64,
+    alloc: Global,
+}
+
+impl Model for Oracle {
+    ghost use Rattle.learn_solver.specs.Solving.{SolverState};
+
+    ghost Value = { SolverState };
+
+    ghost view = { λ o. o.solver };
+}
+
+impl Oracle {
+    // A solver that was asked nothing yet, and how many needs there may be.
+    pub(crate) fn new(alloc: Global, solver: Solver, needs: u32) -> Result<Oracle, AllocError>
+        ensures { IfOk result (λ o. o ≡ solver) }
+    {
+        let closings = no_ids(alloc, needs)?;
+        Ok(Oracle {
+            solver,
+            closings,
+            questions: 0,
+            alloc,
+        })
+    }
+
+    // A point of the prefix in the need with a number, or the clause that shows that there is none.
+    pub(crate) fn ask(
+        &mut self,
+        stand: &Stand,
+        prefix: &Position,
+        number: u32,
+    ) -> Result<Found, AllocError>
+        requires within { number < need_count stand.now.problem }
+        requires needed { IsTrue (is_needed (problem_at stand.now.problem stand.now.path) number) }
+        requires prefix { prefix.now ≡ stand.now.path }
+        requires solver { IsSolverOf stand.now.problem self.old }
+        ensures kept { GoesTo self.old self.new }
+        ensures solver { IsSolverOf stand.now.problem self.new }
+        ensures found { IfOk result (IsFound (asker_with stand.now.problem self.new) stand.now.problem stand.now.path (need_at stand.now.problem number)) }
+    {
+        if let Some(id) = self.known(stand, number) {
+            return Ok(Found::Closed(id));
+        }
+        let found = self.question(stand, prefix, number)?;
+        self.note(number, &found)?;
+        Ok(found)
+    }
+
+    // The same by the solver.
+    fn question(
+        &mut self,
+        stand: &Stand,
+        prefix: &Position,
+        number: u32,
+    ) -> Result<Found, AllocError>
+        requires within { number < need_count stand.now.problem }
+        requires needed { IsTrue (is_needed (problem_at stand.now.problem stand.now.path) number) }
+        requires prefix { prefix.now ≡ stand.now.path }
+        requires solver { IsSolverOf stand.now.problem self.old }
+        ensures kept { GoesTo self.old self.new }
+        ensures solver { IsSolverOf stand.now.problem self.new }
+        ensures found { IfOk result (IsFound (asker_with stand.now.problem self.new) stand.now.problem stand.now.path (need_at stand.now.problem number)) }
+    {
+        let selectors = selectors(self.alloc, stand)?;
+        let need = need_of(stand.problem(), number);
+        self.questions = self.questions.saturating_add(1);
+        query(
+            self.alloc,
+            &mut self.solver,
+            stand.problem(),
+            prefix,
+            &selectors,
+            need,
+        )
+    }
+
+    // A point of a prefix in a need, by the solver, or the clause that shows that there is none.
+    pub(crate) fn ask_at(
+        &mut self,
+        problem: &Problem,
+        prefix: &Position,
+        need: Need,
+    ) -> Result<Found, AllocError>
+        requires prefix { length prefix.now ≤ pair_count problem.now }
+        requires range { IsInRange problem.now need }
+        requires forced { Contains (needs (problem_at problem.now prefix.now)) (need_seen problem.now need) }
+        requires solver { IsSolverOf problem.now self.old }
+        ensures kept { GoesTo self.old self.new }
+        ensures solver { IsSolverOf problem.now self.new }
+        ensures found { IfOk result (IsFound (asker_with problem.now self.new) problem.now prefix.now (need_seen problem.now need)) }
+    {
+        let selectors = selectors_of(self.alloc, problem, prefix)?;
+        self.questions = self.questions.saturating_add(1);
+        query(
+            self.alloc,
+            &mut self.solver,
+            problem,
+            prefix,
+            &selectors,
+            need,
+        )
+    }
+
+    // A clause that closes the need with a number, among those that closed it before.
+    fn known(&self, stand: &Stand, number: u32) -> Option<u64>
+        requires within { number < need_count stand.now.problem }
+        requires needed { IsTrue (is_needed (problem_at stand.now.problem stand.now.path) number) }
+        requires solver { IsSolverOf stand.now.problem self.now }
+        ensures { IfSome result (IsClosed (asker_with stand.now.problem self.now) stand.now.problem stand.now.path (need_at stand.now.problem number)) }
+    {
+        let id = self.closing(stand, number)?;
+        self.shows(stand, number, id);
+        Some(id)
+    }
+
+    // What a clause that closes a need shows.
+    fn shows(&self, stand: &Stand, number: u32, id: u64)
+        requires within { number < need_count stand.now.problem }
+        requires needed { IsTrue (is_needed (problem_at stand.now.problem stand.now.path) number) }
+        requires solver { IsSolverOf stand.now.problem self.now }
+        requires closes { MatchOption (live_clause self.now.state id) ⊥ (IsClosedAt stand.now.problem stand.now.path (need_at stand.now.problem number)) }
+        ensures { IsClosed (asker_with stand.now.problem self.now) stand.now.problem stand.now.path (need_at stand.now.problem number) id }
+    {
+        let _built = stand.problem().taxonomy_count();
+        self.solver.facts();
+        clauses_are_points();
+        needs_are_literals();
+        law_literals_are_sets();
+    }
+
+    // A clause that closes the need with a number, among those that closed it before.
+    fn closing(&self, stand: &Stand, number: u32) -> Option<u64>
+        requires within { number < need_count stand.now.problem }
+        ensures { IfSome result (λ id. MatchOption (live_clause self.now.state id) ⊥ (IsClosedAt stand.now.problem stand.now.path (need_at stand.now.problem number))) }
+    {
+        let ids = self.closings.get(number as usize)?;
+        for id in ids {
+            if closes(&self.solver, stand, number, *id) {
+                return Some(*id);
+            }
+        }
+        None
+    }
+
+    // Notes the clause that closed a need.
+    fn note(&mut self, number: u32, found: &Found) -> Result<(), AllocError>
+        ensures { self.new ≡ self.old }
+    {
+        if let Found::Closed(id) = found {
+            if (number as usize) < self.closings.len() {
+                self.closings[number as usize].push(*id)?;
+            }
+        }
+        Ok(())
+    }
+
+    // How many questions went to the solver.
+    pub(crate) fn questions(&self) -> u64
+    {
+        self.questions
+    }
+
+    // The lines that wait.
+    pub(crate) fn lines(&self) -> &[Line]
+        ensures { result.now ≡ self.now.waiting }
+    {
+        self.solver.lines()
+    }
+
+    // Drops the lines that wait.
+    pub(crate) fn clear_lines(&mut self)
+        ensures { self.new ≡ record self.old { waiting = [] } }
+    {
+        self.solver.clear_lines();
+    }
+
+    // How many clauses are idle.
+    pub(crate) fn idle(&self) -> u64
+        ensures { result ≡ length self.now.idle }
+    {
+        self.solver.idle()
+    }
+
+    // What is so of the solver at any time.
+    pub(crate) fn facts(&self)
+        ensures { IsSolver self.now }
+    {
+        self.solver.facts();
+    }
+}
+
+// So many empty lists.
+fn no_ids(alloc: Global, count: u32) -> Result<Vec<Vec<u64>>, AllocError> {
+    let mut lists = Vec::with_capacity(alloc, count as usize)?;
+    for _number in 0..count {
+        lists.push(Vec::new(alloc))?;
+    }
+    Ok(lists)
+}
+
+// Whether a clause closes the need with a number: it has only negations of what must be true of a point in it.
+fn closes(solver: &Solver, stand: &Stand, number: u32, id: u64) -> bool
+    requires { number < need_count stand.now.problem }
+    ensures { IsTrue result → MatchOption (live_clause solver.now.state id) ⊥ (IsClosedAt stand.now.problem stand.now.path (need_at stand.now.problem number)) }
+{
+    let Some(lits) = solver.clause(id) else {
+        return false;
+    };
+    for place in 0..lits.count() {
+        if !is_asked(stand, number, lits.lit(place).negate()) {
+            return false;
+        }
+    }
+    true
+}
+
+// Whether a literal must be true of a point in the need with a number.
+fn is_asked(stand: &Stand, number: u32, lit: Lit) -> bool
+    requires { number < need_count stand.now.problem }
+    ensures { IsTrue result → Contains (asked_of stand.now.problem stand.now.path (need_at stand.now.problem number)) lit }
+{
+    if is_selector(stand, lit) {
+        return true;
+    }
+    is_need_lit(stand.problem(), number, lit)
+}
+
+// Whether a literal says that a point is in the need with a number.
+fn is_need_lit(problem: &Problem, number: u32, lit: Lit) -> bool
+    requires { number < need_count problem.now }
+    ensures { IsTrue result → Contains (need_lits (need_at problem.now number)) lit }
+{
+    let need = need_of(problem, number);
+    let [first, second] = need_lits(problem, need);
+    is_one_of(first, second, lit)
+}
+
+// Whether a literal is one of two, each of which may be missing.
+fn is_one_of(first: Option<Lit>, second: Option<Lit>, lit: Lit) -> bool
+    ensures { IsTrue result → Contains (lits_there first second) lit }
+{
+    if is_it(first, lit) {
+        return true;
+    }
+    is_it(second, lit)
+}
+
+// Whether a literal is there, and this one.
+fn is_it(there: Option<Lit>, lit: Lit) -> bool
+    ensures { IsTrue result → there ≡ Some lit }
+{
+    match there {
+        Some(other) => other == lit,
+        None => false,
+    }
+}
+
+// Whether a literal is a selector that the prefix makes true.
+fn is_selector(stand: &Stand, lit: Lit) -> bool
+    ensures { IsTrue result → Contains (selectors_of stand.now.problem stand.now.path) lit }
+{
+    positions_narrow();
+    let _open = stand.path();
+    if lit.is_negative() {
+        return false;
+    }
+    let problem = stand.problem();
+    let pairs = count_pairs(problem);
+    let concepts = problem.concept_count();
+    let variable = lit.variable();
+    if variable < concepts {
+        return false;
+    }
+    let selector = variable - concepts;
+    if selector < 3 * pairs {
+        return is_empty_there(stand, selector / 3, selector % 3);
+    }
+    is_kept_there(problem, selector - 3 * pairs)
+}
+
+// Whether a region of a pair is forced empty at the prefix.
+fn is_empty_there(stand: &Stand, pair: u32, part: u32) -> bool
+    requires pair { pair < pair_count stand.now.problem }
+    requires part { part < 3 }
+    ensures { IsTrue result → Contains (selectors_of stand.now.problem stand.now.path) (is_so (concept_count stand.now.problem + 3 * pair + part)) }
+{
+    match word_of(stand.forced_at(pair), part) {
+        Occupancy::Empty => true,
+        Occupancy::Occupied | Occupancy::Free => false,
+    }
+}
+
+// Whether the sum with a number is kept.
+fn is_kept_there(problem: &Problem, sum: u32) -> bool
+    ensures { IsTrue result → (m : List Rel) → Contains (selectors_of problem.now m) (is_so (first_sum_selector problem.now + sum)) }
+{
+    let _built = problem.taxonomy_count();
+    if sum < problem.sum_count() {
+        return problem.is_kept(problem.sum_at(sum));
+    }
+    false
+}

@@ -1,0 +1,195 @@
+//! A prefix of a problem, with what is forced of each pair there.
+ghost use Rattle.std.specs.Prelude.{◌≡◌, ◌-◌, ◌+◌, ◌*◌, ◌<◌, ◌≤◌, [], ◌∷◌, ◌++◌, length, take, IfOk, OnOk, OnErr, IsTrue};
+ghost use Rattle.rcc5_core.specs.RelationSet.{has};
+ghost use Rattle.rcc5_core.specs.Region.{word_at};
+ghost use Rattle.cert_model.specs.Forced.{region_with};
+ghost use Rattle.world_model.specs.Problem.{pair_count, concept_count};
+ghost use Rattle.world_model.specs.Node.{pair_at};
+ghost use Rattle.world_model.specs.Alive.{allowed, problem_at};
+ghost use Rattle.point_query.specs.Stands.{IsOpen, AreForced, IsEmptyPair, forced_at, is_needed};
+
+use constraint_set::Problem;
+use rcc5_core::{Occupancy, Regions, Rel, forced};
+use std::alloc::{AllocError, Global};
+use std::marker::Model;
+use world_model::{pairs_stand_once, positions_narrow};
+
+/// A problem, and a prefix whose relations it allows: what the problem alone forces of each pair, what it forces at the
+/// prefix, and the first pair that it leaves nothing.
+#[derive(Drop)]
+pub(crate) struct Stand {
+    problem: Problem,
+    path: Vec<Rel>,
+    at_start: Vec<Regions>,
+    at_path: Vec<Regions>,
+    empty: Option<u32>,
+}
+
+impl Model for Stand {
+    ghost use Rattle.point_query.specs.Stands.{StandState, IsStand};
+
+    ghost Value = { StandState };
+
+    ghost view = { λ s. record { problem = s.problem; path = s.path.items } };
+
+    ghost invariant = { λ s. IsStand s.problem s.path.items s.at_start.items s.at_path.items s.empty };
+}
+
+impl Stand {
+    // The empty prefix.
+    pub(crate) fn new(alloc: Global, problem: Problem) -> Result<Stand, AllocError>
+        ensures { IfOk result (λ s. s ≡ record { problem = problem; path = [] }) }
+    {
+        positions_narrow();
+        let at_start = forced_alone(alloc, &problem)?;
+        let at_path = Vec::from_slice(alloc, &at_start)?;
+        let empty = first_empty(&problem);
+        Ok(Stand {
+            problem,
+            path: Vec::new(alloc),
+            at_start,
+            at_path,
+            empty,
+        })
+    }
+
+    pub(crate) fn problem(&self) -> &Problem
+        ensures { result.now ≡ self.now.problem }
+    {
+        &self.problem
+    }
+
+    // The prefix. The problem allows each of its relations.
+    pub(crate) fn path(&self) -> &[Rel]
+        ensures value { result.now ≡ self.now.path }
+        ensures open { IsOpen self.now.problem self.now.path }
+    {
+        &self.path
+    }
+
+    // How many relations the prefix has.
+    pub(crate) fn len(&self) -> u32
+        ensures { result ≡ length self.now.path }
+    {
+        let _few = count_pairs(&self.problem);
+        self.path.len() as u32
+    }
+
+    // The first pair that the problem alone leaves nothing.
+    pub(crate) fn empty(&self) -> Option<u32>
+        ensures { IsEmptyPair self.now.problem result }
+    {
+        self.empty
+    }
+
+    // What is forced of a pair by the problem alone.
+    pub(crate) fn start_at(&self, pair: u32) -> Regions
+        requires { pair < pair_count self.now.problem }
+        ensures { result ≡ forced_at self.now.problem pair }
+    {
+        self.at_start[pair as usize]
+    }
+
+    // What is forced of a pair at the prefix.
+    pub(crate) fn forced_at(&self, pair: u32) -> Regions
+        requires { pair < pair_count self.now.problem }
+        ensures { result ≡ forced_at (problem_at self.now.problem self.now.path) pair }
+    {
+        self.at_path[pair as usize]
+    }
+
+    // Whether the need with this number is one at the prefix.
+    pub(crate) fn is_needed(&self, number: u32) -> bool
+        requires { number < 3 * pair_count self.now.problem + concept_count self.now.problem }
+        ensures { result ≡ is_needed (problem_at self.now.problem self.now.path) number }
+    {
+        let pair = number as usize / 3;
+        if pair < self.at_path.len() {
+            word_of(self.at_path[pair], number % 3) == Occupancy::Occupied
+        } else {
+            self.problem.switches().nonempty
+        }
+    }
+
+    // Adds a relation that the problem allows the next pair.
+    pub(crate) fn push(&mut self, rel: Rel) -> Result<(), AllocError>
+        requires within { length self.old.path < pair_count self.old.problem }
+        requires allowed { IsTrue (has (allowed self.old.problem (pair_at self.old.problem (length self.old.path))) rel) }
+        ensures ok { OnOk result (self.new ≡ record self.old { path = self.old.path ++ rel ∷ [] }) }
+        ensures err { OnErr result (self.new ≡ self.old) }
+    {
+        positions_narrow();
+        let pair = self.path.len();
+        self.path.push(rel)?;
+        self.at_path[pair] = rel.row();
+        Ok(())
+    }
+
+    // Takes off the relations after the first ones.
+    pub(crate) fn back_to(&mut self, count: usize)
+        requires { count ≤ length self.old.path }
+        ensures { self.new ≡ record self.old { path = take count self.old.path } }
+    {
+        while self.path().len() > count {
+            self.pop();
+        }
+    }
+
+    // Takes off the last relation.
+    fn pop(&mut self)
+        requires { 0 < length self.old.path }
+        ensures { self.new ≡ record self.old { path = take (length self.old.path - 1) self.old.path } }
+    {
+        positions_narrow();
+        let pair = self.path.len() - 1;
+        self.path.truncate(pair);
+        self.at_path[pair] = self.at_start[pair];
+    }
+}
+
+// How many pairs there are, which is not too many to count their regions.
+pub(crate) fn count_pairs(problem: &Problem) -> u32
+    ensures count { result ≡ pair_count problem.now }
+    ensures pairs { result ≤ 523776 }
+    ensures concepts { concept_count problem.now ≤ 1024 }
+{
+    let _built = problem.taxonomy_count();
+    pairs_stand_once();
+    problem.pair_count()
+}
+
+// What the problem alone forces of each pair.
+fn forced_alone(alloc: Global, problem: &Problem) -> Result<Vec<Regions>, AllocError>
+    ensures { IfOk result (λ regions. AreForced problem.now regions.items) }
+{
+    let mut regions = Vec::with_capacity(alloc, problem.pair_count() as usize)?;
+    for pair in 0..problem.pair_count() {
+        regions.push(forced(problem.allowed(pair)))?;
+    }
+    Ok(regions)
+}
+
+// The first pair that the problem alone leaves nothing.
+fn first_empty(problem: &Problem) -> Option<u32>
+    ensures { IsEmptyPair problem.now result }
+{
+    for pair in 0..problem.pair_count() {
+        if problem.allowed(pair).is_empty() {
+            return Some(pair);
+        }
+    }
+    None
+}
+
+// What is known of a region, by its number among the three.
+pub(crate) fn word_of(regions: Regions, part: u32) -> Occupancy
+    ensures { result ≡ word_at regions (region_with part) }
+{
+    if part == 0 {
+        regions.left_only
+    } else if part == 1 {
+        regions.both
+    } else {
+        regions.right_only
+    }
+}
