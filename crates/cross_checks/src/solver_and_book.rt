@@ -1,6 +1,6 @@
 //! The lines that the solver makes, given to a book of the checker.
 
-ghost use Rattle.std.specs.Prelude.{◌≡◌, ◌<◌, ◌≤◌, [], false, length, IfOk};
+ghost use Rattle.std.specs.Prelude.{◌≡◌, ◌<◌, [], false, IfOk};
 ghost use Rattle.lits_core.specs.Literals.{variable_of, is_negative};
 
 use learn_solver::{Answer, Solver};

@@ -1,8 +1,7 @@
 //! A formula in the DIMACS form, given to the solver.
 
-ghost use Rattle.std.specs.Prelude.{◌≡◌, ◌<◌, [], length, IfOk, IfSome};
+ghost use Rattle.std.specs.Prelude.{◌≡◌, ◌<◌, [], IfSome};
 ghost use Rattle.lits_core.specs.Literals.{variable_of};
-ghost use Rattle.watch_arena.specs.Trails.{AreInRange};
 
 use crate::files::bytes_of;
 use learn_solver::{Answer, Solver};
@@ -23,7 +22,7 @@ fn literal(number: i32, variables: u32) -> Option<Lit>
     Some(Lit::new(variable - 1, number < 0))
 }
 
-// Adds the clauses, each of them the numbers up to the next 0.
+// Adds the clauses, each of them the numbers up to the next 0. What is no literal ends a clause as 0 does.
 fn add_clauses(
     solver: &mut Solver,
     alloc: Global,
