@@ -7,3 +7,6 @@ mod walk;
 
 pub use search::Search;
 pub use step::{Nodes, Step, StepFault};
+
+#[cfg(test)]
+mod tests;
