@@ -20,7 +20,7 @@ use Rattle.align_top.specs.declared.Request.{Request}
 use Rattle.align_top.specs.declared.Request.TheVariants.{Align}
 use Rattle.align_top.specs.Words.{request_of}
 use Rattle.align_top.specs.Output.{IsAnswer, IsRequestAnswer, IsTextAnswer, end_line, listing_text, listing_status, IsLastPut}
-use Rattle.align_top.specs.Run.{IfAnswered, IfReadFault, IfWriteFault, IfCutShort, AreHeld, IsAsked, IsPut, IsAskedText, IsCutShort, IsPutInPart, IsEndOf, IsReadFailed, AsksFor}
+use Rattle.align_top.specs.Run.{IfAnswered, IfReadFault, IfWriteFault, IfCutShort, IfNoMemory, AreHeld, IsAsked, IsPut, IsAskedText, IsCutShort, IsPutInPart, IsEndOf, IsReadFailed, IsReadTold, AsksFor}
 use Rattle.align_top.specs.Putting.{counted_worlds, count_status, IsPutWhole, IsPutPartly, IsListingEnd}
 
 -- a text that is cut behind the longest one says what the whole says
@@ -175,10 +175,10 @@ pub listing_starved : (s r : Status) (old mid new : Option (List ℕ)) (text : L
     → IsLastPut status.NoMemory r (end_line status.NoMemory) mid new between now
     → IsEndOf s text r old new before now
 listing_starved s r old mid new text before between now part same last = ⊎_elim
-    (λ whole. inr (inr (whole.0, cut_line old mid new text part (GrownInPart-all mid new (end_line status.NoMemory) whole.1))))
+    (λ whole. inr (inr (whole.0, cut_line old mid new text part (GrownInPart-all mid new (end_line status.NoMemory) whole.1), whole.2 ∙ same)))
     (λ other. ⊎_elim
     (λ refused. inr (inl (refused.0, cut_line old mid new text part refused.1, subst (λ (n : ℕ). Rose n now) same refused.2)))
-    (λ starved. inr (inr (starved.0, cut_line old mid new text part starved.1)))
+    (λ starved. inr (inr (starved.0, cut_line old mid new text part starved.1, starved.2 ∙ same)))
     other)
     last
 
@@ -341,6 +341,48 @@ end_quiet reads reads' s r old new before now quiet last = ⊎_elim
     other)
     last
 
+starved-any : (s : Status) (P : Type 0) → P → IfNoMemory s P
+starved-any status.Done P h = tt
+starved-any (status.RefusedText line kind) P h = tt
+starved-any (status.Usage kind) P h = tt
+starved-any status.ReadFault P h = tt
+starved-any status.WriteFault P h = tt
+starved-any status.NoWorld P h = tt
+starved-any status.NoMemory P h = h
+
+-- a read that failed, by the status that is to be put
+told_by : (words : List (List ℕ)) (reads reads' : Counts) (old new : Option (List ℕ)) (s : Status)
+    → IfReadFault s (IsReadFailed words reads reads') → IfAnswered s (reads' ≡ reads) → IfNoMemory s (reads' ≡ reads) → IfWriteFault s ⊥
+    → GrownInPart old new (end_line s) → IsReadTold words reads reads' old new
+told_by words reads reads' old new status.Done failed quiet starved never part = inl quiet
+told_by words reads reads' old new (status.RefusedText line kind) failed quiet starved never part = inl quiet
+told_by words reads reads' old new (status.Usage kind) failed quiet starved never part = inl quiet
+told_by words reads reads' old new status.ReadFault failed quiet starved never part = inr (failed, part)
+told_by words reads reads' old new status.WriteFault failed quiet starved never part = absurd never
+told_by words reads reads' old new status.NoWorld failed quiet starved never part = inl quiet
+told_by words reads reads' old new status.NoMemory failed quiet starved never part = inl starved
+
+pub end_read_told : (words : List (List ℕ)) (reads reads' : Counts) (s r : Status) (old new : Option (List ℕ)) (before now : ℕ)
+    → IfReadFault s (IsReadFailed words reads reads') → IfAnswered s (reads' ≡ reads) → IfNoMemory s (reads' ≡ reads) → IfWriteFault s ⊥
+    → IsLastPut s r (end_line s) old new before now → IfCutShort r (IsReadTold words reads reads' old new)
+end_read_told words reads reads' s r old new before now failed quiet starving never last = cut-any r (IsReadTold words reads reads' old new) (⊎_elim
+    (λ whole. told_by words reads reads' old new s failed quiet starving never (GrownInPart-all old new (end_line s) whole.1))
+    (λ other. ⊎_elim
+    (λ refused. told_by words reads reads' old new s failed quiet starving never refused.1)
+    (λ starved. told_by words reads reads' old new s failed quiet starving never starved.1)
+    other)
+    last)
+
+pub end_write_told : (s r : Status) (old new : Option (List ℕ)) (before now : ℕ)
+    → IsLastPut s r (end_line s) old new before now → IfNoMemory r (now ≡ before)
+end_write_told s r old new before now last = ⊎_elim
+    (λ whole. starved-any r (now ≡ before) whole.2)
+    (λ other. ⊎_elim
+    (λ refused. subst (λ (x : Status). IfNoMemory x (now ≡ before)) (sym refused.0) tt)
+    (λ starved. starved-any r (now ≡ before) starved.2)
+    other)
+    last
+
 -- a listing is put: the same clauses
 no_read_fault : (worlds : List (List Rel)) (P : Type 0) → IfReadFault (listing_status worlds) P
 no_read_fault [] P = tt
@@ -410,6 +452,16 @@ listed_quiet reads reads' worlds r old new before now quiet end = ⊎_elim
     other)
     end
 
+pub listed_write_told : (worlds : List (List Rel)) (r : Status) (old new : Option (List ℕ)) (before now : ℕ)
+    → IsEndOf (listing_status worlds) (listing_text worlds) r old new before now → IfNoMemory r (now ≡ before)
+listed_write_told worlds r old new before now end = ⊎_elim
+    (λ whole. starved-any r (now ≡ before) whole.2)
+    (λ other. ⊎_elim
+    (λ refused. subst (λ (x : Status). IfNoMemory x (now ≡ before)) (sym refused.0) tt)
+    (λ starved. starved-any r (now ≡ before) starved.2)
+    other)
+    end
+
 -- the same with the request last
 pub end_of_file : (words : List (List ℕ)) (held : Contents) (name items bytes : List ℕ) (switches : Switches) (s : Status)
     → IfAnswered s (IsTextAnswer (text_result bytes switches) s (end_line s)) → IfSome (held name) (λ all. items ≡ take 1048577 all) → bytes ≡ items
@@ -441,4 +493,11 @@ pub put_quiet : (reads reads' : Counts) (p : Problem) (r : Status) (old new : Op
     → reads' ≡ reads → IsListingEnd p r old new before now → IfAnswered r ((reads' ≡ reads) × (now ≡ before))
 put_quiet reads reads' p r old new before now quiet end = listed_quiet reads reads' end.worlds r old new before now quiet end.ended
 
-pub ruleset run_rules = (end_answer, end_read_line, end_cut, end_read_fault, end_write_fault, end_quiet, put_answer, put_no_read, put_cut, put_write_fault, put_quiet)
+pub put_read_told : (words : List (List ℕ)) (reads reads' : Counts) (old new : Option (List ℕ)) (r : Status)
+    → reads' ≡ reads → IfCutShort r (IsReadTold words reads reads' old new)
+put_read_told words reads reads' old new r quiet = cut-any r (IsReadTold words reads reads' old new) (inl quiet)
+
+pub put_write_told : (p : Problem) (r : Status) (old new : Option (List ℕ)) (before now : ℕ) → IsListingEnd p r old new before now → IfNoMemory r (now ≡ before)
+put_write_told p r old new before now end = listed_write_told end.worlds r old new before now end.ended
+
+pub ruleset run_rules = (end_answer, end_read_line, end_cut, end_read_fault, end_write_fault, end_quiet, end_read_told, end_write_told, put_answer, put_no_read, put_cut, put_write_fault, put_quiet, put_read_told, put_write_told)

@@ -53,6 +53,16 @@ IfCutShort WriteFault fact = fact
 IfCutShort NoWorld fact = ⊤
 IfCutShort NoMemory fact = fact
 
+-- a fact of want of memory
+abbrev pub IfNoMemory : Status → Type 0 → Type 0
+IfNoMemory Done fact = ⊤
+IfNoMemory (RefusedText line kind) fact = ⊤
+IfNoMemory (Usage kind) fact = ⊤
+IfNoMemory ReadFault fact = ⊤
+IfNoMemory WriteFault fact = ⊤
+IfNoMemory NoWorld fact = ⊤
+IfNoMemory NoMemory fact = fact
+
 -- names hold these bytes, by all that the store tells
 abbrev pub AreHeld : (List ℕ → List ℕ) → Contents → Type 0
 AreHeld bytes held = (name : List ℕ) → IfSome (held name) (λ told. bytes name ≡ told)
@@ -97,7 +107,7 @@ abbrev pub IsEndOf : Status → List ℕ → Status → Option (List ℕ) → Op
 IsEndOf status text result old new before now =
     ((result ≡ status) × (new ≡ added old text) × (now ≡ before))
     ⊎ (((result ≡ WriteFault) × IsCutShort old new text × Rose before now)
-    ⊎ ((result ≡ NoMemory) × IsCutShort old new text))
+    ⊎ ((result ≡ NoMemory) × IsCutShort old new text × (now ≡ before)))
 
 -- the words are a request, and the read count of the name in `in` rose
 pub record IsReadFailed (words : List (List ℕ)) (before now : Counts) : Type 0 where
@@ -105,3 +115,7 @@ pub record IsReadFailed (words : List (List ℕ)) (before now : Counts) : Type 0
   pub switches : Switches
   pub request : request_of words ≡ Ok (Align input switches)
   pub rose : Rose (before input) (now input)
+
+-- no read failed; or one did, and a first part of the line that says so is all that was put
+abbrev pub IsReadTold : List (List ℕ) → Counts → Counts → Option (List ℕ) → Option (List ℕ) → Type 0
+IsReadTold words before now old new = (now ≡ before) ⊎ (IsReadFailed words before now × GrownInPart old new (end_line ReadFault))
