@@ -20,7 +20,7 @@ use Rattle.align_top.specs.declared.Request.{Request}
 use Rattle.align_top.specs.declared.Request.TheVariants.{Align}
 use Rattle.align_top.specs.Words.{request_of}
 use Rattle.align_top.specs.Output.{IsAnswer, IsRequestAnswer, IsTextAnswer, end_line, listing_text, listing_status, IsLastPut}
-use Rattle.align_top.specs.Run.{IfAnswered, IfReadFault, IfWriteFault, IfCutShort, IfNoMemory, AreHeld, IsAsked, IsPut, IsAskedText, IsCutShort, IsPutInPart, IsEndOf, IsReadFailed, IsReadTold, AsksFor}
+use Rattle.align_top.specs.Run.{IfAnswered, IfReadFault, IfWriteFault, IfCutShort, IfNoMemory, UnlessWriteFault, AreHeld, IsAsked, IsPut, IsAskedText, IsCutShort, IsPutInPart, IsEndOf, IsReadFailed, IsReadTold, AsksFor}
 use Rattle.align_top.specs.Putting.{counted_worlds, count_status, IsPutWhole, IsPutPartly, IsListingEnd}
 
 -- a text that is cut behind the longest one says what the whole says
@@ -341,14 +341,14 @@ end_quiet reads reads' s r old new before now quiet last = ⊎_elim
     other)
     last
 
-starved-any : (s : Status) (P : Type 0) → P → IfNoMemory s P
-starved-any status.Done P h = tt
-starved-any (status.RefusedText line kind) P h = tt
-starved-any (status.Usage kind) P h = tt
-starved-any status.ReadFault P h = tt
-starved-any status.WriteFault P h = tt
-starved-any status.NoWorld P h = tt
-starved-any status.NoMemory P h = h
+unless-any : (s : Status) (P : Type 0) → P → UnlessWriteFault s P
+unless-any status.Done P h = h
+unless-any (status.RefusedText line kind) P h = h
+unless-any (status.Usage kind) P h = h
+unless-any status.ReadFault P h = h
+unless-any status.WriteFault P h = tt
+unless-any status.NoWorld P h = h
+unless-any status.NoMemory P h = h
 
 -- a read that failed, by the status that is to be put
 told_by : (words : List (List ℕ)) (reads reads' : Counts) (old new : Option (List ℕ)) (s : Status)
@@ -374,12 +374,12 @@ end_read_told words reads reads' s r old new before now failed quiet starving ne
     last)
 
 pub end_write_told : (s r : Status) (old new : Option (List ℕ)) (before now : ℕ)
-    → IsLastPut s r (end_line s) old new before now → IfNoMemory r (now ≡ before)
+    → IsLastPut s r (end_line s) old new before now → UnlessWriteFault r (now ≡ before)
 end_write_told s r old new before now last = ⊎_elim
-    (λ whole. starved-any r (now ≡ before) whole.2)
+    (λ whole. unless-any r (now ≡ before) whole.2)
     (λ other. ⊎_elim
-    (λ refused. subst (λ (x : Status). IfNoMemory x (now ≡ before)) (sym refused.0) tt)
-    (λ starved. starved-any r (now ≡ before) starved.2)
+    (λ refused. subst (λ (x : Status). UnlessWriteFault x (now ≡ before)) (sym refused.0) tt)
+    (λ starved. unless-any r (now ≡ before) starved.2)
     other)
     last
 
@@ -453,12 +453,12 @@ listed_quiet reads reads' worlds r old new before now quiet end = ⊎_elim
     end
 
 pub listed_write_told : (worlds : List (List Rel)) (r : Status) (old new : Option (List ℕ)) (before now : ℕ)
-    → IsEndOf (listing_status worlds) (listing_text worlds) r old new before now → IfNoMemory r (now ≡ before)
+    → IsEndOf (listing_status worlds) (listing_text worlds) r old new before now → UnlessWriteFault r (now ≡ before)
 listed_write_told worlds r old new before now end = ⊎_elim
-    (λ whole. starved-any r (now ≡ before) whole.2)
+    (λ whole. unless-any r (now ≡ before) whole.2)
     (λ other. ⊎_elim
-    (λ refused. subst (λ (x : Status). IfNoMemory x (now ≡ before)) (sym refused.0) tt)
-    (λ starved. starved-any r (now ≡ before) starved.2)
+    (λ refused. subst (λ (x : Status). UnlessWriteFault x (now ≡ before)) (sym refused.0) tt)
+    (λ starved. unless-any r (now ≡ before) starved.2)
     other)
     end
 
@@ -497,7 +497,7 @@ pub put_read_told : (words : List (List ℕ)) (reads reads' : Counts) (old new :
     → reads' ≡ reads → IfCutShort r (IsReadTold words reads reads' old new)
 put_read_told words reads reads' old new r quiet = cut-any r (IsReadTold words reads reads' old new) (inl quiet)
 
-pub put_write_told : (p : Problem) (r : Status) (old new : Option (List ℕ)) (before now : ℕ) → IsListingEnd p r old new before now → IfNoMemory r (now ≡ before)
+pub put_write_told : (p : Problem) (r : Status) (old new : Option (List ℕ)) (before now : ℕ) → IsListingEnd p r old new before now → UnlessWriteFault r (now ≡ before)
 put_write_told p r old new before now end = listed_write_told end.worlds r old new before now end.ended
 
 pub ruleset run_rules = (end_answer, end_read_line, end_cut, end_read_fault, end_write_fault, end_quiet, end_read_told, end_write_told, put_answer, put_no_read, put_cut, put_write_fault, put_quiet, put_read_told, put_write_told)

@@ -63,6 +63,16 @@ IfNoMemory WriteFault fact = ⊤
 IfNoMemory NoWorld fact = ⊤
 IfNoMemory NoMemory fact = fact
 
+-- a fact of every status but that of a failed put
+abbrev pub UnlessWriteFault : Status → Type 0 → Type 0
+UnlessWriteFault Done fact = fact
+UnlessWriteFault (RefusedText line kind) fact = fact
+UnlessWriteFault (Usage kind) fact = fact
+UnlessWriteFault ReadFault fact = fact
+UnlessWriteFault WriteFault fact = ⊤
+UnlessWriteFault NoWorld fact = fact
+UnlessWriteFault NoMemory fact = fact
+
 -- names hold these bytes, by all that the store tells
 abbrev pub AreHeld : (List ℕ → List ℕ) → Contents → Type 0
 AreHeld bytes held = (name : List ℕ) → IfSome (held name) (λ told. bytes name ≡ told)

@@ -7,7 +7,7 @@ ghost use Rattle.cleantax_text.specs.declared.TextKind.TheVariants as text;
 ghost use Rattle.cleantax_text.specs.Reading.{text_result, IsProblemText};
 ghost use Rattle.align_top.specs.Words.{request_of};
 ghost use Rattle.align_top.specs.Output.{end_line, IsTextAnswer};
-ghost use Rattle.align_top.specs.Run.{IfAnswered, IfReadFault, IfWriteFault, IfCutShort, IfNoMemory, IsAsked, IsPut, IsPutInPart, IsReadFailed, IsReadTold, AsksFor};
+ghost use Rattle.align_top.specs.Run.{IfAnswered, IfReadFault, IfWriteFault, IfCutShort, IfNoMemory, UnlessWriteFault, IsAsked, IsPut, IsPutInPart, IsReadFailed, IsReadTold, AsksFor};
 ghost use Rattle.align_top.specs.Putting.{count_status, IsListingEnd};
 
 use crate::{
@@ -111,7 +111,7 @@ pub fn run<S: Store, W: Sink>(alloc: Global, words: &[String], store: &mut S, ou
     ensures write_fault { IfWriteFault result (Rose (W.faults out.old) (W.faults out.new)) }
     ensures cut_short { IfCutShort result (IsPutInPart (map string_bytes words.now) (S.held store.old) (W.received out.old) (W.received out.new)) }
     ensures read_told { IfCutShort result (IsReadTold (map string_bytes words.now) (S.read_faults store.old) (S.read_faults store.new) (W.received out.old) (W.received out.new)) }
-    ensures write_told { IfNoMemory result (W.faults out.new ≡ W.faults out.old) }
+    ensures write_told { UnlessWriteFault result (W.faults out.new ≡ W.faults out.old) }
     ensures contents { S.held store.new ≡ S.held store.old }
 {
     match problem_of_words(alloc, words, store) {
