@@ -21,8 +21,8 @@ use Rattle.constraint_set.specs.Readers.{sum_places}
 use Rattle.constraint_set.proofs.Lists.{range_more}
 use Rattle.cert_model.specs.Clauses.{is_so, first_sum_selector}
 use Rattle.cert_model.specs.Forced.{region_number, region_selectors, sum_selectors, selectors_of}
-use Rattle.point_query.specs.Stands.{IsOpen, forced_at}
-use Rattle.point_query.specs.Queries.{AreSelectors, pair_selectors, kept_selector, start_selectors, kept_selectors, path_selectors}
+use Rattle.point_query.specs.Stands.{IsOpen, forced_at, pair_selectors, kept_selector, start_selectors, kept_selectors, path_selectors}
+use Rattle.point_query.specs.Queries.{AreSelectors}
 use Rattle.point_query.proofs.Prefixes.{forced_later}
 
 -- one list more

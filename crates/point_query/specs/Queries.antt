@@ -33,21 +33,3 @@ asker_with p s = record { shape = shape_of p; solver = s }
 -- lists of bits are points of a problem
 abbrev pub ArePoints : Problem → List (List Bool) → Type 0
 ArePoints p points = All (λ bits. IsTrue (is_point p bits)) points
-
--- the selectors of a pair's regions that are forced empty, the first selector of the pair given
-abbrev pub pair_selectors : ℕ → Regions → List ℕ
-pair_selectors first regions = map (λ region. is_so (first + region_number region)) (filter (λ region. same_word (word_at regions region) Empty) all_regions)
-
--- the selector of a sum, by its number among all sums, if it is kept
-abbrev pub kept_selector : Problem → ℕ → List ℕ
-kept_selector p sum = if slice_index_or p.kept (slice_index (sum_places p) sum) false then is_so (first_sum_selector p + sum) ∷ [] else []
-
--- the selectors that a problem alone makes true, those of its kept sums, and those that a prefix makes true at its own pairs
-abbrev pub start_selectors : Problem → List ℕ
-start_selectors p = flat_map (λ k. pair_selectors (concept_count p + 3 * k) (forced_at p k)) (range_with_len 0 (pair_count p))
-
-abbrev pub kept_selectors : Problem → List ℕ
-kept_selectors p = flat_map (kept_selector p) (range_with_len 0 (length (sum_places p)))
-
-abbrev pub path_selectors : Problem → List Rel → List ℕ
-path_selectors p m = flat_map (λ k. pair_selectors (concept_count p + 3 * k) (forced_at (problem_at p m) k)) (range_with_len 0 (length m))

@@ -2,36 +2,56 @@
 ghost use Rattle.std.specs.Prelude.{◌≡◌, ◌+◌, ◌*◌, ◌<◌, ◌++◌, length, IfOk, OnOk};
 ghost use Rattle.world_model.specs.Problem.{pair_count, concept_count};
 ghost use Rattle.constraint_set.specs.Readers.{sum_places};
-ghost use Rattle.point_query.specs.Queries.{AreSelectors, pair_selectors, kept_selector, start_selectors, kept_selectors, path_selectors};
+ghost use Rattle.point_query.specs.Stands.{AreForced, pair_selectors, kept_selector, start_selectors, kept_selectors};
 
-use crate::stand::{Stand, count_pairs};
+use crate::stand::count_pairs;
 use constraint_set::Problem;
 use lits_core::Lit;
 use rcc5_core::{Occupancy, Regions};
 use std::alloc::{AllocError, Global};
-use world_model::positions_narrow;
 
-// The selectors that a prefix makes true. Those that each longer prefix makes true too come first: what the problem alone
-// forces, then the sums, then what the prefix forces, pair by pair.
-pub(crate) fn selectors(alloc: Global, stand: &Stand) -> Result<Vec<Lit>, AllocError>
-    ensures { IfOk result (λ lits. AreSelectors stand.now.problem stand.now.path lits.items) }
+// The selectors that a problem alone makes true, where these are what it forces of its pairs. The sums' come last.
+pub(crate) fn selected_alone(
+    alloc: Global,
+    problem: &Problem,
+    at_start: &[Regions],
+) -> Result<Vec<Lit>, AllocError>
+    requires { AreForced problem.now at_start.now }
+    ensures { IfOk result (λ lits. lits.items ≡ start_selectors problem.now ++ kept_selectors problem.now) }
 {
-    positions_narrow();
-    let _open = stand.path();
     let mut lits = Vec::new(alloc);
-    push_start(&mut lits, stand)?;
-    push_sums(&mut lits, stand.problem())?;
-    push_path(&mut lits, stand)?;
+    push_start(&mut lits, problem, at_start)?;
+    push_sums(&mut lits, problem)?;
+    Ok(lits)
+}
+
+// The selectors of a pair's regions that are forced empty.
+pub(crate) fn selected_at(
+    alloc: Global,
+    problem: &Problem,
+    pair: u32,
+    regions: Regions,
+) -> Result<Vec<Lit>, AllocError>
+    requires { pair < pair_count problem.now }
+    ensures { IfOk result (λ lits. lits.items ≡ pair_selectors (concept_count problem.now + 3 * pair) regions) }
+{
+    let mut lits = Vec::new(alloc);
+    push_empty(&mut lits, problem, pair, regions)?;
     Ok(lits)
 }
 
 // Adds the selectors that the problem alone makes true.
-fn push_start(lits: &mut Vec<Lit>, stand: &Stand) -> Result<(), AllocError>
-    ensures { OnOk result (lits.new.items ≡ lits.old.items ++ start_selectors stand.now.problem) }
+fn push_start(
+    lits: &mut Vec<Lit>,
+    problem: &Problem,
+    at_start: &[Regions],
+) -> Result<(), AllocError>
+    requires { AreForced problem.now at_start.now }
+    ensures { OnOk result (lits.new.items ≡ lits.old.items ++ start_selectors problem.now) }
 {
-    let problem = stand.problem();
     for pair in 0..problem.pair_count() {
-        push_empty(lits, problem, pair, stand.start_at(pair))?;
+        let regions = at_start[pair as usize];
+        push_empty(lits, problem, pair, regions)?;
     }
     Ok(())
 }
@@ -42,17 +62,6 @@ fn push_sums(lits: &mut Vec<Lit>, problem: &Problem) -> Result<(), AllocError>
 {
     for sum in 0..problem.sum_count() {
         push_sum(lits, problem, sum)?;
-    }
-    Ok(())
-}
-
-// Adds the selectors that a prefix makes true at its own pairs.
-fn push_path(lits: &mut Vec<Lit>, stand: &Stand) -> Result<(), AllocError>
-    ensures { OnOk result (lits.new.items ≡ lits.old.items ++ path_selectors stand.now.problem stand.now.path) }
-{
-    let _open = stand.path();
-    for pair in 0..stand.len() {
-        push_empty(lits, stand.problem(), pair, stand.forced_at(pair))?;
     }
     Ok(())
 }

@@ -15,8 +15,6 @@ ghost use Rattle.point_query.specs.Stands.{need_at, is_needed};
 ghost use Rattle.point_query.specs.Walks.{need_count};
 
 use crate::answers::Found;
-use crate::assume::selectors;
-
 use crate::query::query;
 use crate::stand::{Stand, count_pairs, word_of};
 use crate::walk::need_of;
@@ -101,7 +99,6 @@ impl Oracle {
         ensures solver { IsSolverOf stand.now.problem self.new }
         ensures found { IfOk result (IsFound (asker_with stand.now.problem self.new) stand.now.problem stand.now.path (need_at stand.now.problem number)) }
     {
-        let selectors = selectors(self.alloc, stand)?;
         let need = need_of(stand.problem(), number);
         self.questions = self.questions.saturating_add(1);
         query(
@@ -109,7 +106,7 @@ impl Oracle {
             &mut self.solver,
             stand.problem(),
             prefix,
-            &selectors,
+            stand.selected(),
             need,
         )
     }
@@ -195,8 +192,7 @@ impl Oracle {
     }
 
     // How many questions went to the solver.
-    pub(crate) fn questions(&self) -> u64
-    {
+    pub(crate) fn questions(&self) -> u64 {
         self.questions
     }
 

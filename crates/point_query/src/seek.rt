@@ -151,11 +151,7 @@ fn is_in_need(problem: &Problem, need: Need, bits: &Bits) -> bool
         Need::Concept(concept) => bits.get(concept as usize),
         Need::Region { pair, part } => {
             let (x, y) = problem.pair_at(pair);
-            lies_in(
-                u32::from(part),
-                bits.get(x as usize),
-                bits.get(y as usize),
-            )
+            lies_in(u32::from(part), bits.get(x as usize), bits.get(y as usize))
         }
     }
 }

@@ -1,14 +1,17 @@
 //! A prefix of a problem, with what is forced of each pair there.
-ghost use Rattle.std.specs.Prelude.{◌≡◌, ◌-◌, ◌+◌, ◌*◌, ◌<◌, ◌≤◌, [], ◌∷◌, ◌++◌, length, take, IfOk, OnOk, OnErr, IsTrue};
+ghost use Rattle.std.specs.Prelude.{◌≡◌, ℕ, ◌-◌, ◌+◌, ◌*◌, ◌<◌, ◌≤◌, [], ◌∷◌, ◌++◌, length, take, IfOk, OnOk, OnErr, IsTrue};
 ghost use Rattle.rcc5_core.specs.RelationSet.{has};
-ghost use Rattle.rcc5_core.specs.Region.{word_at};
+ghost use Rattle.rcc5_core.specs.Region.{word_at, row_of};
 ghost use Rattle.cert_model.specs.Forced.{region_with};
 ghost use Rattle.world_model.specs.Problem.{pair_count, concept_count};
 ghost use Rattle.world_model.specs.Node.{pair_at};
 ghost use Rattle.world_model.specs.Alive.{allowed, problem_at};
-ghost use Rattle.point_query.specs.Stands.{IsOpen, AreForced, IsEmptyPair, forced_at, is_needed};
+ghost use Rattle.point_query.specs.Queries.{AreSelectors};
+ghost use Rattle.point_query.specs.Stands.{IsOpen, AreForced, IsEmptyPair, forced_at, is_needed, pair_selectors};
 
+use crate::assume::{selected_alone, selected_at};
 use constraint_set::Problem;
+use lits_core::Lit;
 use rcc5_core::{Occupancy, Regions, Rel, forced};
 use std::alloc::{AllocError, Global};
 use std::marker::Model;
@@ -23,6 +26,9 @@ pub(crate) struct Stand {
     at_start: Vec<Regions>,
     at_path: Vec<Regions>,
     empty: Option<u32>,
+    // The selectors that the prefix makes true: those that the problem alone makes true come first, and each relation's last.
+    selected: Vec<Lit>,
+    alloc: Global,
 }
 
 impl Model for Stand {
@@ -32,7 +38,7 @@ impl Model for Stand {
 
     ghost view = { λ s. record { problem = s.problem; path = s.path.items } };
 
-    ghost invariant = { λ s. IsStand s.problem s.path.items s.at_start.items s.at_path.items s.empty };
+    ghost invariant = { λ s. IsStand s.problem s.path.items s.at_start.items s.at_path.items s.empty s.selected.items };
 }
 
 impl Stand {
@@ -44,12 +50,15 @@ impl Stand {
         let at_start = forced_alone(alloc, &problem)?;
         let at_path = Vec::from_slice(alloc, &at_start)?;
         let empty = first_empty(&problem);
+        let selected = selected_alone(alloc, &problem, &at_start)?;
         Ok(Stand {
             problem,
             path: Vec::new(alloc),
             at_start,
             at_path,
             empty,
+            selected,
+            alloc,
         })
     }
 
@@ -111,6 +120,14 @@ impl Stand {
         }
     }
 
+    // The selectors that the prefix makes true.
+    pub(crate) fn selected(&self) -> &[Lit]
+        ensures { AreSelectors self.now.problem self.now.path result.now }
+    {
+        positions_narrow();
+        &self.selected
+    }
+
     // Adds a relation that the problem allows the next pair.
     pub(crate) fn push(&mut self, rel: Rel) -> Result<(), AllocError>
         requires within { length self.old.path < pair_count self.old.problem }
@@ -120,7 +137,11 @@ impl Stand {
     {
         positions_narrow();
         let pair = self.path.len();
-        self.path.push(rel)?;
+        let _few = count_pairs(&self.problem);
+        let more = selected_at(self.alloc, &self.problem, pair as u32, rel.row())?;
+        self.path.reserve(1)?;
+        self.selected.extend_from_slice(&more)?;
+        self.path.push_reserved(rel);
         self.at_path[pair] = rel.row();
         Ok(())
     }
@@ -142,8 +163,22 @@ impl Stand {
     {
         positions_narrow();
         let pair = self.path.len() - 1;
+        let fewer = selected_count(self.path[pair]);
+        let kept = self.selected.len().saturating_sub(fewer);
+        self.selected.truncate(kept);
         self.path.truncate(pair);
         self.at_path[pair] = self.at_start[pair];
+    }
+}
+
+// How many selectors a relation makes true.
+fn selected_count(rel: Rel) -> usize
+    ensures { (first : ℕ) → result ≡ length (pair_selectors first (row_of rel)) }
+{
+    match rel {
+        Rel::Equals => 2,
+        Rel::Includes | Rel::IncludedIn | Rel::Disjoint => 1,
+        Rel::Overlaps => 0,
     }
 }
 

@@ -6,7 +6,7 @@ use Rattle.constraint_set.proofs.Lists.{few_filtered}
 use Rattle.world_model.specs.Problem.{Problem, concept_count}
 use Rattle.constraint_set.specs.Facts.{IsBuilt}
 use Rattle.cert_model.specs.Clauses.{is_so, first_sum_selector}
-use Rattle.point_query.specs.Queries.{kept_selector}
+use Rattle.point_query.specs.Stands.{kept_selector}
 use Rattle.point_query.proofs.assume.push_sum.Goals as goal
 
 few_sums : (p : Problem) → IsBuilt p → length (sum_places p) ≤ 4096

@@ -1,4 +1,4 @@
-use Rattle.point_query.specs.Queries.{kept_selector}
+use Rattle.point_query.specs.Stands.{kept_selector}
 use Rattle.point_query.proofs.Assuming.{lists_more}
 use Rattle.point_query.proofs.assume.push_sums.Goals as goal
 

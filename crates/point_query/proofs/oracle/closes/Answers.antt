@@ -31,9 +31,9 @@ returns c = λ yes.
     let end = c.loop-place-test.false in
     let count = c.count-place-end.ensures in
     let closed : IsClosedAt p m need c.in-Some.lits = λ lit has.
-        let index = index_of c.in-Some.lits lit has in
-        let lt = index.1 in
-        subst (λ l. Contains (asked_of p m need) (negation_of l)) index.2 (c.loop-place.invariant.each index.0 (omega arith)) in
+    let index = index_of c.in-Some.lits lit has in
+    let lt = index.1 in
+    subst (λ l. Contains (asked_of p m need) (negation_of l)) index.2 (c.loop-place.invariant.each index.0 (omega arith)) in
     let found : live_clause c.args.solver.now.state c.args.id ≡ Some c.in-Some.lits = sym c.clause.ensures ∙ c.in-Some.is in
     let here : MatchOption (Some c.in-Some.lits) ⊥ (IsClosedAt p m need) = closed in
     subst (λ o. MatchOption o ⊥ (IsClosedAt p m need)) (sym found) here
