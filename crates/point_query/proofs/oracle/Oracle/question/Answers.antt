@@ -4,12 +4,8 @@ use Rattle.world_model.specs.Alive.{needs, problem_at}
 use Rattle.world_model.proofs.Members.{In, contains_from_in}
 use Rattle.point_encode.specs.Needs.{need_seen}
 use Rattle.point_query.specs.Stands.{need_at}
-use Rattle.point_query.proofs.Querying.{goes_nowhere}
 use Rattle.point_query.proofs.Numbering.{need_in}
 use Rattle.point_query.proofs.oracle.Oracle.question.Goals as goal
-
-pub returns-in_err-selectors-clause-kept : goal.returns-in_err-selectors-clause-kept
-returns-in_err-selectors-clause-kept c = goes_nowhere c.args.self.now
 
 pub query-requires-clause-forced : goal.query-requires-clause-forced
 query-requires-clause-forced c =
