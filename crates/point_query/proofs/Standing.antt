@@ -163,7 +163,7 @@ path_more law p m rel o within h =
     (forced_inside law p more (length m) opened (omega arith) ∙ ap row_of (get_or_push m rel Equals (length m) refl))
 
 -- a list is its front and its last element
-front_last : (m : List Rel) (n : ℕ) (d : Rel) → length m ≡ n + 1 → m ≡ take n m ++ get_or m n d ∷ []
+pub front_last : (m : List Rel) (n : ℕ) (d : Rel) → length m ≡ n + 1 → m ≡ take n m ++ get_or m n d ∷ []
 front_last [] n d one = absurd (omega arith)
 front_last (x ∷ []) zero d one = refl
 front_last (x ∷ y ∷ m) zero d one = absurd (omega arith)

@@ -115,11 +115,10 @@ impl Asker {
         ensures kept { AskerGoes self.old self.new }
         ensures alive { IfOk result (λ yes. IsTrue yes ↔ IsAlive (problem_at problem.now prefix.now)) }
     {
-        match self.probe(problem, prefix)? {
-            Probe::Alive => Ok(true),
-            Probe::EmptyPair(_) => Ok(false),
-            Probe::Closed(_, _) => Ok(false),
-        }
+        let mut walk = self.take_walk(problem)?;
+        let alive = walk.is_alive(&mut self.solver, prefix)?;
+        self.walk = Some(walk);
+        Ok(alive)
     }
 
     // The walk that was kept, brought to a problem. Until it is put back the asker keeps none.

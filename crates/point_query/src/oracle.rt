@@ -3,7 +3,7 @@ ghost use Rattle.std.specs.Prelude.{◌≡◌, ℕ, [], List, ◌+◌, ◌*◌, 
 ghost use Rattle.rcc5_core.specs.declared.Rel.{Rel};
 ghost use Rattle.lits_core.specs.Derivation.{live_clause};
 ghost use Rattle.world_model.specs.Problem.{pair_count, concept_count};
-ghost use Rattle.world_model.specs.Alive.{needs, problem_at};
+ghost use Rattle.world_model.specs.Alive.{needs, problem_at, IsAlive};
 ghost use Rattle.constraint_set.specs.Readers.{sum_places};
 ghost use Rattle.cert_model.specs.Clauses.{is_so, first_sum_selector};
 ghost use Rattle.cert_model.specs.Forced.{selectors_of, need_lits, asked_of, IsClosedAt};
@@ -136,6 +136,36 @@ impl Oracle {
             &selectors,
             need,
         )
+    }
+
+    // Whether a clause closes one of the needs of a pair, among those that closed it before.
+    pub(crate) fn closes_at(&self, stand: &Stand, pair: u32) -> bool
+        requires within { pair < pair_count stand.now.problem }
+        requires solver { IsSolverOf stand.now.problem self.now }
+        ensures { IsTrue result → IsAlive (problem_at stand.now.problem stand.now.path) → ⊥ }
+    {
+        let _few = count_pairs(stand.problem());
+        for number in 3 * pair..3 * pair + 3 {
+            if self.closes_need(stand, number) {
+                return true;
+            }
+        }
+        false
+    }
+
+    // Whether the number is that of a need, which a clause closes that closed it before.
+    fn closes_need(&self, stand: &Stand, number: u32) -> bool
+        requires within { number < need_count stand.now.problem }
+        requires solver { IsSolverOf stand.now.problem self.now }
+        ensures { IsTrue result → IsAlive (problem_at stand.now.problem stand.now.path) → ⊥ }
+    {
+        if !stand.is_needed(number) {
+            return false;
+        }
+        match self.known(stand, number) {
+            Some(_) => true,
+            None => false,
+        }
     }
 
     // A clause that closes the need with a number, among those that closed it before.

@@ -3,7 +3,7 @@ ghost use Rattle.std.specs.Prelude.{◌≡◌, ℕ, ◌+◌, ◌*◌, ◌<◌, �
 ghost use Rattle.world_model.specs.Problem.{concept_count, pair_count};
 ghost use Rattle.rcc5_core.specs.RelationSet.{has};
 ghost use Rattle.world_model.specs.Node.{pair_at};
-ghost use Rattle.world_model.specs.Alive.{allowed, is_point, is_in_need, avoids, needs, problem_at};
+ghost use Rattle.world_model.specs.Alive.{allowed, is_point, is_in_need, avoids, needs, problem_at, IsAlive};
 ghost use Rattle.rcc5_core.specs.declared.Rel.TheVariants.{Equals};
 ghost use Rattle.constraint_set.specs.Shape.{SameShape};
 ghost use Rattle.cert_model.specs.Forced.{region_with};
@@ -542,6 +542,76 @@ impl Walk {
         ensures found { IfOk result (IsFound (asker_with self.now.stand.problem solver.new) self.now.stand.problem self.now.stand.path (need_at self.now.stand.problem number)) }
     {
         solver.ask(&self.stand, prefix, number)
+    }
+
+    // Whether a prefix is alive, and no more. A relation that a clause which closed a need before rules out at once costs no
+    // look at the points.
+    pub(crate) fn is_alive(
+        &mut self,
+        solver: &mut Oracle,
+        prefix: &Position,
+    ) -> Result<bool, AllocError>
+        requires walk { IsWalk self.old }
+        requires prefix { length prefix.now ≤ pair_count self.old.stand.problem }
+        requires solver { IsSolverOf self.old.stand.problem solver.old }
+        ensures kept { GoesTo solver.old solver.new }
+        ensures solver { IsSolverOf self.old.stand.problem solver.new }
+        ensures walk { OnOk result (IsWalk self.new) }
+        ensures problem { OnOk result (self.new.stand.problem ≡ self.old.stand.problem) }
+        ensures alive { IfOk result (λ yes. IsTrue yes ↔ IsAlive (problem_at self.old.stand.problem prefix.now)) }
+    {
+        if self.is_ruled_out(solver, prefix)? {
+            return Ok(false);
+        }
+        match self.probe(solver, prefix)? {
+            Probe::Alive => Ok(true),
+            Probe::EmptyPair(_) => Ok(false),
+            Probe::Closed(_, _) => Ok(false),
+        }
+    }
+
+    // Whether a clause that closed a need of the last pair before rules a prefix out, where the walk stands at its parent or
+    // beyond it.
+    fn is_ruled_out(&mut self, solver: &Oracle, prefix: &Position) -> Result<bool, AllocError>
+        requires walk { IsWalk self.old }
+        requires prefix { length prefix.now ≤ pair_count self.old.stand.problem }
+        requires solver { IsSolverOf self.old.stand.problem solver.now }
+        ensures walk { OnOk result (IsWalk self.new) }
+        ensures problem { OnOk result (self.new.stand.problem ≡ self.old.stand.problem) }
+        ensures dead { IfOk result (λ yes. IsTrue yes → IsAlive (problem_at self.old.stand.problem prefix.now) → ⊥) }
+    {
+        let count = prefix.len();
+        if count == 0 {
+            return Ok(false);
+        }
+        let parent = count - 1;
+        let _open = self.stand.path();
+        if common_len(self.stand.path(), prefix.rels()) < parent {
+            return Ok(false);
+        }
+        self.back_to(parent);
+        let pair = self.stand.len();
+        let rel = prefix.at(pair as usize);
+        if !self.stand.problem().allowed(pair).has(rel) {
+            return Ok(false);
+        }
+        self.is_closed_with(solver, rel)
+    }
+
+    // Whether a clause that closed a need of the next pair before closes it again with this relation.
+    fn is_closed_with(&mut self, solver: &Oracle, rel: Rel) -> Result<bool, AllocError>
+        requires walk { IsWalk self.old }
+        requires within { length self.old.stand.path < pair_count self.old.stand.problem }
+        requires allowed { IsTrue (has (allowed self.old.stand.problem (pair_at self.old.stand.problem (length self.old.stand.path))) rel) }
+        requires solver { IsSolverOf self.old.stand.problem solver.now }
+        ensures same { self.new ≡ self.old }
+        ensures dead { IfOk result (λ yes. IsTrue yes → IsAlive (problem_at self.old.stand.problem (self.old.stand.path ++ rel ∷ [])) → ⊥) }
+    {
+        let pair = self.stand.len();
+        self.stand.push(rel)?;
+        let closed = solver.closes_at(&self.stand, pair);
+        self.stand.back_to(pair as usize);
+        Ok(closed)
     }
 
     // Whether a prefix is alive.

@@ -14,7 +14,7 @@ ghost use Rattle.world_search.specs.Steps.{IsStep, IsStepped};
 
 use crate::step::{Nodes, Step};
 use constraint_set::Problem;
-use point_query::{Alive, Asker, Points, Probe};
+use point_query::{Alive, Asker, Points};
 use rcc5_core::{Position, Rel, RelSet};
 use set_family::Family;
 use std::alloc::{AllocError, Global};
@@ -152,13 +152,9 @@ fn is_alive(problem: &Problem, asker: &mut Asker, prefix: &Position) -> Result<b
     ensures alive { IfOk result (λ alive. IsTrue alive ↔ IsAlive (problem_at problem.now prefix.now)) }
     ensures shape { asker.new.shape ≡ asker.old.shape }
 {
-    let probe = asker.probe(problem, prefix)?;
+    let alive = asker.is_alive(problem, prefix)?;
     asker.clear_lines();
-    match probe {
-        Probe::Alive => Ok(true),
-        Probe::EmptyPair(_) => Ok(false),
-        Probe::Closed(_, _) => Ok(false),
-    }
+    Ok(alive)
 }
 
 // Whether a node is the last child of its prefix, and the pair allows a whole set.
