@@ -101,7 +101,8 @@ fn times_met(alloc: Global, problem: &Problem, times: u32) -> Result<u32, AllocE
     Ok(met)
 }
 
-fn all_on() -> Switches {
+/// All rules on.
+pub fn all_on() -> Switches {
     Switches {
         nonempty: true,
         sibling: true,
