@@ -19,8 +19,7 @@ returns-in-Closed-clause-alive c =
     let q = c.is_ruled_out.new.self.stand.problem in
     let m = c.args.prefix.now in
     let asker = asker_with q c.probe.new.solver in
-    let closed : IsFirstClosed asker q m (need_seen q c.in-Closed.field-0) c.in-Closed.field-1 = subst (λ o. IsProbeAnswer asker q m o) c.in-Closed.is c.in_ok-probe.ensures.answer in
-    (
+    let closed : IsFirstClosed asker q m (need_seen q c.in-Closed.field-0) c.in-Closed.field-1 = subst (λ o. IsProbeAnswer asker q m o) c.in-Closed.is c.in_ok-probe.ensures.answer in (
       λ yes. absurd (false≢true yes),
       λ alive. absurd (closed_is_dead asker q m (need_seen q c.in-Closed.field-0) c.in-Closed.field-1 closed (subst (λ p. IsAlive (problem_at p m)) (sym c.in_ok-is_ruled_out.ensures.problem) alive)),
     )
