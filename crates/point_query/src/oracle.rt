@@ -138,34 +138,28 @@ impl Oracle {
         )
     }
 
-    // Whether a clause closes one of the needs of a pair, among those that closed it before.
-    pub(crate) fn closes_at(&self, stand: &Stand, pair: u32) -> bool
-        requires within { pair < pair_count stand.now.problem }
-        requires solver { IsSolverOf stand.now.problem self.now }
-        ensures { IsTrue result → IsAlive (problem_at stand.now.problem stand.now.path) → ⊥ }
-    {
-        let _few = count_pairs(stand.problem());
-        for number in 3 * pair..3 * pair + 3 {
-            if self.closes_need(stand, number) {
-                return true;
-            }
-        }
-        false
-    }
-
-    // Whether the number is that of a need, which a clause closes that closed it before.
-    fn closes_need(&self, stand: &Stand, number: u32) -> bool
+    // Whether the number is that of a need that has no point.
+    pub(crate) fn lacks(
+        &mut self,
+        stand: &Stand,
+        prefix: &Position,
+        number: u32,
+    ) -> Result<bool, AllocError>
         requires within { number < need_count stand.now.problem }
-        requires solver { IsSolverOf stand.now.problem self.now }
-        ensures { IsTrue result → IsAlive (problem_at stand.now.problem stand.now.path) → ⊥ }
+        requires prefix { prefix.now ≡ stand.now.path }
+        requires solver { IsSolverOf stand.now.problem self.old }
+        ensures kept { GoesTo self.old self.new }
+        ensures solver { IsSolverOf stand.now.problem self.new }
+        ensures dead { IfOk result (λ yes. IsTrue yes → IsAlive (problem_at stand.now.problem stand.now.path) → ⊥) }
     {
         if !stand.is_needed(number) {
-            return false;
+            return Ok(false);
         }
-        match self.known(stand, number) {
-            Some(_) => true,
-            None => false,
+        let found = self.ask(stand, prefix, number)?;
+        if let Found::Closed(_) = found {
+            return Ok(true);
         }
+        Ok(false)
     }
 
     // A clause that closes the need with a number, among those that closed it before.

@@ -544,8 +544,8 @@ impl Walk {
         solver.ask(&self.stand, prefix, number)
     }
 
-    // Whether a prefix is alive, and no more. A relation that a clause which closed a need before rules out at once costs no
-    // look at the points.
+    // Whether a prefix is alive, and no more. A relation that leaves a need of its own pair without a point is ruled out before
+    // any point is struck out.
     pub(crate) fn is_alive(
         &mut self,
         solver: &mut Oracle,
@@ -560,6 +560,7 @@ impl Walk {
         ensures problem { OnOk result (self.new.stand.problem ≡ self.old.stand.problem) }
         ensures alive { IfOk result (λ yes. IsTrue yes ↔ IsAlive (problem_at self.old.stand.problem prefix.now)) }
     {
+        law_literals_are_sets();
         if self.is_ruled_out(solver, prefix)? {
             return Ok(false);
         }
@@ -570,48 +571,105 @@ impl Walk {
         }
     }
 
-    // Whether a clause that closed a need of the last pair before rules a prefix out, where the walk stands at its parent or
-    // beyond it.
-    fn is_ruled_out(&mut self, solver: &Oracle, prefix: &Position) -> Result<bool, AllocError>
+    // Whether a need of the last pair has no point at a prefix, where the walk stands at its parent or beyond it.
+    fn is_ruled_out(&mut self, solver: &mut Oracle, prefix: &Position) -> Result<bool, AllocError>
         requires walk { IsWalk self.old }
         requires prefix { length prefix.now ≤ pair_count self.old.stand.problem }
-        requires solver { IsSolverOf self.old.stand.problem solver.now }
+        requires solver { IsSolverOf self.old.stand.problem solver.old }
+        ensures kept { GoesTo solver.old solver.new }
+        ensures solver { IsSolverOf self.old.stand.problem solver.new }
         ensures walk { OnOk result (IsWalk self.new) }
         ensures problem { OnOk result (self.new.stand.problem ≡ self.old.stand.problem) }
         ensures dead { IfOk result (λ yes. IsTrue yes → IsAlive (problem_at self.old.stand.problem prefix.now) → ⊥) }
     {
+        match self.stand_at_parent(prefix) {
+            Some(rel) => self.is_barred(solver, prefix, rel),
+            None => Ok(false),
+        }
+    }
+
+    // Goes back to the parent of a prefix, if the walk stands at it or beyond it. The relation that leads on from there, if the
+    // problem allows it.
+    fn stand_at_parent(&mut self, prefix: &Position) -> Option<Rel>
+        requires walk { IsWalk self.old }
+        requires prefix { length prefix.now ≤ pair_count self.old.stand.problem }
+        ensures walk { IsWalk self.new }
+        ensures problem { self.new.stand.problem ≡ self.old.stand.problem }
+        ensures path { IfSome result (λ rel. self.new.stand.path ++ rel ∷ [] ≡ prefix.now) }
+        ensures allowed { IfSome result (λ rel. IsTrue (has (allowed self.new.stand.problem (pair_at self.new.stand.problem (length self.new.stand.path))) rel)) }
+    {
         let count = prefix.len();
         if count == 0 {
-            return Ok(false);
+            return None;
         }
         let parent = count - 1;
         let _open = self.stand.path();
         if common_len(self.stand.path(), prefix.rels()) < parent {
-            return Ok(false);
+            return None;
         }
         self.back_to(parent);
         let pair = self.stand.len();
         let rel = prefix.at(pair as usize);
         if !self.stand.problem().allowed(pair).has(rel) {
-            return Ok(false);
+            return None;
         }
-        self.is_closed_with(solver, rel)
+        Some(rel)
     }
 
-    // Whether a clause that closed a need of the next pair before closes it again with this relation.
-    fn is_closed_with(&mut self, solver: &Oracle, rel: Rel) -> Result<bool, AllocError>
+    // Whether one of the needs of the next pair has no point at the prefix with this relation.
+    fn is_barred(
+        &mut self,
+        solver: &mut Oracle,
+        prefix: &Position,
+        rel: Rel,
+    ) -> Result<bool, AllocError>
         requires walk { IsWalk self.old }
+        requires path { self.old.stand.path ++ rel ∷ [] ≡ prefix.now }
         requires within { length self.old.stand.path < pair_count self.old.stand.problem }
         requires allowed { IsTrue (has (allowed self.old.stand.problem (pair_at self.old.stand.problem (length self.old.stand.path))) rel) }
-        requires solver { IsSolverOf self.old.stand.problem solver.now }
+        requires solver { IsSolverOf self.old.stand.problem solver.old }
+        ensures kept { GoesTo solver.old solver.new }
+        ensures solver { IsSolverOf self.old.stand.problem solver.new }
         ensures same { self.new ≡ self.old }
-        ensures dead { IfOk result (λ yes. IsTrue yes → IsAlive (problem_at self.old.stand.problem (self.old.stand.path ++ rel ∷ [])) → ⊥) }
+        ensures dead { IfOk result (λ yes. IsTrue yes → IsAlive (problem_at self.old.stand.problem prefix.now) → ⊥) }
     {
+        law_literals_are_sets();
+        for part in 0..3 {
+            if self.lacks(solver, prefix, rel, part)? {
+                return Ok(true);
+            }
+        }
+        Ok(false)
+    }
+
+    // Whether a need of the next pair, by its number among the three, is known to have no point at the prefix with this relation.
+    fn lacks(
+        &mut self,
+        solver: &mut Oracle,
+        prefix: &Position,
+        rel: Rel,
+        part: u32,
+    ) -> Result<bool, AllocError>
+        requires walk { IsWalk self.old }
+        requires path { self.old.stand.path ++ rel ∷ [] ≡ prefix.now }
+        requires within { length self.old.stand.path < pair_count self.old.stand.problem }
+        requires allowed { IsTrue (has (allowed self.old.stand.problem (pair_at self.old.stand.problem (length self.old.stand.path))) rel) }
+        requires part { part < 3 }
+        requires solver { IsSolverOf self.old.stand.problem solver.old }
+        ensures kept { GoesTo solver.old solver.new }
+        ensures solver { IsSolverOf self.old.stand.problem solver.new }
+        ensures same { self.new ≡ self.old }
+        ensures dead { IfOk result (λ yes. IsTrue yes → IsAlive (problem_at self.old.stand.problem prefix.now) → ⊥) }
+    {
+        let _few = count_pairs(self.stand.problem());
         let pair = self.stand.len();
+        if self.find(3 * pair + part).is_some() {
+            return Ok(false);
+        }
         self.stand.push(rel)?;
-        let closed = solver.closes_at(&self.stand, pair);
+        let lacking = solver.lacks(&self.stand, prefix, 3 * pair + part);
         self.stand.back_to(pair as usize);
-        Ok(closed)
+        lacking
     }
 
     // Whether a prefix is alive.

@@ -4,15 +4,21 @@ use Rattle.world_model.specs.Alive.{problem_at, IsAlive}
 use Rattle.point_encode.specs.Needs.{need_seen}
 use Rattle.point_query.specs.Answers.{IsProbeAnswer, IsFirstClosed}
 use Rattle.point_query.specs.Queries.{asker_with}
-use Rattle.point_query.proofs.Querying.{goes_nowhere}
+use Rattle.point_query.proofs.Querying.{goes_chain}
 use Rattle.point_query.proofs.Deciding.{closed_is_dead}
 use Rattle.point_query.proofs.walk.Walk.is_alive.Goals as goal
 
-pub returns-in_err-is_ruled_out-clause-kept : goal.returns-in_err-is_ruled_out-clause-kept
-returns-in_err-is_ruled_out-clause-kept c = goes_nowhere c.args.solver.now
+pub returns-in_err-probe-clause-kept : goal.returns-in_err-probe-clause-kept
+returns-in_err-probe-clause-kept c = goes_chain c.law_literals_are_sets.ensures c.args.solver.now c.is_ruled_out.new.solver c.probe.new.solver c.is_ruled_out.ensures.kept c.probe.ensures.kept
 
-pub returns-then-branch-clause-kept : goal.returns-then-branch-clause-kept
-returns-then-branch-clause-kept c = goes_nowhere c.args.solver.now
+pub returns-in-Alive-clause-kept : goal.returns-in-Alive-clause-kept
+returns-in-Alive-clause-kept c = goes_chain c.law_literals_are_sets.ensures c.args.solver.now c.is_ruled_out.new.solver c.probe.new.solver c.is_ruled_out.ensures.kept c.probe.ensures.kept
+
+pub returns-in-EmptyPair-clause-kept : goal.returns-in-EmptyPair-clause-kept
+returns-in-EmptyPair-clause-kept c = goes_chain c.law_literals_are_sets.ensures c.args.solver.now c.is_ruled_out.new.solver c.probe.new.solver c.is_ruled_out.ensures.kept c.probe.ensures.kept
+
+pub returns-in-Closed-clause-kept : goal.returns-in-Closed-clause-kept
+returns-in-Closed-clause-kept c = goes_chain c.law_literals_are_sets.ensures c.args.solver.now c.is_ruled_out.new.solver c.probe.new.solver c.is_ruled_out.ensures.kept c.probe.ensures.kept
 
 pub returns-in-Closed-clause-alive : goal.returns-in-Closed-clause-alive
 returns-in-Closed-clause-alive c =
