@@ -1,7 +1,8 @@
 //! The asker that keeps points and clauses, beside a new plain asker at each node of some small problems.
 
-ghost use Rattle.std.specs.Prelude.{◌≡◌, ◌≤◌, length, IfOk};
+ghost use Rattle.std.specs.Prelude.{◌≡◌, ◌<◌, ◌≤◌, length, IfOk, IsTrue};
 ghost use Rattle.world_model.specs.Problem.{pair_count};
+ghost use Rattle.world_model.specs.Alive.{problem_at, IsAlive};
 ghost use Rattle.constraint_set.specs.Shape.{SameShape, shape_of};
 
 use cleantax_text::read_problem;
@@ -14,6 +15,15 @@ use world_model::Switches;
 
 /// A walk visits at most so many nodes.
 const LIMIT: u32 = 100000;
+
+/// The relations, in their order.
+const RELS: [Rel; 5] = [
+    Rel::Equals,
+    Rel::Includes,
+    Rel::IncludedIn,
+    Rel::Overlaps,
+    Rel::Disjoint,
+];
 
 const ALL: Switches = Switches {
     nonempty: true,
@@ -63,6 +73,21 @@ fn plain_alive(alloc: Global, problem: &Problem, prefix: &Position) -> Result<Al
     plain.alive(problem, prefix)
 }
 
+/// By which relations a prefix goes on to one of which a new plain asker says that it is alive.
+fn plain_after(alloc: Global, problem: &Problem, prefix: &Position) -> Result<RelSet, AllocError>
+    requires { length prefix.now < pair_count problem.now }
+{
+    let mut set = RelSet::none();
+    for rel in RELS {
+        let mut longer = prefix.copy(alloc)?;
+        longer.push(rel)?;
+        if plain_probe(alloc, problem, &longer)? == Probe::Alive {
+            set = set.with(rel);
+        }
+    }
+    Ok(set)
+}
+
 /// Asks both about a node, and whether it is alive.
 fn visit(
     alloc: Global,
@@ -74,14 +99,36 @@ fn visit(
     requires shape { asker.old.shape ≡ shape_of problem.now }
     requires within { length node.now ≤ pair_count problem.now }
     ensures shape { asker.new.shape ≡ asker.old.shape }
+    ensures alive { IfOk result (λ yes. IsTrue yes → IsAlive (problem_at problem.now node.now)) }
 {
-    let said = without_clause(asker.probe(problem, node)?);
-    let plain = without_clause(plain_probe(alloc, problem, node)?);
+    let said = asker.probe(problem, node)?;
+    let plain = plain_probe(alloc, problem, node)?;
     met.nodes = met.nodes.saturating_add(1);
+    if without_clause(said) != without_clause(plain) {
+        met.unlike = met.unlike.saturating_add(1);
+    }
+    Ok(matches!(said, Probe::Alive))
+}
+
+/// Asks both by which relations an alive node goes on to an alive one.
+fn visit_alive(
+    alloc: Global,
+    asker: &mut Asker,
+    problem: &Problem,
+    node: &Position,
+    met: &mut Met,
+) -> Result<(), AllocError>
+    requires shape { asker.old.shape ≡ shape_of problem.now }
+    requires short { length node.now < pair_count problem.now }
+    requires alive { IsAlive (problem_at problem.now node.now) }
+    ensures shape { asker.new.shape ≡ asker.old.shape }
+{
+    let said = asker.alive_after(problem, node)?;
+    let plain = plain_after(alloc, problem, node)?;
     if said != plain {
         met.unlike = met.unlike.saturating_add(1);
     }
-    Ok(said == Probe::Alive)
+    Ok(())
 }
 
 /// Asks both for points of a full table.
@@ -160,6 +207,9 @@ fn step(
         visit_table(alloc, asker, problem, node, met)?;
     }
     if alive {
+        if node.len() < pairs {
+            visit_alive(alloc, asker, problem, node, met)?;
+        }
         if go_in(problem, node)? {
             return Ok(true);
         }

@@ -1,18 +1,18 @@
 -- What a walk whose needs are settled answers.
-use Rattle.std.proofs.Common.{◌≡◌, ℕ, ◌+◌, ◌*◌, ◌/◌, ◌%◌, ◌-◌, ◌<◌, Bool, true, false, cond, List, [], ◌∷◌, ◌++◌, get_or, inl, inr, sym, ap, ◌∙◌, subst, arith}
-use Rattle.std.specs.Prelude.{IsTrue, Contains}
+use Rattle.std.proofs.Common.{◌≡◌, ℕ, ◌+◌, ◌*◌, ◌/◌, ◌%◌, ◌-◌, ◌<◌, Bool, true, false, cond, List, [], ◌∷◌, ◌++◌, get_or, ◌⊎◌, ◌≤◌, inl, inr, sym, ap, ◌∙◌, subst, arith}
+use Rattle.std.specs.Prelude.{IsTrue, Contains, Some, None, nat_lt}
 use Rattle.std.proofs.lemmas.List.{append-nil}
-use Rattle.std.proofs.lemmas.Bool.{lt-ltb, le-ltb}
+use Rattle.std.proofs.lemmas.Bool.{cases_lt, lt-ltb, le-ltb}
 use Rattle.rcc5_core.specs.declared.Rel.{Rel}
 use Rattle.rcc5_core.specs.declared.Occupancy.TheVariants.{Occupied}
 use Rattle.rcc5_core.specs.Region.{word_at, same_word}
 use Rattle.learn_solver.specs.Solving.{SolverState}
-use Rattle.world_model.specs.Problem.{Problem, pair_count}
+use Rattle.world_model.specs.Problem.{Problem, concept_count, pair_count}
 use Rattle.world_model.specs.Node.{pair_at}
 use Rattle.world_model.specs.Alive.{Need, InRegion, InConcept, all_allow, needs, problem_at, HasPoint, IsAlive}
 use Rattle.world_model.proofs.Members.{In, none_in, in_from_contains}
 use Rattle.world_model.proofs.PointAlive as alive
-use Rattle.cert_model.specs.Forced.{region_with}
+use Rattle.cert_model.specs.Forced.{region_with, need_with, IsNeed}
 use Rattle.point_encode.specs.declared.need.Need as code
 use Rattle.point_encode.specs.declared.need.Need.TheVariants.{Region, Concept}
 use Rattle.point_encode.specs.Needs.{need_seen, number_of, IsInRange}
@@ -95,6 +95,24 @@ numbered_need p (Concept c) range =
       ap (λ b. cond b (InRegion (pair_at p ((3 * pair_count p + c) / 3)) (region_with ((3 * pair_count p + c) % 3))) (InConcept ((3 * pair_count p + c) - 3 * pair_count p))) (le-ltb (3 * pair_count p + c) (3 * pair_count p) (omega arith)) ∙
           ap InConcept left,
     )
+
+-- numbers name needs
+pub need_named : (p : Problem) (number : ℕ) → number < need_count p → IsNeed p (need_at p number)
+need_named p number within = (number, named (cases_lt number (3 * pair_count p)))
+  where
+    named : (number < 3 * pair_count p) ⊎ (3 * pair_count p ≤ number) → need_with p number ≡ Some (need_at p number)
+    named (inl small) =
+        ap (λ b. cond b (Some (InRegion (pair_at p (number / 3)) (region_with (number % 3)))) (cond (nat_lt number (3 * pair_count p + concept_count p)) (Some (InConcept (number - 3 * pair_count p))) None))
+        (lt-ltb number (3 * pair_count p) small) ∙
+        ap (λ b. Some (cond b (InRegion (pair_at p (number / 3)) (region_with (number % 3))) (InConcept (number - 3 * pair_count p)))) (sym (lt-ltb number (3 * pair_count p) small))
+    named (inr past) =
+        ap (λ b. cond b (Some (InRegion (pair_at p (number / 3)) (region_with (number % 3)))) (cond (nat_lt number (3 * pair_count p + concept_count p)) (Some (InConcept (number - 3 * pair_count p))) None))
+        (le-ltb number (3 * pair_count p) past) ∙
+        ap (λ b. cond b (Some (InConcept (number - 3 * pair_count p))) None) (lt-ltb number (3 * pair_count p + concept_count p) within) ∙
+        ap (λ b. Some (cond b (InRegion (pair_at p (number / 3)) (region_with (number % 3))) (InConcept (number - 3 * pair_count p)))) (sym (le-ltb number (3 * pair_count p) past))
+
+pub seen_named : (p : Problem) (need : code.Need) → IsInRange p need → IsNeed p (need_seen p need)
+seen_named p need range = subst (λ x. IsNeed p x) (numbered_need p need range).1 (need_named p (number_of p need) (numbered_need p need range).0)
 
 pub numbered_needed : (p : Problem) (m : List Rel) (need : code.Need) → IsInRange p need → Contains (needs (problem_at p m)) (need_seen p need) → is_needed (problem_at p m) (number_of p need) ≡ true
 numbered_needed p m (Region pair part) range there =

@@ -1,5 +1,5 @@
 -- What shows that a prefix is dead.
-use Rattle.std.proofs.Common.{◌≡◌, ℕ, Bool, true, false, not, List, ◌∷◌, ◌++◌, refl, sym, ap, ◌∙◌, subst}
+use Rattle.std.proofs.Common.{◌≡◌, ◌<◌, ℕ, true, not, List, refl, sym, ◌∙◌, subst}
 use Rattle.std.specs.Prelude.{Contains}
 use Rattle.std.proofs.lemmas.Bool.{true≢false, not-true}
 use Rattle.rcc5_core.specs.declared.Rel.{Rel}
@@ -9,6 +9,10 @@ use Rattle.world_model.specs.Node.{pair_at}
 use Rattle.world_model.specs.Alive.{Need, allowed, needs, problem_at, IsAlive}
 use Rattle.world_model.proofs.Members.{here, In-right, contains_from_in, all_at, In-get_or}
 use Rattle.point_query.specs.Asking.{AskerState}
+use Rattle.point_query.specs.Ruling.{IsBare}
+use Rattle.point_query.specs.Stands.{need_at, is_needed}
+use Rattle.point_query.specs.Walks.{need_count}
+use Rattle.point_query.proofs.Numbering.{need_in}
 use Rattle.point_query.specs.Answers.{IsFirstEmpty, IsFirstClosed}
 
 -- a pair that allows nothing
@@ -22,3 +26,7 @@ pub closed_is_dead : (asker : AskerState) (p : Problem) (m : List Rel) (need : N
 closed_is_dead asker p m need id closed alive =
     let among : Contains (needs (problem_at p m)) need = subst (λ ns. Contains ns need) (sym closed.among) (contains_from_in (In-right closed.before (here refl))) in
     closed.closed.no_point (alive.points need among)
+
+-- a need that no point of the prefix is in
+pub lost_is_dead : (p : Problem) (m : List Rel) (number : ℕ) → number < need_count p → is_needed (problem_at p m) number ≡ true → IsBare p m (need_at p number) → IsAlive (problem_at p m) → ⊥
+lost_is_dead p m number within needed bare alive = bare (alive.points (need_at p number) (contains_from_in (need_in (problem_at p m) number within needed)))

@@ -25,7 +25,7 @@ and_false true = refl
 and_false false = refl
 
 -- a set without a relation has nothing in common with the set of this relation
-none_common : (set : RelSet) (rel : Rel) → has set rel ≡ false → is_empty_set (both_of set (only rel)) ≡ true
+pub none_common : (set : RelSet) (rel : Rel) → has set rel ≡ false → is_empty_set (both_of set (only rel)) ≡ true
 none_common set Equals h = rw (h, and_false set.includes, and_false set.included_in, and_false set.overlaps, and_false set.disjoint) refl
 none_common set Includes h = rw (h, and_false set.equals, and_false set.included_in, and_false set.overlaps, and_false set.disjoint) refl
 none_common set IncludedIn h = rw (h, and_false set.equals, and_false set.includes, and_false set.overlaps, and_false set.disjoint) refl

@@ -15,12 +15,12 @@ use Rattle.watch_arena.specs.Trails.{AreInRange}
 use Rattle.learn_solver.proofs.Answering.{closed-hopeless}
 use Rattle.learn_solver.specs.Solving.{SolverState, IsSolver, AddsGiven, FromOne, GoesTo, AreConsistent, IsModel, IsClosedBy, IsRefutation}
 use Rattle.world_model.specs.Problem.{Problem, concept_count}
-use Rattle.world_model.specs.Alive.{Need, is_point, is_in_need, needs, problem_at}
+use Rattle.world_model.specs.Alive.{Need, is_point, is_in_need, problem_at}
 use Rattle.world_model.proofs.Members.{all_at, all_from, in_from_contains, contains_from_in}
 use Rattle.constraint_set.specs.Facts.{IsBuilt}
 use Rattle.constraint_set.specs.Shape.{shape_of, SameShape}
 use Rattle.cert_model.specs.Clauses.{given_clauses, variable_count}
-use Rattle.cert_model.specs.Forced.{selectors_of, need_lits, asked_of, IsClosedAt}
+use Rattle.cert_model.specs.Forced.{selectors_of, need_lits, asked_of, IsClosedAt, IsNeed}
 use Rattle.cert_model.specs.Laws.{ClausesArePoints, NeedsAreLiterals, Extends}
 use Rattle.point_query.specs.Asking.{AskerState, AskerGoes}
 use Rattle.point_query.specs.Answers.{IsClosed}
@@ -42,7 +42,7 @@ same_chain (a ∷ more) (b ∷ bs) [] g h = absurd h
 same_chain (a ∷ more) (b ∷ bs) (c ∷ cs) g h = (λ lit. g.0 lit ∙ h.0 lit, same_chain more bs cs g.1 h.1)
 
 -- bits meet such clauses alike
-same_met : LiteralsAreSets → (bits : List Bool) (a b : List (List ℕ)) → SameGiven a b → meets_all bits a ≡ meets_all bits b
+pub same_met : LiteralsAreSets → (bits : List Bool) (a b : List (List ℕ)) → SameGiven a b → meets_all bits a ≡ meets_all bits b
 same_met law bits [] [] g = refl
 same_met law bits [] (b ∷ bs) g = absurd g
 same_met law bits (a ∷ more) [] g = absurd g
@@ -75,35 +75,35 @@ asked_from p m need selectors lits are same = record {
 
 -- what the solver wants of its assumptions
 pub asked_in_range : NeedsAreLiterals → (p : Problem) (m : List Rel) (need : Need) (selectors lits : List ℕ) (s : SolverState) → IsBuilt p → IsSolverOf p s →
-    Contains (needs (problem_at p m)) need → AreSelectors p m selectors → lits ≡ selectors ++ need_lits need → AreInRange lits s.variables
-asked_in_range law p m need selectors lits s built is forced are same lit h =
+    IsNeed p need → AreSelectors p m selectors → lits ≡ selectors ++ need_lits need → AreInRange lits s.variables
+asked_in_range law p m need selectors lits s built is numbered are same lit h =
     let asked = asked_from p m need selectors lits are same in
-    rw is.variables (law.in_range p m need built (law.numbered p m need built forced) lit (asked.no_others lit h))
+    rw is.variables (law.in_range p m need built numbered lit (asked.no_others lit h))
 
 pub asked_consistent : NeedsAreLiterals → (p : Problem) (m : List Rel) (need : Need) (selectors lits : List ℕ) → IsBuilt p →
-    Contains (needs (problem_at p m)) need → AreSelectors p m selectors → lits ≡ selectors ++ need_lits need → AreConsistent lits
-asked_consistent law p m need selectors lits built forced are same lit h k =
+    IsNeed p need → AreSelectors p m selectors → lits ≡ selectors ++ need_lits need → AreConsistent lits
+asked_consistent law p m need selectors lits built numbered are same lit h k =
     let asked = asked_from p m need selectors lits are same in
-    law.consistent p m need built (law.numbered p m need built forced) lit (asked.no_others lit h) (asked.no_others (negation_of lit) k)
+    law.consistent p m need built numbered lit (asked.no_others lit h) (asked.no_others (negation_of lit) k)
 
 -- a model is a point of the prefix in the need
 pub model_is_point : ClausesArePoints → NeedsAreLiterals → LiteralsAreSets → (p : Problem) (m : List Rel) (need : Need) (selectors lits : List ℕ) (s : SolverState) (bits : List Bool) →
-    IsBuilt p → IsSolverOf p s → Contains (needs (problem_at p m)) need → AreSelectors p m selectors → lits ≡ selectors ++ need_lits need → IsModel s lits bits →
+    IsBuilt p → IsSolverOf p s → IsNeed p need → AreSelectors p m selectors → lits ≡ selectors ++ need_lits need → IsModel s lits bits →
     IsTrue (is_point (problem_at p m) (take (concept_count p) bits)) × IsTrue (is_in_need need (take (concept_count p) bits))
-model_is_point points literals sets p m need selectors lits s bits built is forced are same model =
+model_is_point points literals sets p m need selectors lits s bits built is numbered are same model =
     let asked = asked_from p m need selectors lits are same in
     let true_ones : list_all (lit_true bits) (selectors_of p m ++ need_lits need) ≡ true = all_inside (lit_true bits) _ _ asked.there model.assumed in
     let parts = and_parts _ _ (sym (list_all-append (lit_true bits) (selectors_of p m) (need_lits need)) ∙ true_ones) in
     let met : meets_all bits (given_clauses p) ≡ true = same_met sets bits _ _ is.given ∙ model.given in (
       points.points p built m bits (model.counted ∙ is.variables) met parts.0,
-      (literals.truth p need bits built (literals.numbered p m need built forced)).0 parts.1,
+      (literals.truth p need bits built numbered).0 parts.1,
     )
 
 -- a refutation closes the need
 pub refuted_is_closed : ClausesArePoints → NeedsAreLiterals → LiteralsAreSets → (p : Problem) (m : List Rel) (need : Need) (selectors lits : List ℕ) (s : SolverState) (id : ℕ) →
-    IsBuilt p → IsSolverOf p s → Contains (needs (problem_at p m)) need → AreSelectors p m selectors → lits ≡ selectors ++ need_lits need → IsRefutation s lits id →
+    IsBuilt p → IsSolverOf p s → IsNeed p need → AreSelectors p m selectors → lits ≡ selectors ++ need_lits need → IsRefutation s lits id →
     IsClosed (asker_with p s) p m need id
-refuted_is_closed points literals sets p m need selectors lits s id built is forced are same refuted =
+refuted_is_closed points literals sets p m need selectors lits s id built is numbered are same refuted =
     let asked = asked_from p m need selectors lits are same in
     record {
       named = closed (live_clause s.state id) asked refuted.named;
@@ -111,7 +111,7 @@ refuted_is_closed points literals sets p m need selectors lits s id built is for
           let e : Extends p m has.0 _ = (points.bits p built m has.0 has.1).1 in
           let bits = (points.bits p built m has.0 has.1).0 in
           let in_need : IsTrue (is_in_need need (take (concept_count p) bits)) = subst (λ b. IsTrue (is_in_need need b)) (sym e.front) has.2 in
-          let lits_true = (literals.truth p need bits built (literals.numbered p m need built forced)).1 in_need in
+          let lits_true = (literals.truth p need bits built numbered).1 in_need in
           let all_true : list_all (lit_true bits) (selectors_of p m ++ need_lits need) ≡ true = list_all-append (lit_true bits) (selectors_of p m) (need_lits need) ∙ and_from _ _ e.selected lits_true in
           refuted.hopeless bits (sym (same_met sets bits _ _ is.given) ∙ e.given) (all_inside (lit_true bits) _ _ asked.no_others all_true);
     }
@@ -123,6 +123,9 @@ refuted_is_closed points literals sets p m need selectors lits s id built is for
 -- a call that did nothing
 pub goes_nowhere : (s : SolverState) → GoesTo s s
 goes_nowhere s = record { variables = refl; added = []; waits = sym (append-nil s.waiting); leads = record { valid = refl; after = same-self s.state }; from_one = λ k d h. absurd (omega arith) }
+
+pub goes_same : (old new : SolverState) → new ≡ old → GoesTo old new
+goes_same old new same = subst (λ s. GoesTo old s) (sym same) (goes_nowhere old)
 
 derived_chain : (a b c : List (ℕ × List ℕ)) → SameDerived a b → SameDerived b c → SameDerived a c
 derived_chain [] [] [] g h = tt
@@ -220,9 +223,9 @@ keeps_walk shape p s walk same is walked = record { solved = solver_moves p shap
 
 -- a live clause with only negations of what must be true closes the need
 pub known_is_closed : ClausesArePoints → NeedsAreLiterals → LiteralsAreSets → (p : Problem) (m : List Rel) (need : Need) (s : SolverState) (id : ℕ) →
-    IsBuilt p → IsSolverOf p s → Contains (needs (problem_at p m)) need → IsSolver s → MatchOption (live_clause s.state id) ⊥ (IsClosedAt p m need) → IsClosed (asker_with p s) p m need id
-known_is_closed points literals sets p m need s id built is forced solver named =
-    refuted_is_closed points literals sets p m need (selectors_of p m) (asked_of p m need) s id built is forced (record { there = λ lit h. h; no_others = λ lit h. h }) refl
+    IsBuilt p → IsSolverOf p s → IsNeed p need → IsSolver s → MatchOption (live_clause s.state id) ⊥ (IsClosedAt p m need) → IsClosed (asker_with p s) p m need id
+known_is_closed points literals sets p m need s id built is numbered solver named =
+    refuted_is_closed points literals sets p m need (selectors_of p m) (asked_of p m need) s id built is numbered (record { there = λ lit h. h; no_others = λ lit h. h }) refl
     (record { named = named; hopeless = hopeless (live_clause s.state id) refl named })
   where
     hopeless : (found : Option (List ℕ)) → live_clause s.state id ≡ found → MatchOption found ⊥ (IsClosedAt p m need) → (bits : List Bool) → IsTrue (meets_all bits s.state.given) → IsTrue (list_all (lit_true bits) (asked_of p m need)) → ⊥

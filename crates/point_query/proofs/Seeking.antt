@@ -8,7 +8,7 @@ use Rattle.std.proofs.lemmas.List.Elements.{All-push, All-head, All-tail, All-we
 use Rattle.rcc5_core.specs.declared.Rel.{Rel}
 use Rattle.lits_core.specs.declared.Bits.{Bits}
 use Rattle.world_model.specs.Problem.{Problem, concept_count}
-use Rattle.world_model.specs.Alive.{Need, all_allow, needs, problem_at, meets_structure, is_point, is_in_need, HasPoint, IsAlive, avoids, forced_pairs}
+use Rattle.world_model.specs.Alive.{all_allow, problem_at, meets_structure, is_point, is_in_need, HasPoint, IsAlive, avoids, forced_pairs}
 use Rattle.world_model.proofs.Members.{In-map, from_map, in_from_contains, contains_from_in, IsImage}
 use Rattle.point_encode.specs.declared.need.Need as code
 use Rattle.point_encode.specs.Needs.{need_seen}

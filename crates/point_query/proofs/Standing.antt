@@ -25,7 +25,7 @@ and_false true = refl
 and_false false = refl
 
 -- a set that has a relation, and the set of this relation alone, have it in common
-both_only : (set : RelSet) (rel : Rel) → has set rel ≡ true → both_of set (only rel) ≡ only rel
+pub both_only : (set : RelSet) (rel : Rel) → has set rel ≡ true → both_of set (only rel) ≡ only rel
 both_only set Equals h = rw (h, and_false set.includes, and_false set.included_in, and_false set.overlaps, and_false set.disjoint) refl
 both_only set Includes h = rw (h, and_false set.equals, and_false set.included_in, and_false set.overlaps, and_false set.disjoint) refl
 both_only set IncludedIn h = rw (h, and_false set.equals, and_false set.includes, and_false set.overlaps, and_false set.disjoint) refl

@@ -1,20 +1,14 @@
 -- What a query is asked with.
-use Rattle.std.specs.Prelude.{◌≡◌, ℕ, ◌+◌, ◌*◌, Bool, false, List, [], ◌∷◌, length, map, filter, flat_map, slice_index, slice_index_or, All, Contains, IsTrue, if◌then◌else◌}
-use Rattle.std.specs.List.{range_with_len}
+use Rattle.std.specs.Prelude.{◌≡◌, ℕ, Bool, List, All, Contains, IsTrue}
 use Rattle.rcc5_core.specs.declared.Rel.{Rel}
-use Rattle.rcc5_core.specs.declared.Regions.{Regions}
-use Rattle.rcc5_core.specs.declared.Occupancy.TheVariants.{Empty}
-use Rattle.rcc5_core.specs.Region.{all_regions, word_at, same_word}
 use Rattle.lits_core.specs.Derivation.{SameGiven}
-use Rattle.world_model.specs.Problem.{Problem, concept_count, pair_count}
-use Rattle.world_model.specs.Alive.{is_point, problem_at}
+use Rattle.world_model.specs.Problem.{Problem}
+use Rattle.world_model.specs.Alive.{is_point}
 use Rattle.constraint_set.specs.Shape.{shape_of}
-use Rattle.constraint_set.specs.Readers.{sum_places}
-use Rattle.cert_model.specs.Clauses.{is_so, first_sum_selector, given_clauses, variable_count}
-use Rattle.cert_model.specs.Forced.{region_number, selectors_of}
+use Rattle.cert_model.specs.Clauses.{given_clauses, variable_count}
+use Rattle.cert_model.specs.Forced.{selectors_of}
 use Rattle.learn_solver.specs.Solving.{SolverState}
 use Rattle.point_query.specs.Asking.{AskerState}
-use Rattle.point_query.specs.Stands.{forced_at}
 
 -- a solver has the variables and the given clauses of a problem
 pub record IsSolverOf (p : Problem) (s : SolverState) : Type 0 where

@@ -1,5 +1,7 @@
 //! The asker, as its users see it.
-ghost use Rattle.std.specs.Prelude.{◌≡◌, ◌≤◌, ◌↔◌, [], length, IfOk, IsTrue, Contains};
+ghost use Rattle.std.specs.Prelude.{◌≡◌, ◌<◌, ◌≤◌, ◌↔◌, [], ◌∷◌, ◌++◌, length, IfOk, IsTrue, Contains};
+ghost use Rattle.rcc5_core.specs.declared.Rel.{Rel};
+ghost use Rattle.rcc5_core.specs.RelationSet.{has};
 ghost use Rattle.world_model.specs.Problem.{pair_count};
 ghost use Rattle.world_model.specs.Alive.{needs, problem_at, IsAlive};
 ghost use Rattle.constraint_set.specs.Shape.{shape_of};
@@ -8,15 +10,16 @@ ghost use Rattle.point_query.specs.Asking.{IsNewAsker, AskerGoes, IsAsker};
 ghost use Rattle.point_query.specs.Answers.{IsFound, IsAliveAnswer, IsProbeAnswer};
 ghost use Rattle.point_query.specs.Walks.{IsWalkAt};
 
+use crate::after::alive_after;
 use crate::answers::{Alive, Found, Probe};
 use crate::given::solver_of;
 use crate::oracle::Oracle;
 use crate::same::same_problem;
-use crate::walk::{Walk, count_needs};
+use crate::walk::Walk;
 use constraint_set::Problem;
 use lits_core::Line;
 use point_encode::Need;
-use rcc5_core::Position;
+use rcc5_core::{Position, RelSet};
 use std::alloc::{AllocError, Global};
 use std::marker::Model;
 
@@ -52,7 +55,7 @@ impl Asker {
         ensures { IfOk result (IsNewAsker problem.now) }
     {
         let solver = solver_of(alloc, problem)?;
-        let solver = Oracle::new(alloc, solver, count_needs(problem))?;
+        let solver = Oracle::new(alloc, solver, problem)?;
         let shape = same_problem(alloc, problem)?;
         Ok(Asker {
             shape,
@@ -119,6 +122,24 @@ impl Asker {
         let alive = walk.is_alive(&mut self.solver, prefix)?;
         self.walk = Some(walk);
         Ok(alive)
+    }
+
+    /// The relations that lead on from an alive prefix to an alive one.
+    pub fn alive_after(
+        &mut self,
+        problem: &Problem,
+        prefix: &Position,
+    ) -> Result<RelSet, AllocError>
+        requires shape { self.old.shape ≡ shape_of problem.now }
+        requires short { length prefix.now < pair_count problem.now }
+        requires alive { IsAlive (problem_at problem.now prefix.now) }
+        ensures kept { AskerGoes self.old self.new }
+        ensures each { IfOk result (λ set. (rel : Rel) → IsTrue (has set rel) ↔ IsAlive (problem_at problem.now (prefix.now ++ rel ∷ []))) }
+    {
+        let mut walk = self.take_walk(problem)?;
+        let set = alive_after(&mut walk, &mut self.solver, prefix)?;
+        self.walk = Some(walk);
+        Ok(set)
     }
 
     // The walk that was kept, brought to a problem. Until it is put back the asker keeps none.

@@ -1,6 +1,7 @@
 //! Whether a prefix is alive, by asking for single points.
 #![tactic(auto)]
 
+mod after;
 mod answers;
 mod asker;
 mod assume;
@@ -9,6 +10,7 @@ mod given;
 mod oracle;
 mod plain;
 mod query;
+mod ruling;
 mod same;
 mod seek;
 mod stand;

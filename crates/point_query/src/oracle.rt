@@ -1,5 +1,5 @@
 //! The solver of an asker, with the clauses that closed needs before.
-ghost use Rattle.std.specs.Prelude.{◌≡◌, ℕ, [], List, ◌+◌, ◌*◌, ◌<◌, ◌≤◌, ◌⊎◌, length, Contains, IfOk, OnOk, IfSome, MatchOption, IsTrue, slice_index_or, None, Some};
+ghost use Rattle.std.specs.Prelude.{◌≡◌, ℕ, [], List, ◌+◌, ◌*◌, ◌<◌, ◌≤◌, ◌⊎◌, length, Contains, IfOk, OnOk, IfSome, IfNone, MatchOption, IsTrue, slice_index_or, None, Some};
 ghost use Rattle.rcc5_core.specs.declared.Rel.{Rel};
 ghost use Rattle.lits_core.specs.Derivation.{live_clause};
 ghost use Rattle.world_model.specs.Problem.{pair_count, concept_count};
@@ -12,18 +12,20 @@ ghost use Rattle.learn_solver.specs.Solving.{GoesTo, IsSolver};
 ghost use Rattle.point_query.specs.Answers.{IsFound, IsClosed};
 ghost use Rattle.point_query.specs.Queries.{IsSolverOf, asker_with};
 ghost use Rattle.point_query.specs.Stands.{need_at, is_needed};
+ghost use Rattle.point_query.specs.Ruling.{IsBare, IsPointIn};
 ghost use Rattle.point_query.specs.Walks.{need_count};
 
 use crate::answers::Found;
 use crate::query::query;
+use crate::ruling::rules_out;
 use crate::stand::{Stand, count_pairs, word_of};
-use crate::walk::need_of;
+use crate::walk::{by_concepts, count_needs, need_of};
 use cert_model::{clauses_are_points, needs_are_literals};
 use constraint_set::Problem;
 use learn_solver::Solver;
-use lits_core::{Line, Lit, law_literals_are_sets};
+use lits_core::{Bits, Line, Lit, law_literals_are_sets};
 use point_encode::{Need, need_lits, selectors_of};
-use rcc5_core::{Occupancy, Position};
+use rcc5_core::{Occupancy, Position, Rel};
 use std::alloc::{AllocError, Global};
 use std::marker::Model;
 use world_model::positions_narrow;
@@ -35,6 +37,8 @@ use world_model::positions_narrow;
 pub(crate) struct Oracle {
     solver: Solver,
     closings: Vec<Vec<u64>>,
+    // For each pair and relation, the need that was found without a point when this relation was added.
+    lost: Vec<u32>,
     questions: u64,
     alloc: Global,
 }
@@ -48,29 +52,29 @@ impl Model for Oracle {
 }
 
 impl Oracle {
-    // A solver that was asked nothing yet, and how many needs there may be.
-    pub(crate) fn new(alloc: Global, solver: Solver, needs: u32) -> Result<Oracle, AllocError>
+    // A solver of the shape of a problem that was asked nothing yet.
+    pub(crate) fn new(
+        alloc: Global,
+        solver: Solver,
+        problem: &Problem,
+    ) -> Result<Oracle, AllocError>
         ensures { IfOk result (λ o. o ≡ solver) }
     {
-        let closings = no_ids(alloc, needs)?;
+        let closings = no_ids(alloc, count_needs(problem))?;
+        let relations = 5 * count_pairs(problem) as usize;
+        let lost = vec![in alloc; u32::MAX; relations]?;
         Ok(Oracle {
             solver,
             closings,
+            lost,
             questions: 0,
             alloc,
         })
     }
 
     // A point of the prefix in the need with a number, or the clause that shows that there is none.
-    pub(crate) fn ask(
-        &mut self,
-        stand: &Stand,
-        prefix: &Position,
-        number: u32,
-    ) -> Result<Found, AllocError>
+    pub(crate) fn ask(&mut self, stand: &Stand, number: u32) -> Result<Found, AllocError>
         requires within { number < need_count stand.now.problem }
-        requires needed { IsTrue (is_needed (problem_at stand.now.problem stand.now.path) number) }
-        requires prefix { prefix.now ≡ stand.now.path }
         requires solver { IsSolverOf stand.now.problem self.old }
         ensures kept { GoesTo self.old self.new }
         ensures solver { IsSolverOf stand.now.problem self.new }
@@ -79,21 +83,16 @@ impl Oracle {
         if let Some(id) = self.known(stand, number) {
             return Ok(Found::Closed(id));
         }
-        let found = self.question(stand, prefix, number)?;
-        self.note(number, &found)?;
+        let found = self.question(stand, number)?;
+        if let Found::Closed(id) = &found {
+            self.note(number, *id)?;
+        }
         Ok(found)
     }
 
     // The same by the solver.
-    fn question(
-        &mut self,
-        stand: &Stand,
-        prefix: &Position,
-        number: u32,
-    ) -> Result<Found, AllocError>
+    fn question(&mut self, stand: &Stand, number: u32) -> Result<Found, AllocError>
         requires within { number < need_count stand.now.problem }
-        requires needed { IsTrue (is_needed (problem_at stand.now.problem stand.now.path) number) }
-        requires prefix { prefix.now ≡ stand.now.path }
         requires solver { IsSolverOf stand.now.problem self.old }
         ensures kept { GoesTo self.old self.new }
         ensures solver { IsSolverOf stand.now.problem self.new }
@@ -105,7 +104,7 @@ impl Oracle {
             self.alloc,
             &mut self.solver,
             stand.problem(),
-            prefix,
+            stand.path(),
             stand.selected(),
             need,
         )
@@ -120,7 +119,6 @@ impl Oracle {
     ) -> Result<Found, AllocError>
         requires prefix { length prefix.now ≤ pair_count problem.now }
         requires range { IsInRange problem.now need }
-        requires forced { Contains (needs (problem_at problem.now prefix.now)) (need_seen problem.now need) }
         requires solver { IsSolverOf problem.now self.old }
         ensures kept { GoesTo self.old self.new }
         ensures solver { IsSolverOf problem.now self.new }
@@ -132,40 +130,15 @@ impl Oracle {
             self.alloc,
             &mut self.solver,
             problem,
-            prefix,
+            prefix.rels(),
             &selectors,
             need,
         )
     }
 
-    // Whether the number is that of a need that has no point.
-    pub(crate) fn lacks(
-        &mut self,
-        stand: &Stand,
-        prefix: &Position,
-        number: u32,
-    ) -> Result<bool, AllocError>
-        requires within { number < need_count stand.now.problem }
-        requires prefix { prefix.now ≡ stand.now.path }
-        requires solver { IsSolverOf stand.now.problem self.old }
-        ensures kept { GoesTo self.old self.new }
-        ensures solver { IsSolverOf stand.now.problem self.new }
-        ensures dead { IfOk result (λ yes. IsTrue yes → IsAlive (problem_at stand.now.problem stand.now.path) → ⊥) }
-    {
-        if !stand.is_needed(number) {
-            return Ok(false);
-        }
-        let found = self.ask(stand, prefix, number)?;
-        if let Found::Closed(_) = found {
-            return Ok(true);
-        }
-        Ok(false)
-    }
-
     // A clause that closes the need with a number, among those that closed it before.
     fn known(&self, stand: &Stand, number: u32) -> Option<u64>
         requires within { number < need_count stand.now.problem }
-        requires needed { IsTrue (is_needed (problem_at stand.now.problem stand.now.path) number) }
         requires solver { IsSolverOf stand.now.problem self.now }
         ensures { IfSome result (IsClosed (asker_with stand.now.problem self.now) stand.now.problem stand.now.path (need_at stand.now.problem number)) }
     {
@@ -177,7 +150,6 @@ impl Oracle {
     // What a clause that closes a need shows.
     fn shows(&self, stand: &Stand, number: u32, id: u64)
         requires within { number < need_count stand.now.problem }
-        requires needed { IsTrue (is_needed (problem_at stand.now.problem stand.now.path) number) }
         requires solver { IsSolverOf stand.now.problem self.now }
         requires closes { MatchOption (live_clause self.now.state id) ⊥ (IsClosedAt stand.now.problem stand.now.path (need_at stand.now.problem number)) }
         ensures { IsClosed (asker_with stand.now.problem self.now) stand.now.problem stand.now.path (need_at stand.now.problem number) id }
@@ -203,16 +175,159 @@ impl Oracle {
         None
     }
 
-    // Notes the clause that closed a need.
-    fn note(&mut self, number: u32, found: &Found) -> Result<(), AllocError>
+    // Notes a clause that closes a need.
+    fn note(&mut self, number: u32, id: u64) -> Result<(), AllocError>
         ensures { self.new ≡ self.old }
     {
-        if let Found::Closed(id) = found {
-            if (number as usize) < self.closings.len() {
-                self.closings[number as usize].push(*id)?;
-            }
+        if (number as usize) < self.closings.len() {
+            self.closings[number as usize].push(id)?;
         }
         Ok(())
+    }
+
+    // A point of the prefix in the region with a number, if there is one.
+    pub(crate) fn look(&mut self, stand: &Stand, number: u32) -> Result<Option<Bits>, AllocError>
+        requires within { number < 3 * pair_count stand.now.problem }
+        requires solver { IsSolverOf stand.now.problem self.old }
+        ensures kept { GoesTo self.old self.new }
+        ensures solver { IsSolverOf stand.now.problem self.new }
+        ensures point { IfOk result (λ found. IfSome found (IsPointIn stand.now.problem stand.now.path (need_at stand.now.problem number))) }
+        ensures none { IfOk result (λ found. IfNone found (IsBare stand.now.problem stand.now.path (need_at stand.now.problem number))) }
+    {
+        match self.question(stand, number)? {
+            Found::Point(bits) => Ok(Some(bits)),
+            Found::Closed(id) => {
+                self.note(number, id)?;
+                Ok(None)
+            }
+        }
+    }
+
+    // Whether the region with a number is known to have no point of the prefix: by a clause that closed it before, or one that
+    // closed the same region of concepts above.
+    pub(crate) fn is_bare(&mut self, stand: &Stand, number: u32) -> Result<bool, AllocError>
+        requires within { number < 3 * pair_count stand.now.problem }
+        requires solver { IsSolverOf stand.now.problem self.old }
+        ensures same { self.new ≡ self.old }
+        ensures bare { IfOk result (λ yes. IsTrue yes → IsBare stand.now.problem stand.now.path (need_at stand.now.problem number)) }
+    {
+        if self.ruling(stand, number, number).is_some() {
+            return Ok(true);
+        }
+        match self.ruling_above(stand, number) {
+            Some(id) => {
+                self.note(number, id)?;
+                Ok(true)
+            }
+            None => Ok(false),
+        }
+    }
+
+    // A clause that shows that no point of the prefix is in the need with a number, among those that closed another one.
+    fn ruling(&self, stand: &Stand, number: u32, other: u32) -> Option<u64>
+        requires within { number < need_count stand.now.problem }
+        requires solver { IsSolverOf stand.now.problem self.now }
+        ensures { IfSome result (λ id. IsBare stand.now.problem stand.now.path (need_at stand.now.problem number)) }
+    {
+        let wanted = by_concepts(stand.problem(), number);
+        let ids = self.closings.get(other as usize)?;
+        for id in ids {
+            if rules_out(&self.solver, stand, wanted, *id) {
+                return Some(*id);
+            }
+        }
+        None
+    }
+
+    // The same among those that closed the region of a parent.
+    fn ruling_above(&self, stand: &Stand, number: u32) -> Option<u64>
+        requires within { number < 3 * pair_count stand.now.problem }
+        requires solver { IsSolverOf stand.now.problem self.now }
+        ensures { IfSome result (λ id. IsBare stand.now.problem stand.now.path (need_at stand.now.problem number)) }
+    {
+        let (x, y) = stand.problem().pair_at(number / 3);
+        let part = number % 3;
+        if part < 2 {
+            if let Some(id) = self.ruling_by(
+                stand,
+                number,
+                parent_of(stand.problem(), x),
+                Some(y),
+            ) {
+                return Some(id);
+            }
+        }
+        if part > 0 {
+            return self.ruling_by(stand, number, Some(x), parent_of(stand.problem(), y));
+        }
+        None
+    }
+
+    // The same among those that closed the region of two other concepts, if both are there.
+    fn ruling_by(
+        &self,
+        stand: &Stand,
+        number: u32,
+        left: Option<u32>,
+        right: Option<u32>,
+    ) -> Option<u64>
+        requires within { number < need_count stand.now.problem }
+        requires left { IfSome left (λ x. x < concept_count stand.now.problem) }
+        requires right { IfSome right (λ y. y < concept_count stand.now.problem) }
+        requires solver { IsSolverOf stand.now.problem self.now }
+        ensures { IfSome result (λ id. IsBare stand.now.problem stand.now.path (need_at stand.now.problem number)) }
+    {
+        let other = region_of(stand.problem(), left?, right?, number % 3)?;
+        self.ruling(stand, number, other)
+    }
+
+    // Whether the need is one without a point that was one when the last relation of the prefix was added to its pair before.
+    pub(crate) fn is_lost(&self, stand: &Stand) -> bool
+        requires solver { IsSolverOf stand.now.problem self.now }
+        ensures { IsTrue result → IsAlive (problem_at stand.now.problem stand.now.path) → ⊥ }
+    {
+        match self.lost_before(stand) {
+            Some(number) => self.is_lost_again(stand, number),
+            None => false,
+        }
+    }
+
+    // Whether the number is that of a need that is known to have no point.
+    fn is_lost_again(&self, stand: &Stand, number: u32) -> bool
+        requires solver { IsSolverOf stand.now.problem self.now }
+        requires within { number < need_count stand.now.problem }
+        ensures { IsTrue result → IsAlive (problem_at stand.now.problem stand.now.path) → ⊥ }
+    {
+        if !stand.is_needed(number) {
+            return false;
+        }
+        match self.ruling(stand, number, number) {
+            Some(_) => true,
+            None => false,
+        }
+    }
+
+    // The number of the need that had no point when the last relation of the prefix was added to its pair before.
+    fn lost_before(&self, stand: &Stand) -> Option<u32>
+        ensures { IfSome result (λ number. number < need_count stand.now.problem) }
+    {
+        let place = place_of(stand.path())?;
+        let number = *self.lost.get(place)?;
+        if number < count_needs(stand.problem()) {
+            return Some(number);
+        }
+        None
+    }
+
+    // Notes a need that has no point at the prefix.
+    pub(crate) fn note_lost(&mut self, stand: &Stand, number: u32)
+        ensures { self.new ≡ self.old }
+    {
+        if let Some(place) = place_of(stand.path()) {
+            if place < self.lost.len() {
+                self.lost[place] = number;
+            }
+        }
     }
 
     // How many questions went to the solver.
@@ -247,6 +362,44 @@ impl Oracle {
     {
         self.solver.facts();
     }
+}
+
+// The parent of a concept.
+fn parent_of(problem: &Problem, concept: u32) -> Option<u32>
+    requires { concept < concept_count problem.now }
+    ensures { IfSome result (λ parent. parent < concept_count problem.now) }
+{
+    let _built = problem.taxonomy_count();
+    problem.parent(concept)
+}
+
+// The number of a region of two concepts, given as that of the first beside the second; none of one concept beside itself.
+fn region_of(problem: &Problem, one: u32, other: u32, part: u32) -> Option<u32>
+    requires one { one < concept_count problem.now }
+    requires other { other < concept_count problem.now }
+    requires part { part < 3 }
+{
+    let _few = count_pairs(problem);
+    if one < other {
+        return Some(3 * problem.pair_index(one, other) + part);
+    }
+    if other < one {
+        return Some(3 * problem.pair_index(other, one) + 2 - part);
+    }
+    None
+}
+
+// The place of a prefix's last relation at its pair, among all relations of all pairs.
+fn place_of(path: &[Rel]) -> Option<usize> {
+    let pair = path.len().checked_sub(1)?;
+    let rel = match path[pair] {
+        Rel::Equals => 0,
+        Rel::Includes => 1,
+        Rel::IncludedIn => 2,
+        Rel::Overlaps => 3,
+        Rel::Disjoint => 4,
+    };
+    pair.checked_mul(5)?.checked_add(rel)
 }
 
 // So many empty lists.
@@ -316,7 +469,7 @@ fn is_it(there: Option<Lit>, lit: Lit) -> bool
 }
 
 // Whether a literal is a selector that the prefix makes true.
-fn is_selector(stand: &Stand, lit: Lit) -> bool
+pub(crate) fn is_selector(stand: &Stand, lit: Lit) -> bool
     ensures { IsTrue result → Contains (selectors_of stand.now.problem stand.now.path) lit }
 {
     positions_narrow();

@@ -73,7 +73,7 @@ impl PlainAsker {
             self.alloc,
             &mut self.solver,
             problem,
-            prefix,
+            prefix.rels(),
             &selectors,
             need,
         )
@@ -127,7 +127,7 @@ impl PlainAsker {
             self.alloc,
             &mut self.solver,
             problem,
-            prefix,
+            prefix.rels(),
             &selectors,
             &needs,
         )

@@ -1,6 +1,5 @@
 //! Asking the solver for one point.
-ghost use Rattle.std.specs.Prelude.{◌≡◌, ℕ, ◌≤◌, ◌++◌, length, take, Contains, IfOk, OnOk, None};
-ghost use Rattle.world_model.specs.Alive.{needs, problem_at};
+ghost use Rattle.std.specs.Prelude.{◌≡◌, ℕ, ◌≤◌, ◌++◌, length, take, IfOk, OnOk, None};
 ghost use Rattle.cert_model.specs.Forced.{need_lits};
 ghost use Rattle.point_encode.specs.Needs.{need_seen, lits_there, IsInRange};
 ghost use Rattle.learn_solver.specs.Solving.{GoesTo};
@@ -13,7 +12,7 @@ use constraint_set::Problem;
 use learn_solver::{Answer, Solver};
 use lits_core::{Bits, Lit, law_derived_clauses_follow, law_literals_are_sets};
 use point_encode::{Need, need_lits};
-use rcc5_core::Position;
+use rcc5_core::Rel;
 use std::alloc::{AllocError, Global};
 
 // A point of the prefix in the need, or the clause that shows that there is none. The literals are the prefix's selectors.
@@ -21,14 +20,13 @@ pub(crate) fn query(
     alloc: Global,
     solver: &mut Solver,
     problem: &Problem,
-    prefix: &Position,
+    prefix: &[Rel],
     selectors: &[Lit],
     need: Need,
 ) -> Result<Found, AllocError>
     requires solver { IsSolverOf problem.now solver.old }
     requires selectors { AreSelectors problem.now prefix.now selectors.now }
     requires range { IsInRange problem.now need }
-    requires forced { Contains (needs (problem_at problem.now prefix.now)) (need_seen problem.now need) }
     ensures kept { GoesTo solver.old solver.new }
     ensures solver { IsSolverOf problem.now solver.new }
     ensures found { IfOk result (IsFound (asker_with problem.now solver.new) problem.now prefix.now (need_seen problem.now need)) }

@@ -16,7 +16,7 @@ use constraint_set::Problem;
 use learn_solver::Solver;
 use lits_core::{Bits, Lit, law_literals_are_sets};
 use point_encode::Need;
-use rcc5_core::{Position, RelSet};
+use rcc5_core::{Position, Rel, RelSet};
 use std::alloc::{AllocError, Global};
 use world_model::positions_narrow;
 
@@ -68,7 +68,7 @@ pub(crate) fn seek(
     alloc: Global,
     solver: &mut Solver,
     problem: &Problem,
-    prefix: &Position,
+    prefix: &[Rel],
     selectors: &[Lit],
     wanted: &[Need],
 ) -> Result<Sought, AllocError>
@@ -97,7 +97,7 @@ fn place_of(
     alloc: Global,
     solver: &mut Solver,
     problem: &Problem,
-    prefix: &Position,
+    prefix: &[Rel],
     selectors: &[Lit],
     found: &mut Vec<Bits>,
     need: Need,
@@ -105,7 +105,6 @@ fn place_of(
     requires solver { IsSolverOf problem.now solver.old }
     requires selectors { AreSelectors problem.now prefix.now selectors.now }
     requires range { IsInRange problem.now need }
-    requires forced { Contains (needs (problem_at problem.now prefix.now)) (need_seen problem.now need) }
     requires points { ArePoints (problem_at problem.now prefix.now) found.old.items }
     ensures kept { GoesTo solver.old solver.new }
     ensures solver { IsSolverOf problem.now solver.new }

@@ -3,7 +3,7 @@ ghost use Rattle.std.specs.Prelude.{◌≡◌, ℕ, ◌+◌, ◌*◌, ◌<◌, �
 ghost use Rattle.world_model.specs.Problem.{concept_count, pair_count};
 ghost use Rattle.rcc5_core.specs.RelationSet.{has};
 ghost use Rattle.world_model.specs.Node.{pair_at};
-ghost use Rattle.world_model.specs.Alive.{allowed, is_point, is_in_need, avoids, needs, problem_at, IsAlive};
+ghost use Rattle.world_model.specs.Alive.{allowed, all_allow, is_point, is_in_need, avoids, needs, problem_at, IsAlive};
 ghost use Rattle.rcc5_core.specs.declared.Rel.TheVariants.{Equals};
 ghost use Rattle.constraint_set.specs.Shape.{SameShape};
 ghost use Rattle.cert_model.specs.Forced.{region_with};
@@ -12,6 +12,7 @@ ghost use Rattle.learn_solver.specs.Solving.{GoesTo};
 ghost use Rattle.point_query.specs.Answers.{IsFound, IsAliveAnswer, IsProbeAnswer, EachServed};
 ghost use Rattle.point_query.specs.Queries.{IsSolverOf, asker_with};
 ghost use Rattle.point_query.specs.Walks.{need_count, lies_by, wanted_seen, IsBelow, IsUnstruck, depth_at, IsFit, IsUndone, meets_trees, IsStruckBeyond, avoids_by, StrikesOut, served_at, IsServed, IsServedNow, IsClosedNow, IsStuck, IsFirstStuck, IsAdded, IsKept, IsNeeded, IsWalk, IsWalkAt, IsWalkBut, IsStriking};
+ghost use Rattle.point_query.specs.Ruling.{IsBare};
 ghost use Rattle.point_query.specs.Stands.{need_at, is_needed, needs_below, IsEmptyPair};
 
 use crate::answers::{Alive, Found, Points, Probe};
@@ -19,12 +20,12 @@ use crate::fresh::depths_at_start;
 use crate::oracle::Oracle;
 use crate::query::copy;
 use crate::same::{is_same, same_problem};
-use crate::stand::{Stand, count_pairs};
+use crate::stand::{Stand, count_pairs, word_of};
 use crate::waiting::{Numbers, Waiting};
 use constraint_set::Problem;
 use lits_core::{Bits, law_literals_are_sets};
 use point_encode::Need;
-use rcc5_core::{Occupancy, Position, Regions, Rel};
+use rcc5_core::{Occupancy, Position, Regions, Rel, RelSet};
 use std::alloc::{AllocError, Global};
 use world_model::positions_narrow;
 
@@ -54,7 +55,7 @@ pub(crate) struct Walk {
 }
 
 // The need with a number.
-fn by_concepts(problem: &Problem, number: u32) -> Wanted
+pub(crate) fn by_concepts(problem: &Problem, number: u32) -> Wanted
     requires { number < need_count problem.now }
     ensures value { wanted_seen result ≡ need_at problem.now number }
     ensures below { IsBelow (concept_count problem.now) result }
@@ -220,8 +221,16 @@ impl Walk {
         self.points
     }
 
+    // What the problem allows the next pair.
+    pub(crate) fn next_set(&self) -> RelSet
+        requires { length self.now.stand.path < pair_count self.now.stand.problem }
+        ensures { result ≡ allowed self.now.stand.problem (pair_at self.now.stand.problem (length self.now.stand.path)) }
+    {
+        self.stand.problem().allowed(self.stand.len())
+    }
+
     // Takes off the relations after the first ones.
-    fn back_to(&mut self, count: usize)
+    pub(crate) fn back_to(&mut self, count: usize)
         requires walk { IsWalk self.old }
         requires count { count ≤ length self.old.stand.path }
         ensures walk { IsWalk self.new }
@@ -234,7 +243,7 @@ impl Walk {
     }
 
     // Adds a relation that the problem allows the next pair.
-    fn push(&mut self, rel: Rel) -> Result<(), AllocError>
+    pub(crate) fn push(&mut self, rel: Rel) -> Result<(), AllocError>
         requires walk { IsWalk self.old }
         requires within { length self.old.stand.path < pair_count self.old.stand.problem }
         requires allowed { IsTrue (has (allowed self.old.stand.problem (pair_at self.old.stand.problem (length self.old.stand.path))) rel) }
@@ -251,7 +260,7 @@ impl Walk {
     }
 
     // Goes to a prefix, as far as the problem allows its relations, and answers the first pair that is left nothing.
-    fn go_to(&mut self, prefix: &Position) -> Result<Option<u32>, AllocError>
+    pub(crate) fn go_to(&mut self, prefix: &Position) -> Result<Option<u32>, AllocError>
         requires walk { IsWalk self.old }
         requires prefix { length prefix.now ≤ pair_count self.old.stand.problem }
         ensures walk { OnOk result (IsWalk self.new) }
@@ -421,10 +430,10 @@ impl Walk {
     }
 
     // Adds a point of the prefix, and answers its place.
-    fn add(&mut self, number: u32, bits: Bits) -> Result<usize, AllocError>
-        requires walk { IsWalkBut self.old number (number + 1) }
+    fn add(&mut self, bits: Bits) -> Result<usize, AllocError>
+        requires kept { IsKept self.old }
         requires point { IsTrue (is_point (problem_at self.old.stand.problem self.old.stand.path) bits) }
-        ensures walk { OnOk result (IsWalkBut self.new number (number + 1)) }
+        ensures walk { OnOk result ((low high : ℕ) → IsWalkBut self.old low high → IsWalkBut self.new low high) }
         ensures stand { OnOk result (self.new.stand ≡ self.old.stand) }
         ensures added { IfOk result (IsAdded self.new bits) }
         ensures waiting { OnOk result (self.new.waiting ≡ self.old.waiting) }
@@ -439,16 +448,10 @@ impl Walk {
     }
 
     // Sees to it that a need has a witness, or answers the clause that shows that it has no point.
-    fn serve(
-        &mut self,
-        solver: &mut Oracle,
-        prefix: &Position,
-        number: u32,
-    ) -> Result<Option<u64>, AllocError>
+    fn serve(&mut self, solver: &mut Oracle, number: u32) -> Result<Option<u64>, AllocError>
         requires walk { IsWalkBut self.old number (number + 1) }
         requires within { number < need_count self.old.stand.problem }
         requires needed { IsNeeded self.old number }
-        requires prefix { prefix.now ≡ self.old.stand.path }
         requires solver { IsSolverOf self.old.stand.problem solver.old }
         ensures kept { GoesTo solver.old solver.new }
         ensures solver { IsSolverOf self.old.stand.problem solver.new }
@@ -461,9 +464,9 @@ impl Walk {
             self.assign(number, place)?;
             return Ok(None);
         }
-        match self.ask_solver(solver, prefix, number)? {
+        match self.ask_solver(solver, number)? {
             Found::Point(bits) => {
-                let place = self.add(number, bits)?;
+                let place = self.add(bits)?;
                 self.assign(number, place)?;
                 Ok(None)
             }
@@ -472,14 +475,8 @@ impl Walk {
     }
 
     // Sees to it that a number waits no more: it is no need, or served; or answers the clause that shows that it has no point.
-    fn settle_one(
-        &mut self,
-        solver: &mut Oracle,
-        prefix: &Position,
-        number: u32,
-    ) -> Result<Option<u64>, AllocError>
+    fn settle_one(&mut self, solver: &mut Oracle, number: u32) -> Result<Option<u64>, AllocError>
         requires walk { IsWalkBut self.old number (number + 1) }
-        requires prefix { prefix.now ≡ self.old.stand.path }
         requires solver { IsSolverOf self.old.stand.problem solver.old }
         ensures kept { GoesTo solver.old solver.new }
         ensures solver { IsSolverOf self.old.stand.problem solver.new }
@@ -497,17 +494,12 @@ impl Walk {
         if self.is_served(number) {
             return Ok(None);
         }
-        self.serve(solver, prefix, number)
+        self.serve(solver, number)
     }
 
     // Sees to it that each need has a witness, or answers the first need without a point and the clause that shows it.
-    fn settle(
-        &mut self,
-        solver: &mut Oracle,
-        prefix: &Position,
-    ) -> Result<Option<(u32, u64)>, AllocError>
+    fn settle(&mut self, solver: &mut Oracle) -> Result<Option<(u32, u64)>, AllocError>
         requires walk { IsWalk self.old }
-        requires prefix { prefix.now ≡ self.old.stand.path }
         requires solver { IsSolverOf self.old.stand.problem solver.old }
         ensures kept { GoesTo solver.old solver.new }
         ensures solver { IsSolverOf self.old.stand.problem solver.new }
@@ -518,7 +510,7 @@ impl Walk {
     {
         law_literals_are_sets();
         while let Some(number) = self.waiting.pop() {
-            if let Some(id) = self.settle_one(solver, prefix, number)? {
+            if let Some(id) = self.settle_one(solver, number)? {
                 self.waiting.push(number)?;
                 return Ok(Some((number, id)));
             }
@@ -527,25 +519,19 @@ impl Walk {
     }
 
     // Asks the solver for a point in a need of the prefix.
-    fn ask_solver(
-        &self,
-        solver: &mut Oracle,
-        prefix: &Position,
-        number: u32,
-    ) -> Result<Found, AllocError>
+    fn ask_solver(&self, solver: &mut Oracle, number: u32) -> Result<Found, AllocError>
         requires within { number < need_count self.now.stand.problem }
         requires needed { IsNeeded self.now number }
-        requires prefix { prefix.now ≡ self.now.stand.path }
         requires solver { IsSolverOf self.now.stand.problem solver.old }
         ensures kept { GoesTo solver.old solver.new }
         ensures solver { IsSolverOf self.now.stand.problem solver.new }
         ensures found { IfOk result (IsFound (asker_with self.now.stand.problem solver.new) self.now.stand.problem self.now.stand.path (need_at self.now.stand.problem number)) }
     {
-        solver.ask(&self.stand, prefix, number)
+        solver.ask(&self.stand, number)
     }
 
-    // Whether a prefix is alive, and no more. A relation that leaves a need of its own pair without a point is ruled out before
-    // any point is struck out.
+    // Whether a prefix is alive, and no more. Where the walk stands at its parent or beyond it, the last relation may be ruled
+    // out before any point is struck out.
     pub(crate) fn is_alive(
         &mut self,
         solver: &mut Oracle,
@@ -561,18 +547,18 @@ impl Walk {
         ensures alive { IfOk result (λ yes. IsTrue yes ↔ IsAlive (problem_at self.old.stand.problem prefix.now)) }
     {
         law_literals_are_sets();
-        if self.is_ruled_out(solver, prefix)? {
+        if self.is_ruled_out_at(solver, prefix)? {
             return Ok(false);
         }
-        match self.probe(solver, prefix)? {
-            Probe::Alive => Ok(true),
-            Probe::EmptyPair(_) => Ok(false),
-            Probe::Closed(_, _) => Ok(false),
-        }
+        self.is_settled_at(solver, prefix)
     }
 
-    // Whether a need of the last pair has no point at a prefix, where the walk stands at its parent or beyond it.
-    fn is_ruled_out(&mut self, solver: &mut Oracle, prefix: &Position) -> Result<bool, AllocError>
+    // Whether a prefix is dead, as far as that shows from its parent, where the walk stands at the parent or beyond it.
+    fn is_ruled_out_at(
+        &mut self,
+        solver: &mut Oracle,
+        prefix: &Position,
+    ) -> Result<bool, AllocError>
         requires walk { IsWalk self.old }
         requires prefix { length prefix.now ≤ pair_count self.old.stand.problem }
         requires solver { IsSolverOf self.old.stand.problem solver.old }
@@ -583,8 +569,181 @@ impl Walk {
         ensures dead { IfOk result (λ yes. IsTrue yes → IsAlive (problem_at self.old.stand.problem prefix.now) → ⊥) }
     {
         match self.stand_at_parent(prefix) {
-            Some(rel) => self.is_barred(solver, prefix, rel),
+            Some(rel) => self.is_ruled_out(solver, rel),
             None => Ok(false),
+        }
+    }
+
+    // Whether a prefix is alive: goes there, and looks for a point for each need.
+    fn is_settled_at(&mut self, solver: &mut Oracle, prefix: &Position) -> Result<bool, AllocError>
+        requires walk { IsWalk self.old }
+        requires prefix { length prefix.now ≤ pair_count self.old.stand.problem }
+        requires solver { IsSolverOf self.old.stand.problem solver.old }
+        ensures kept { GoesTo solver.old solver.new }
+        ensures solver { IsSolverOf self.old.stand.problem solver.new }
+        ensures walk { OnOk result (IsWalk self.new) }
+        ensures problem { OnOk result (self.new.stand.problem ≡ self.old.stand.problem) }
+        ensures alive { IfOk result (λ yes. IsTrue yes ↔ IsAlive (problem_at self.old.stand.problem prefix.now)) }
+    {
+        match self.go_to(prefix)? {
+            None => self.is_settled(solver),
+            Some(_) => Ok(false),
+        }
+    }
+
+    // Whether the walk's prefix is alive: looks for a point for each need. It notes the first need that has none.
+    pub(crate) fn is_settled(&mut self, solver: &mut Oracle) -> Result<bool, AllocError>
+        requires walk { IsWalk self.old }
+        requires allow { IsTrue (all_allow (problem_at self.old.stand.problem self.old.stand.path)) }
+        requires solver { IsSolverOf self.old.stand.problem solver.old }
+        ensures kept { GoesTo solver.old solver.new }
+        ensures solver { IsSolverOf self.old.stand.problem solver.new }
+        ensures walk { OnOk result (IsWalk self.new) }
+        ensures stand { OnOk result (self.new.stand ≡ self.old.stand) }
+        ensures alive { IfOk result (λ yes. IsTrue yes ↔ IsAlive (problem_at self.old.stand.problem self.old.stand.path)) }
+    {
+        if let Some((number, _)) = self.settle(solver)? {
+            solver.note_lost(&self.stand, number);
+            return Ok(false);
+        }
+        Ok(true)
+    }
+
+    // Whether the prefix with one more relation is dead, as far as that shows without striking points out: the need that was
+    // lost there before is lost again, or a region of the next pair has no point.
+    pub(crate) fn is_ruled_out(&mut self, solver: &mut Oracle, rel: Rel) -> Result<bool, AllocError>
+        requires walk { IsWalk self.old }
+        requires within { length self.old.stand.path < pair_count self.old.stand.problem }
+        requires allowed { IsTrue (has (allowed self.old.stand.problem (pair_at self.old.stand.problem (length self.old.stand.path))) rel) }
+        requires solver { IsSolverOf self.old.stand.problem solver.old }
+        ensures kept { GoesTo solver.old solver.new }
+        ensures solver { IsSolverOf self.old.stand.problem solver.new }
+        ensures walk { OnOk result (IsWalk self.new) }
+        ensures stand { OnOk result (self.new.stand ≡ self.old.stand) }
+        ensures dead { IfOk result (λ yes. IsTrue yes → IsAlive (problem_at self.old.stand.problem (self.old.stand.path ++ rel ∷ [])) → ⊥) }
+    {
+        if self.is_lost(solver, rel)? {
+            return Ok(true);
+        }
+        self.is_barred(solver, rel)
+    }
+
+    // Whether the need that had no point before with this relation of the next pair has none again.
+    fn is_lost(&mut self, solver: &Oracle, rel: Rel) -> Result<bool, AllocError>
+        requires walk { IsWalk self.old }
+        requires within { length self.old.stand.path < pair_count self.old.stand.problem }
+        requires allowed { IsTrue (has (allowed self.old.stand.problem (pair_at self.old.stand.problem (length self.old.stand.path))) rel) }
+        requires solver { IsSolverOf self.old.stand.problem solver.now }
+        ensures same { self.new ≡ self.old }
+        ensures dead { IfOk result (λ yes. IsTrue yes → IsAlive (problem_at self.old.stand.problem (self.old.stand.path ++ rel ∷ [])) → ⊥) }
+    {
+        let pair = self.stand.len();
+        self.stand.push(rel)?;
+        let lost = solver.is_lost(&self.stand);
+        self.stand.back_to(pair as usize);
+        Ok(lost)
+    }
+
+    // Whether a relation of the next pair wants a point in a region that has none, or leaves a concept none where each is to
+    // have one.
+    fn is_barred(&mut self, solver: &mut Oracle, rel: Rel) -> Result<bool, AllocError>
+        requires walk { IsWalk self.old }
+        requires within { length self.old.stand.path < pair_count self.old.stand.problem }
+        requires allowed { IsTrue (has (allowed self.old.stand.problem (pair_at self.old.stand.problem (length self.old.stand.path))) rel) }
+        requires solver { IsSolverOf self.old.stand.problem solver.old }
+        ensures kept { GoesTo solver.old solver.new }
+        ensures solver { IsSolverOf self.old.stand.problem solver.new }
+        ensures walk { OnOk result (IsWalk self.new) }
+        ensures stand { OnOk result (self.new.stand ≡ self.old.stand) }
+        ensures dead { IfOk result (λ yes. IsTrue yes → IsAlive (problem_at self.old.stand.problem (self.old.stand.path ++ rel ∷ [])) → ⊥) }
+    {
+        law_literals_are_sets();
+        for part in 0..3 {
+            if self.wants_in_vain(solver, rel, part)? {
+                return Ok(true);
+            }
+        }
+        self.leaves_nothing(solver, rel)
+    }
+
+    // Whether a relation of the next pair puts one concept into the other, each concept is to have a point, and the two have none
+    // in common.
+    fn leaves_nothing(&mut self, solver: &mut Oracle, rel: Rel) -> Result<bool, AllocError>
+        requires walk { IsWalk self.old }
+        requires within { length self.old.stand.path < pair_count self.old.stand.problem }
+        requires allowed { IsTrue (has (allowed self.old.stand.problem (pair_at self.old.stand.problem (length self.old.stand.path))) rel) }
+        requires solver { IsSolverOf self.old.stand.problem solver.old }
+        ensures kept { GoesTo solver.old solver.new }
+        ensures solver { IsSolverOf self.old.stand.problem solver.new }
+        ensures walk { OnOk result (IsWalk self.new) }
+        ensures stand { OnOk result (self.new.stand ≡ self.old.stand) }
+        ensures dead { IfOk result (λ yes. IsTrue yes → IsAlive (problem_at self.old.stand.problem (self.old.stand.path ++ rel ∷ [])) → ⊥) }
+    {
+        positions_narrow();
+        let _open = self.stand.path();
+        let problem = self.stand.problem();
+        let _pair = problem.pair_at(self.stand.len());
+        if !problem.switches().nonempty {
+            return Ok(false);
+        }
+        match rel.row().both {
+            Occupancy::Free => self.is_bare(solver, 1),
+            Occupancy::Occupied | Occupancy::Empty => Ok(false),
+        }
+    }
+
+    // Whether a relation of the next pair wants a point in a region, by its number among the three, that has none.
+    fn wants_in_vain(
+        &mut self,
+        solver: &mut Oracle,
+        rel: Rel,
+        part: u32,
+    ) -> Result<bool, AllocError>
+        requires walk { IsWalk self.old }
+        requires within { length self.old.stand.path < pair_count self.old.stand.problem }
+        requires allowed { IsTrue (has (allowed self.old.stand.problem (pair_at self.old.stand.problem (length self.old.stand.path))) rel) }
+        requires part { part < 3 }
+        requires solver { IsSolverOf self.old.stand.problem solver.old }
+        ensures kept { GoesTo solver.old solver.new }
+        ensures solver { IsSolverOf self.old.stand.problem solver.new }
+        ensures walk { OnOk result (IsWalk self.new) }
+        ensures stand { OnOk result (self.new.stand ≡ self.old.stand) }
+        ensures dead { IfOk result (λ yes. IsTrue yes → IsAlive (problem_at self.old.stand.problem (self.old.stand.path ++ rel ∷ [])) → ⊥) }
+    {
+        positions_narrow();
+        let _open = self.stand.path();
+        match word_of(rel.row(), part) {
+            Occupancy::Occupied => self.is_bare(solver, part),
+            Occupancy::Empty | Occupancy::Free => Ok(false),
+        }
+    }
+
+    // Whether a region of the next pair, by its number among the three, has no point of the prefix. A point that is found is kept.
+    fn is_bare(&mut self, solver: &mut Oracle, part: u32) -> Result<bool, AllocError>
+        requires walk { IsWalk self.old }
+        requires within { length self.old.stand.path < pair_count self.old.stand.problem }
+        requires part { part < 3 }
+        requires solver { IsSolverOf self.old.stand.problem solver.old }
+        ensures kept { GoesTo solver.old solver.new }
+        ensures solver { IsSolverOf self.old.stand.problem solver.new }
+        ensures walk { OnOk result (IsWalk self.new) }
+        ensures stand { OnOk result (self.new.stand ≡ self.old.stand) }
+        ensures bare { IfOk result (λ yes. IsTrue yes → IsBare self.old.stand.problem self.old.stand.path (need_at self.old.stand.problem (3 * length self.old.stand.path + part))) }
+    {
+        let _few = count_pairs(self.stand.problem());
+        let number = 3 * self.stand.len() + part;
+        if solver.is_bare(&self.stand, number)? {
+            return Ok(true);
+        }
+        if self.find(number).is_some() {
+            return Ok(false);
+        }
+        match solver.look(&self.stand, number)? {
+            Some(bits) => {
+                self.add(bits)?;
+                Ok(false)
+            }
+            None => Ok(true),
         }
     }
 
@@ -616,62 +775,6 @@ impl Walk {
         Some(rel)
     }
 
-    // Whether one of the needs of the next pair has no point at the prefix with this relation.
-    fn is_barred(
-        &mut self,
-        solver: &mut Oracle,
-        prefix: &Position,
-        rel: Rel,
-    ) -> Result<bool, AllocError>
-        requires walk { IsWalk self.old }
-        requires path { self.old.stand.path ++ rel ∷ [] ≡ prefix.now }
-        requires within { length self.old.stand.path < pair_count self.old.stand.problem }
-        requires allowed { IsTrue (has (allowed self.old.stand.problem (pair_at self.old.stand.problem (length self.old.stand.path))) rel) }
-        requires solver { IsSolverOf self.old.stand.problem solver.old }
-        ensures kept { GoesTo solver.old solver.new }
-        ensures solver { IsSolverOf self.old.stand.problem solver.new }
-        ensures same { self.new ≡ self.old }
-        ensures dead { IfOk result (λ yes. IsTrue yes → IsAlive (problem_at self.old.stand.problem prefix.now) → ⊥) }
-    {
-        law_literals_are_sets();
-        for part in 0..3 {
-            if self.lacks(solver, prefix, rel, part)? {
-                return Ok(true);
-            }
-        }
-        Ok(false)
-    }
-
-    // Whether a need of the next pair, by its number among the three, is known to have no point at the prefix with this relation.
-    fn lacks(
-        &mut self,
-        solver: &mut Oracle,
-        prefix: &Position,
-        rel: Rel,
-        part: u32,
-    ) -> Result<bool, AllocError>
-        requires walk { IsWalk self.old }
-        requires path { self.old.stand.path ++ rel ∷ [] ≡ prefix.now }
-        requires within { length self.old.stand.path < pair_count self.old.stand.problem }
-        requires allowed { IsTrue (has (allowed self.old.stand.problem (pair_at self.old.stand.problem (length self.old.stand.path))) rel) }
-        requires part { part < 3 }
-        requires solver { IsSolverOf self.old.stand.problem solver.old }
-        ensures kept { GoesTo solver.old solver.new }
-        ensures solver { IsSolverOf self.old.stand.problem solver.new }
-        ensures same { self.new ≡ self.old }
-        ensures dead { IfOk result (λ yes. IsTrue yes → IsAlive (problem_at self.old.stand.problem prefix.now) → ⊥) }
-    {
-        let _few = count_pairs(self.stand.problem());
-        let pair = self.stand.len();
-        if self.find(3 * pair + part).is_some() {
-            return Ok(false);
-        }
-        self.stand.push(rel)?;
-        let lacking = solver.lacks(&self.stand, prefix, 3 * pair + part);
-        self.stand.back_to(pair as usize);
-        lacking
-    }
-
     // Whether a prefix is alive.
     pub(crate) fn probe(
         &mut self,
@@ -690,7 +793,7 @@ impl Walk {
         if let Some(pair) = self.go_to(prefix)? {
             return Ok(Probe::EmptyPair(pair));
         }
-        if let Some((number, id)) = self.settle(solver, prefix)? {
+        if let Some((number, id)) = self.settle(solver)? {
             return Ok(Probe::Closed(need_of(self.stand.problem(), number), id));
         }
         Ok(Probe::Alive)
@@ -714,7 +817,7 @@ impl Walk {
         if let Some(pair) = self.go_to(prefix)? {
             return Ok(Alive::EmptyPair(pair));
         }
-        if let Some((number, id)) = self.settle(solver, prefix)? {
+        if let Some((number, id)) = self.settle(solver)? {
             return Ok(Alive::Closed(need_of(self.stand.problem(), number), id));
         }
         let points = self.witnesses()?;
@@ -769,20 +872,14 @@ impl Walk {
         ensures found { IfOk result (IsFound (asker_with self.old.stand.problem solver.new) self.old.stand.problem prefix.now (need_seen self.old.stand.problem need)) }
     {
         match self.go_to(prefix)? {
-            None => self.ask_here(solver, prefix, need),
+            None => self.ask_here(solver, need),
             Some(_) => solver.ask_at(self.stand.problem(), prefix, need),
         }
     }
 
     // The same at the prefix of the walk.
-    fn ask_here(
-        &mut self,
-        solver: &mut Oracle,
-        prefix: &Position,
-        need: Need,
-    ) -> Result<Found, AllocError>
+    fn ask_here(&mut self, solver: &mut Oracle, need: Need) -> Result<Found, AllocError>
         requires walk { IsWalk self.old }
-        requires prefix { prefix.now ≡ self.old.stand.path }
         requires range { IsInRange self.old.stand.problem need }
         requires forced { Contains (needs (problem_at self.old.stand.problem self.old.stand.path)) (need_seen self.old.stand.problem need) }
         requires solver { IsSolverOf self.old.stand.problem solver.old }
@@ -793,7 +890,7 @@ impl Walk {
         ensures found { IfOk result (IsFound (asker_with self.old.stand.problem solver.new) self.old.stand.problem self.old.stand.path (need_seen self.old.stand.problem need)) }
     {
         let number = number_of(self.stand.problem(), need);
-        if let Some(id) = self.serve(solver, prefix, number)? {
+        if let Some(id) = self.serve(solver, number)? {
             self.waiting.push(number)?;
             return Ok(Found::Closed(id));
         }

@@ -153,12 +153,12 @@ rest_begins from c rest r begins at =
 -- a longer prefix of the start
 pub longer_way : (p : Problem) (from : List Rel) (old new : Walk) (r : Rel) → IsOnWay p from old → slice_get from (length old.path) ≡ Some r →
     IsAlive (problem_at p old.path) → length old.path < pair_count p → has (allowed p (pair_at p (length old.path))) r ≡ true →
-    new.stage ≡ old.stage → new.barren ≡ old.barren → new.next ≡ old.next → new.path ≡ old.path ++ r ∷ [] → IsOnWay p from new
-longer_way p from old new r way at alive short allows stage barren next path =
+    new.stage ≡ old.stage → new.open ≡ old.open → new.next ≡ old.next → new.path ≡ old.path ++ r ∷ [] → IsOnWay p from new
+longer_way p from old new r way at alive short allows stage known next path =
     let more = rest_begins from old.path way.rest r way.begins at in
     record {
       begun = stage ∙ way.begun;
-      unsure = barren ∙ way.unsure;
+      unknown = known ∙ way.unknown;
       node = subst (IsNode p) (sym path) (child_is_node p old.path r (record { alive = alive; short = short; allows = allows }));
       none_waits = next ∙ way.none_waits;
       rest = more.0;

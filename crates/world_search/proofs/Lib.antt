@@ -6,4 +6,4 @@ pub mod Serving
 pub mod Passing
 pub mod Stepping
 pub mod Copying
-pub mod WholeChildren
+pub mod OpenChildren

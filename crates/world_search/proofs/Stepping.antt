@@ -1,6 +1,6 @@
 -- What a turn of a walk leaves, as a step of the search.
 use Rattle.std.proofs.Common.{◌≡◌, ◌≢◌, ℕ, ◌+◌, ◌<◌, Bool, true, false, not, List, [], ◌∷◌, ◌++◌, refl, sym, ap, ◌∙◌, subst, IsTrue, append-nil}
-use Rattle.std.specs.Prelude.{Option, Some, None, Result, Ok, Err, OnErr, if◌then◌else◌}
+use Rattle.std.specs.Prelude.{Option, Some, None, IfSome, Result, Ok, Err, OnErr, if◌then◌else◌}
 use Rattle.std.proofs.lemmas.Bool.{true≢false, not_from_false}
 use Rattle.rcc5_core.specs.declared.Rel.{Rel}
 use Rattle.world_model.specs.Problem.{Problem}
@@ -14,7 +14,7 @@ use Rattle.world_search.specs.declared.walk.Stage.{Stage}
 use Rattle.world_search.specs.declared.walk.Stage.TheVariants.{Start, Standing, Past}
 use Rattle.world_search.specs.declared.walk.Walk.{Walk}
 use Rattle.world_search.specs.declared.walk.World.{World as Found}
-use Rattle.world_search.specs.Walking.{place, LeadsBy, LeadsTo, IsFrom, IsAfter, IsStanding, IsPlacedBy, IsPlaced, at_by, state_of, left_by, nodes_left, Knows, IsBarren, IsWorldAt, Finds}
+use Rattle.world_search.specs.Walking.{place, LeadsBy, LeadsTo, IsFrom, IsAfter, IsStanding, IsPlacedBy, IsPlaced, at_by, state_of, left_by, nodes_left, Knows, AreOpenBeside, IsWorldAt, Finds}
 use Rattle.world_search.proofs.Passing.{WorldsAt, none_there, one_there, stays_put, fell_nowhere, came_nowhere, came_join, passes_first, passes_next, placed_first, placed_next, fewer_left, at_end_standing}
 
 -- a walk that stands is at its place
@@ -108,8 +108,10 @@ fewer_visit p from to old new node standing placed is leads =
     subst (λ k. left_by p (place new) new.stage < k) same (fewer_left p node (place new) new.stage there.node.0 leads)
 
 -- what is known at a place
-pub knows_same : (p : Problem) (old new : Walk) → new.stage ≡ old.stage → place new ≡ place old → new.barren ≡ old.barren → Knows p old → Knows p new
-knows_same p old new stage same barren knows = λ standing known. subst (IsBarren p) (sym same) (knows (sym stage ∙ standing) (sym barren ∙ known))
+pub knows_same : (p : Problem) (old new : Walk) → new.stage ≡ old.stage → place new ≡ place old → new.open ≡ old.open → Knows p old → Knows p new
+knows_same p old new stage same known knows = λ standing.
+    let here : IfSome old.open (AreOpenBeside p (place new)) = subst (λ m. IfSome old.open (AreOpenBeside p m)) (sym same) (knows (sym stage ∙ standing)) in
+    subst (λ set. IfSome set (AreOpenBeside p (place new))) (sym known) here
 
 -- a world that was found
 pub world_there : (p : Problem) (node : List Rel) (world : Found) → IsWorldAt p node world → IsPossibleWorld p node

@@ -1,14 +1,13 @@
 -- Where a walk stands among the nodes.
-use Rattle.std.specs.Prelude.{◌≡◌, ◌<◌, ◌≤◌, ℕ, Bool, true, false, List, [], ◌∷◌, ◌++◌, Option, Some, None, length, IsTrue, not, if◌then◌else◌}
+use Rattle.std.specs.Prelude.{◌≡◌, ◌≤◌, ◌↔◌, ℕ, Bool, true, false, List, [], ◌∷◌, ◌++◌, Option, Some, None, IfSome, length, IsTrue, not, if◌then◌else◌}
 use Rattle.rcc5_core.specs.declared.Rel.{Rel}
-use Rattle.rcc5_core.specs.Relation.{rank_of}
-use Rattle.rcc5_core.specs.RelationSet.{has, next_of}
-use Rattle.rcc5_core.specs.Region.{is_whole_set}
+use Rattle.rcc5_core.specs.declared.RelSet.{RelSet}
+use Rattle.rcc5_core.specs.RelationSet.{has}
 use Rattle.world_model.specs.Problem.{Problem, pair_count}
 use Rattle.world_model.specs.Family.{Family, meets, table_of, IsPossibleWorld}
 use Rattle.world_model.specs.Listing.{is_below, is_before_end}
-use Rattle.world_model.specs.Alive.{allowed, problem_at, IsAlive}
-use Rattle.world_model.specs.Node.{pair_at, IsNode, IsNodeFrom}
+use Rattle.world_model.specs.Alive.{problem_at, IsAlive}
+use Rattle.world_model.specs.Node.{IsNode, IsNodeFrom}
 use Rattle.world_model.specs.Trial.{nodes_between}
 use Rattle.world_search.specs.declared.walk.Stage.{Stage}
 use Rattle.world_search.specs.declared.walk.Stage.TheVariants.{Start, Standing, Past}
@@ -51,7 +50,7 @@ LeadsTo p IsKind w = LeadsBy p IsKind (place w) w.stage
 -- on the way to the first node: at a prefix of the start that is a node
 pub record IsOnWay (p : Problem) (from : List Rel) (w : Walk) : Type 0 where
   pub begun : w.stage ≡ Start
-  pub unsure : w.barren ≡ false
+  pub unknown : w.open ≡ None
   pub node : IsNode p w.path
   pub none_waits : w.next ≡ None
   pub rest : List Rel
@@ -100,22 +99,20 @@ abbrev pub Follows : Problem → List Rel → Walk → Bool → Type 0
 Follows p from w true = IsOnWay p from w
 Follows p from w false = LeadsTo p (IsFrom from) w
 
--- no child of its prefix before this one is alive
-abbrev pub IsBarren : Problem → List Rel → Type 0
-IsBarren p m = (c : List Rel) (s t : Rel) → m ≡ c ++ s ∷ [] → IsTrue (has (allowed p (pair_at p (length c))) t) → rank_of t < rank_of s →
-    IsAlive (problem_at p (c ++ t ∷ [])) → ⊥
+-- just the relations of a set lead on from a prefix to an alive one
+abbrev pub AreOpenAfter : Problem → List Rel → RelSet → Type 0
+AreOpenAfter p prefix set = (rel : Rel) → IsTrue (has set rel) ↔ IsAlive (problem_at p (prefix ++ rel ∷ []))
 
--- where a walk that stands says so, no child before its node is alive
-abbrev pub Knows : Problem → Walk → Type 0
-Knows p w = w.stage ≡ Standing → w.barren ≡ true → IsBarren p (place w)
-
--- a last child of a prefix whose pair allows a whole set
-pub record IsLastChild (p : Problem) (m : List Rel) : Type 0 where
+-- the same of the prefix of a node, which is the node without its last relation
+pub record AreOpenBeside (p : Problem) (m : List Rel) (set : RelSet) : Type 0 where
   pub prefix : List Rel
-  pub rel : Rel
-  pub is : m ≡ prefix ++ rel ∷ []
-  pub last : next_of (allowed p (pair_at p (length prefix))) rel ≡ None
-  pub whole : IsTrue (is_whole_set (allowed p (pair_at p (length prefix))))
+  pub last : Rel
+  pub is : m ≡ prefix ++ last ∷ []
+  pub each : AreOpenAfter p prefix set
+
+-- where a walk stands and keeps a set, it is that of its place
+abbrev pub Knows : Problem → Walk → Type 0
+Knows p w = w.stage ≡ Standing → IfSome w.open (AreOpenBeside p (place w))
 
 -- what a visit of a node finds: a world there, or that there is none
 abbrev pub Finds : Problem → List Rel → Option World → Type 0

@@ -68,7 +68,7 @@ impl Search {
             stage: Stage::Start,
             path: Position::new(alloc),
             next: None,
-            barren: false,
+            open: None,
         };
         Ok(Search {
             problem,

@@ -1,5 +1,5 @@
 //! Where a walk stands among the nodes, and how it goes on.
-ghost use Rattle.std.specs.Prelude.{List, ◌≢◌, Some, ◌≡◌, ◌↔◌, ◌+◌, true, false, ◌<◌, ◌≤◌, ◌++◌, ◌∷◌, [], length, IfOk, OnOk, OnErr, IfSome, IfNone, IsTrue, not};
+ghost use Rattle.std.specs.Prelude.{List, ◌≢◌, Some, None, ◌≡◌, ◌↔◌, ◌+◌, true, ◌<◌, ◌≤◌, ◌++◌, ◌∷◌, [], length, IfOk, OnOk, OnErr, IfSome, IfNone, IsTrue, not};
 ghost use Rattle.rcc5_core.specs.RelationSet.{first_of};
 ghost use Rattle.world_model.specs.Problem.{pair_count};
 ghost use Rattle.world_model.specs.Family.{IsPossibleWorld};
@@ -7,7 +7,7 @@ ghost use Rattle.world_model.specs.Listing.{is_below, is_before_end};
 ghost use Rattle.world_model.specs.Alive.{allowed, problem_at, IsAlive};
 ghost use Rattle.world_model.specs.Node.{pair_at, IsNode};
 ghost use Rattle.constraint_set.specs.Shape.{shape_of};
-ghost use Rattle.world_search.specs.Walking.{IsBehind, IsLeastNode, HasNoNode, place, LeadsTo, IsPlaced, IsOnWay, IsFrom, IsAfter, Follows, Knows, IsBarren, IsLastChild, Finds, state_of, at_by, nodes_left};
+ghost use Rattle.world_search.specs.Walking.{IsBehind, IsLeastNode, HasNoNode, place, LeadsTo, IsPlaced, IsOnWay, IsFrom, IsAfter, Follows, AreOpenAfter, AreOpenBeside, Knows, Finds, state_of, at_by, nodes_left};
 ghost use Rattle.world_search.specs.declared.walk.Stage.TheVariants.{Start, Standing};
 ghost use Rattle.world_search.specs.Searching.{Passes, FellBy, Came};
 ghost use Rattle.world_search.specs.Steps.{IsStep, IsStepped};
@@ -38,8 +38,8 @@ pub struct Walk {
     pub stage: Stage,
     pub path: Position,
     pub next: Option<Rel>,
-    /// Whether it is known that no child of the node's prefix before the node is alive.
-    pub barren: bool,
+    /// The relations by which an alive child of the node's prefix follows, where that is known.
+    pub open: Option<RelSet>,
 }
 
 /// A possible world, and a family that meets the problem and has this table.
@@ -54,7 +54,7 @@ impl Walk {
     fn settle(&mut self) -> Result<(), AllocError>
         ensures stage { self.new.stage ≡ self.old.stage }
         ensures place { place self.new ≡ place self.old }
-        ensures barren { self.new.barren ≡ self.old.barren }
+        ensures known { self.new.open ≡ self.old.open }
         ensures settled { OnOk result (self.new.path ≡ place self.old) }
     {
         if let Some(rel) = self.next {
@@ -65,21 +65,13 @@ impl Walk {
     }
 }
 
-// What the pair after a prefix of some relations allows.
-fn set_at(problem: &Problem, depth: usize) -> RelSet
-    requires { depth < pair_count problem.now }
-    ensures { result ≡ allowed problem.now (pair_at problem.now depth) }
-{
-    let _pairs = problem.pair_count();
-    problem.allowed(depth as u32)
-}
-
 // What the pair after a prefix allows.
 fn next_set(problem: &Problem, prefix: &Position) -> RelSet
     requires { length prefix.now < pair_count problem.now }
     ensures { result ≡ allowed problem.now (pair_at problem.now (length prefix.now)) }
 {
-    set_at(problem, prefix.len())
+    let _pairs = problem.pair_count();
+    problem.allowed(prefix.len() as u32)
 }
 
 // From a node to the place of the least node behind all that begin with it: a prefix, and the relation that follows.
@@ -102,9 +94,9 @@ fn pass(problem: &Problem, walk: &mut Walk)
     requires { IsNode problem.now walk.old.path }
     ensures on { LeadsTo problem.now (IsBehind walk.old.path) walk.new }
     ensures prefix { (rest : List Rel) × (walk.old.path ≡ walk.new.path ++ rest) }
-    ensures unsure { walk.new.barren ≡ false }
+    ensures unknown { walk.new.open ≡ None }
 {
-    walk.barren = false;
+    walk.open = None;
     match climb(problem, &mut walk.path) {
         Some(rel) => {
             walk.stage = Stage::Standing;
@@ -117,31 +109,53 @@ fn pass(problem: &Problem, walk: &mut Walk)
     }
 }
 
-// Goes on from an alive node that has room to its first child.
-fn enter(problem: &Problem, walk: &mut Walk)
-    requires alive { IsAlive (problem_at problem.now walk.old.path) }
-    requires short { length walk.old.path < pair_count problem.now }
-    ensures on { LeadsTo problem.now (IsAfter walk.old.path) walk.new }
-    ensures knows { Knows problem.now walk.new }
+// The relations that lead on from an alive prefix to an alive one. The lines of the asker are dropped.
+fn alive_after(
+    problem: &Problem,
+    asker: &mut Asker,
+    prefix: &Position,
+) -> Result<RelSet, AllocError>
+    requires shape { asker.old.shape ≡ shape_of problem.now }
+    requires short { length prefix.now < pair_count problem.now }
+    requires alive { IsAlive (problem_at problem.now prefix.now) }
+    ensures each { IfOk result (AreOpenAfter problem.now prefix.now) }
+    ensures shape { asker.new.shape ≡ asker.old.shape }
 {
-    walk.next = next_set(problem, &walk.path).first();
-    walk.stage = Stage::Standing;
-    walk.barren = true;
+    let set = asker.alive_after(problem, prefix)?;
+    asker.clear_lines();
+    Ok(set)
 }
 
-// Goes on from a dead node.
+// Goes on from an alive node that has room to its first child.
+fn enter(problem: &Problem, asker: &mut Asker, walk: &mut Walk) -> Result<(), AllocError>
+    requires shape { asker.old.shape ≡ shape_of problem.now }
+    requires alive { IsAlive (problem_at problem.now walk.old.path) }
+    requires short { length walk.old.path < pair_count problem.now }
+    ensures on { OnOk result (LeadsTo problem.now (IsAfter walk.old.path) walk.new) }
+    ensures knows { OnOk result (Knows problem.now walk.new) }
+    ensures err { OnErr result (walk.new ≡ walk.old) }
+    ensures shape { asker.new.shape ≡ asker.old.shape }
+{
+    let set = alive_after(problem, asker, &walk.path)?;
+    walk.next = next_set(problem, &walk.path).first();
+    walk.stage = Stage::Standing;
+    walk.open = Some(set);
+    Ok(())
+}
+
+// Goes on from a dead node. What is known of its prefix stays known under the same prefix.
 fn skip(problem: &Problem, walk: &mut Walk)
     requires node { IsNode problem.now walk.old.path }
     requires dead { IsAlive (problem_at problem.now walk.old.path) → ⊥ }
-    requires knows { walk.old.barren ≡ true → IsBarren problem.now walk.old.path }
+    requires knows { IfSome walk.old.open (AreOpenBeside problem.now walk.old.path) }
     ensures on { LeadsTo problem.now (IsAfter walk.old.path) walk.new }
     ensures knows { Knows problem.now walk.new }
 {
-    let barren = walk.barren;
+    let known = walk.open;
     let parent = walk.path.len().saturating_sub(1);
     pass(problem, walk);
     if walk.path.len() == parent {
-        walk.barren = barren;
+        walk.open = known;
     }
 }
 
@@ -157,36 +171,26 @@ fn is_alive(problem: &Problem, asker: &mut Asker, prefix: &Position) -> Result<b
     Ok(alive)
 }
 
-// Whether a node is the last child of its prefix, and the pair allows a whole set.
-fn is_last_child(problem: &Problem, node: &Position) -> bool
-    requires { IsNode problem.now node.now }
-    ensures { IsTrue result → IsLastChild problem.now node.now }
+// The last relation of a position.
+fn last_of(node: &Position) -> Rel
+    requires { 0 < length node.now }
+    ensures { (prefix : List Rel) × (node.now ≡ prefix ++ result ∷ []) }
 {
-    if node.is_empty() {
-        return false;
-    }
-    let depth = node.len() - 1;
-    let set = set_at(problem, depth);
-    let whole = set.is_whole();
-    let last = set.after(node.at(depth)).is_none();
-    whole && last
+    node.at(node.len() - 1)
 }
 
-// Whether the node at which a walk stands is alive. One child of an alive prefix is, if the pair allows a whole set; so the last
-// one need not be asked about, if no other is.
+// Whether the node at which a walk stands is alive. The asker is asked only where the walk keeps no set.
 fn is_here_alive(problem: &Problem, asker: &mut Asker, walk: &Walk) -> Result<bool, AllocError>
     requires shape { asker.old.shape ≡ shape_of problem.now }
     requires node { IsNode problem.now walk.now.path }
-    requires knows { walk.now.barren ≡ true → IsBarren problem.now walk.now.path }
+    requires knows { IfSome walk.now.open (AreOpenBeside problem.now walk.now.path) }
     ensures alive { IfOk result (λ alive. IsTrue alive ↔ IsAlive (problem_at problem.now walk.now.path)) }
     ensures shape { asker.new.shape ≡ asker.old.shape }
 {
-    if walk.barren {
-        if is_last_child(problem, &walk.path) {
-            return Ok(true);
-        }
+    match walk.open {
+        Some(set) => Ok(set.has(last_of(&walk.path))),
+        None => is_alive(problem, asker, &walk.path),
     }
-    is_alive(problem, asker, &walk.path)
 }
 
 // Whether a table is a possible world, with a family that shows it. The lines of the asker are dropped.
@@ -225,7 +229,7 @@ fn visit(
 ) -> Result<Option<World>, AllocError>
     requires shape { asker.old.shape ≡ shape_of problem.now }
     requires node { IsNode problem.now walk.old.path }
-    requires knows { walk.old.barren ≡ true → IsBarren problem.now walk.old.path }
+    requires knows { IfSome walk.old.open (AreOpenBeside problem.now walk.old.path) }
     ensures found { IfOk result (Finds problem.now walk.old.path) }
     ensures on { OnOk result (LeadsTo problem.now (IsAfter walk.old.path) walk.new) }
     ensures knows { OnOk result (Knows problem.now walk.new) }
@@ -236,7 +240,7 @@ fn visit(
     let pairs = problem.pair_count() as usize;
     if walk.path.len() < pairs {
         if is_here_alive(problem, asker, walk)? {
-            enter(problem, walk);
+            enter(problem, asker, walk)?;
         } else {
             skip(problem, walk);
         }
@@ -256,7 +260,7 @@ fn follow(problem: &Problem, from: &Position, walk: &mut Walk) -> Result<bool, A
     requires within { length from.now ≤ pair_count problem.now }
     ensures ok { IfOk result (λ on. Follows problem.now from.now walk.new on) }
     ensures longer { IfOk result (λ on. on ≡ true → length walk.new.path ≡ length walk.old.path + 1) }
-    ensures unsure { walk.new.barren ≡ false }
+    ensures unknown { walk.new.open ≡ None }
     ensures err { OnErr result (walk.new ≡ walk.old) }
 {
     let wanted = from.at(walk.path.len());
@@ -290,7 +294,7 @@ fn find(
     requires within { length from.now ≤ pair_count problem.now }
     ensures ok { OnOk result (LeadsTo problem.now (IsFrom from.now) walk.new) }
     ensures err { OnErr result (IsOnWay problem.now from.now walk.new) }
-    ensures unsure { walk.new.barren ≡ false }
+    ensures unknown { walk.new.open ≡ None }
     ensures shape { asker.new.shape ≡ asker.old.shape }
 {
     while walk.path.len() < from.len() {

@@ -1,4 +1,4 @@
-use Rattle.std.proofs.Common.{◌≡◌, ◌∙◌, ℕ, ◌+◌, ◌<◌, List, length, get_or, Option, Some, None, inl, inr, refl, sym, ap, subst, arith}
+use Rattle.std.proofs.Common.{◌≡◌, ◌∙◌, get_or, Some, inl, inr, sym, ap, subst, arith}
 use Rattle.std.specs.Prelude.{MatchOption, Contains}
 use Rattle.std.proofs.lemmas.Bool.{cases_lt}
 use Rattle.watch_arena.proofs.Watching.{index_of}

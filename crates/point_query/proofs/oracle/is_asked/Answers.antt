@@ -1,5 +1,4 @@
-use Rattle.world_model.specs.Alive.{problem_at}
-use Rattle.std.proofs.Common.{◌≡◌, List, ℕ, sym, ap, subst}
+use Rattle.std.proofs.Common.{subst}
 use Rattle.std.specs.Prelude.{Contains}
 use Rattle.std.proofs.lemmas.List.Elements.{Contains-append_left, Contains-append_right}
 use Rattle.cert_model.specs.Forced.{selectors_of, need_lits}

@@ -1,9 +1,8 @@
-use Rattle.std.proofs.Common.{◌≡◌, ◌∙◌, ℕ, ◌+◌, ◌-◌, ◌*◌, Bool, true, false, inl, inr, refl, sym, ap, subst, arith}
+use Rattle.std.proofs.Common.{◌≡◌, ◌∙◌, ℕ, ◌+◌, ◌-◌, ◌*◌, false, inl, inr, sym, ap, subst, arith}
 use Rattle.std.specs.Prelude.{Contains, not}
 use Rattle.std.proofs.lemmas.Bool.{true≢false}
-use Rattle.lits_core.specs.Literals.{variable_of, is_negative, negation_of}
+use Rattle.lits_core.specs.Literals.{variable_of, is_negative}
 use Rattle.lits_core.proofs.LiteralLemmas.{variable_of-literal_of, is_negative-literal_of, is_negative-negation, same_variable}
-use Rattle.world_model.specs.Problem.{Problem, concept_count, pair_count}
 use Rattle.cert_model.specs.Clauses.{is_so, first_sum_selector}
 use Rattle.cert_model.specs.Forced.{selectors_of}
 use Rattle.point_query.proofs.oracle.is_selector.Goals as goal

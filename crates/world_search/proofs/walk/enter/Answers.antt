@@ -1,7 +1,7 @@
-use Rattle.std.proofs.Common.{◌≡◌, ap, ◌∙◌}
+use Rattle.std.proofs.Common.{ap, ◌∙◌}
 use Rattle.rcc5_core.specs.RelationSet.{first_of}
 use Rattle.world_search.proofs.Leading.{leads_within}
-use Rattle.world_search.proofs.WholeChildren.{first_is_barren}
+use Rattle.world_search.proofs.OpenChildren.{beside_first}
 use Rattle.world_search.proofs.walk.enter.Goals as goal
 
 pub returns-clause-on : goal.returns-clause-on
@@ -9,5 +9,6 @@ returns-clause-on c =
     leads_within c.args.problem.now c.args.walk.now.path c.first-walk.result c.requires.alive c.requires.short (c.first-walk.ensures ∙ ap first_of c.next_set.ensures)
 
 pub returns-clause-knows : goal.returns-clause-knows
-returns-clause-knows c = λ standing known.
-    first_is_barren c.args.problem.now c.args.walk.now.path c.first-walk.result c.requires.alive c.requires.short (c.first-walk.ensures ∙ ap first_of c.next_set.ensures)
+returns-clause-knows c = λ standing.
+    beside_first c.args.problem.now c.args.walk.now.path c.in_ok-set.set c.first-walk.result c.requires.alive c.requires.short
+    (c.first-walk.ensures ∙ ap first_of c.next_set.ensures) c.in_ok-set.ensures.each

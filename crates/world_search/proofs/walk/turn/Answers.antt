@@ -1,8 +1,9 @@
 use Rattle.std.proofs.Common.{◌≡◌, List, [], ◌∷◌, true, false, sym, ap, ◌∙◌, subst}
+use Rattle.std.specs.Prelude.{IfSome}
 use Rattle.world_model.specs.Listing.{is_before_end}
 use Rattle.world_search.specs.declared.walk.Walk.{Walk}
 use Rattle.world_search.specs.Searching.{Came}
-use Rattle.world_search.specs.Walking.{place, state_of, IsBarren, Finds, IsWorldAt}
+use Rattle.world_search.specs.Walking.{place, state_of, AreOpenBeside, Finds, IsWorldAt}
 use Rattle.world_search.proofs.Passing.{WorldsAt, none_there, one_there}
 use Rattle.world_search.proofs.Stepping.{came_same, step_end, step_spent, came_visit, placed_visit, fewer_visit, knows_same, world_there, on_err}
 use Rattle.world_search.proofs.walk.turn.Goals as goal
@@ -77,30 +78,35 @@ returns-in-None-clause-fewer c =
 
 pub returns-in_err-settle-clause-knows : goal.returns-in_err-settle-clause-knows
 returns-in_err-settle-clause-knows c =
-    knows_same c.args.problem.now c.args.walk.now c.settle.new.self c.settle.ensures.stage c.settle.ensures.place c.settle.ensures.barren c.requires.knows
+    knows_same c.args.problem.now c.args.walk.now c.settle.new.self c.settle.ensures.stage c.settle.ensures.place c.settle.ensures.known c.requires.knows
 
 pub returns-in_err-node-clause-knows : goal.returns-in_err-node-clause-knows
 returns-in_err-node-clause-knows c =
-    knows_same c.args.problem.now c.args.walk.now c.settle.new.self c.settle.ensures.stage c.settle.ensures.place c.settle.ensures.barren c.requires.knows
+    knows_same c.args.problem.now c.args.walk.now c.settle.new.self c.settle.ensures.stage c.settle.ensures.place c.settle.ensures.known c.requires.knows
 
 pub returns-then-not-is_before_end-clause-knows : goal.returns-then-not-is_before_end-clause-knows
 returns-then-not-is_before_end-clause-knows c =
-    knows_same c.args.problem.now c.args.walk.now c.settle.new.self c.settle.ensures.stage c.settle.ensures.place c.settle.ensures.barren c.requires.knows
+    knows_same c.args.problem.now c.args.walk.now c.settle.new.self c.settle.ensures.stage c.settle.ensures.place c.settle.ensures.known c.requires.knows
 
 pub returns-in_err-node-2-clause-knows : goal.returns-in_err-node-2-clause-knows
 returns-in_err-node-2-clause-knows c =
-    knows_same c.args.problem.now c.args.walk.now c.settle.new.self c.settle.ensures.stage c.settle.ensures.place c.settle.ensures.barren c.requires.knows
+    knows_same c.args.problem.now c.args.walk.now c.settle.new.self c.settle.ensures.stage c.settle.ensures.place c.settle.ensures.known c.requires.knows
 
 pub returns-then-is_spent-clause-knows : goal.returns-then-is_spent-clause-knows
 returns-then-is_spent-clause-knows c =
-    knows_same c.args.problem.now c.args.walk.now c.settle.new.self c.settle.ensures.stage c.settle.ensures.place c.settle.ensures.barren c.requires.knows
+    knows_same c.args.problem.now c.args.walk.now c.settle.new.self c.settle.ensures.stage c.settle.ensures.place c.settle.ensures.known c.requires.knows
 
 pub returns-in_err-world-clause-knows : goal.returns-in_err-world-clause-knows
 returns-in_err-world-clause-knows c =
     knows_same c.args.problem.now c.args.walk.now c.visit.new.walk
     (ap (λ (w : Walk). w.stage) c.in_err-world.ensures.err ∙ c.settle.ensures.stage) (ap place c.in_err-world.ensures.err ∙ c.settle.ensures.place)
-    (ap (λ (w : Walk). w.barren) c.in_err-world.ensures.err ∙ c.settle.ensures.barren) c.requires.knows
+    (ap (λ (w : Walk). w.open) c.in_err-world.ensures.err ∙ c.settle.ensures.known) c.requires.knows
 
 pub visit-requires-clause-knows : goal.visit-requires-clause-knows
-visit-requires-clause-knows c = λ known.
-    subst (IsBarren c.args.problem.now) (sym c.in_ok-settle.ensures.settled) (c.requires.knows c.requires.standing (sym c.settle.ensures.barren ∙ known))
+visit-requires-clause-knows c =
+    let p = c.args.problem.now in
+    let old = c.args.walk.now in
+    let new = c.settle.new.self in
+    let here : IfSome old.open (AreOpenBeside p new.path) =
+    subst (λ m. IfSome old.open (AreOpenBeside p m)) (sym c.in_ok-settle.ensures.settled) (c.requires.knows c.requires.standing) in
+    subst (λ set. IfSome set (AreOpenBeside p new.path)) (sym c.settle.ensures.known) here

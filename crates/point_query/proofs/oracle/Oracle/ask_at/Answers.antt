@@ -1,5 +1,6 @@
-use Rattle.std.proofs.Common.{◌∙◌, List, ℕ, sym, subst}
+use Rattle.std.proofs.Common.{◌∙◌, sym, ap, subst}
 use Rattle.std.specs.Prelude.{Contains}
+use Rattle.cert_model.specs.Forced.{selectors_of}
 use Rattle.point_query.proofs.Querying.{goes_nowhere}
 use Rattle.point_query.proofs.oracle.Oracle.ask_at.Goals as goal
 
@@ -8,7 +9,7 @@ returns-in_err-selectors-clause-kept c = goes_nowhere c.args.self.now
 
 pub query-requires-clause-selectors : goal.query-requires-clause-selectors
 query-requires-clause-selectors c =
-    let same = c.deref.ensures.value ∙ c.in_ok-selectors.ensures in
+    let same = c.deref.ensures.value ∙ c.in_ok-selectors.ensures ∙ ap (selectors_of c.args.problem.now) (sym c.rels.ensures) in
     record {
       there = λ lit h. subst (λ ls. Contains ls lit) (sym same) h;
       no_others = λ lit h. subst (λ ls. Contains ls lit) same h;

@@ -1,4 +1,4 @@
-use Rattle.std.proofs.Common.{◌≡◌, ◌∙◌, ◌<◌, ◌+◌, ◌*◌, List, ℕ, [], ◌∷◌, ◌++◌, length, subst, sym, ap, arith}
+use Rattle.std.proofs.Common.{◌≡◌, ◌∙◌, ◌<◌, ◌+◌, ◌*◌, [], ◌∷◌, ◌++◌, length, subst, sym, ap, arith}
 use Rattle.std.specs.Prelude.{IsTrue, vec_len}
 use Rattle.rcc5_core.specs.RelationSet.{has}
 use Rattle.rcc5_core.specs.Region.{row_of}

@@ -1,4 +1,4 @@
-use Rattle.std.proofs.Common.{◌≡◌, ◌∙◌, List, ℕ, sym, subst}
+use Rattle.std.proofs.Common.{◌∙◌, subst}
 use Rattle.point_query.specs.Queries.{AreSelectors}
 use Rattle.point_query.proofs.Assuming.{selectors_are}
 use Rattle.point_query.proofs.stand.Stand.selected.Goals as goal

@@ -1,3 +1,4 @@
+use Rattle.std.proofs.Common.{◌+◌}
 use Rattle.point_query.proofs.Querying.{goes_nowhere}
 use Rattle.point_query.proofs.walk.Walk.serve.Goals as goal
 
@@ -6,3 +7,6 @@ returns-in_err-assign-clause-kept c = goes_nowhere c.args.solver.now
 
 pub returns-in-Some-clause-kept : goal.returns-in-Some-clause-kept
 returns-in-Some-clause-kept c = goes_nowhere c.args.solver.now
+
+pub assign-requires-in-Point-clause-walk : goal.assign-requires-in-Point-clause-walk
+assign-requires-in-Point-clause-walk c = c.in_ok-place-in-Point.ensures.walk c.args.number (c.args.number + 1) c.requires.walk

@@ -1,4 +1,4 @@
-use Rattle.std.proofs.Common.{true≢false, ◌≡◌, ◌≤◌, List, [], ◌++◌, length, inl, refl, sym, ap, ◌∙◌, subst}
+use Rattle.std.proofs.Common.{◌≡◌, ◌≤◌, List, [], ◌++◌, length, inl, refl, sym, ap, ◌∙◌, subst}
 use Rattle.world_model.specs.Problem.{pair_count}
 use Rattle.world_search.proofs.search.Search.from.Goals as goal
 
@@ -7,11 +7,11 @@ invariant_of-result c = record {
   within = subst (λ p. length c.args.from ≤ pair_count p) (sym c.in_ok-problem.ensures) c.requires.from;
   placed = record {
     begun = refl;
-    unsure = refl;
+    unknown = refl;
     node = inl c.new.ensures;
     none_waits = refl;
     rest = c.args.from;
     begins = ap (λ m. m ++ c.args.from) (sym c.new.ensures);
   };
-  knows = λ standing known. absurd (true≢false (sym known));
+  knows = λ standing. tt;
 }
