@@ -1,6 +1,7 @@
 #!/usr/bin/env bash
 # Probes all nodes of the furniture example and of a generated problem of 96 concepts, in order, with one
-# asker for each. Prints how many nodes there are, how many of them are alive, how many questions went to
+# asker for each: by is_alive, which answers yes or no, and by probe, which names the first need without a
+# point and its clause. Prints how many nodes there are, how many of them are alive, how many probes went to
 # the solver, the processor time, the least of three runs, and the probes a second.
 set -eu
 cd "$(git rev-parse --show-toplevel)/crates/measure"
@@ -24,8 +25,10 @@ def run(command, path):
 for name in ("furniture", "generated_96"):
     path = f"{sys.argv[1]}/{name}.txt"
     made = min(run("problem", path) for _ in range(3))[0]
-    whole, text = min(run("probe", path) for _ in range(3))
-    nodes, alive, questions = map(int, re.fullmatch(r"nodes (\d+) alive (\d+) questions (\d+)\n", text).groups())
-    print(f"{name}: {nodes} nodes, {alive} alive, {questions} questions, {whole:.3f} s,"
-          f" {nodes / (whole - made):.0f} probes a second without the reading")
+    for command, call in (("alive", "is_alive"), ("probe", "probe")):
+        whole, text = min(run(command, path) for _ in range(3))
+        found = re.fullmatch(r"nodes (\d+) alive (\d+) questions (\d+) asked (\d+)\n", text)
+        nodes, alive, questions, asked = map(int, found.groups())
+        print(f"{name} by {call}: {nodes} nodes, {alive} alive, {asked} went to the solver, {whole:.3f} s,"
+              f" {nodes / (whole - made):.0f} probes a second without the reading")
 PYTHON

@@ -9,24 +9,40 @@ use crate::files::bytes_of;
 use cleantax_text::read_problem;
 use constraint_set::Problem;
 use outer_store::{Store, StoreFault};
-use point_query::Asker;
+use point_query::{Asker, Probe};
 use rcc5_core::{Position, RelSet};
 use std::alloc::{AllocError, Global};
 
-// How many nodes were probed, and how many of them are alive.
+// By which call the asker is asked.
+#[derive(Clone, Copy)]
+pub enum Call {
+    IsAlive,
+    Probe,
+}
+
+// How many nodes were probed, how many of them are alive, and how many probes went to the solver.
 #[derive(Clone, Copy)]
 struct Probed {
     nodes: u64,
     alive: u64,
+    asked: u64,
 }
 
 // Whether a node is alive. The lines of the asker are dropped.
-fn is_alive(problem: &Problem, asker: &mut Asker, node: &Position) -> Result<bool, AllocError>
+fn is_alive(
+    problem: &Problem,
+    asker: &mut Asker,
+    node: &Position,
+    call: Call,
+) -> Result<bool, AllocError>
     requires shape { asker.old.shape ≡ shape_of problem.now }
     requires within { length node.now ≤ pair_count problem.now }
     ensures { asker.new.shape ≡ asker.old.shape }
 {
-    let alive = asker.is_alive(problem, node)?;
+    let alive = match call {
+        Call::IsAlive => asker.is_alive(problem, node)?,
+        Call::Probe => matches!(asker.probe(problem, node)?, Probe::Alive),
+    };
     asker.clear_lines();
     Ok(alive)
 }
@@ -70,6 +86,7 @@ fn step(
     asker: &mut Asker,
     node: &mut Position,
     probed: &mut Probed,
+    call: Call,
 ) -> Result<bool, AllocError>
     requires { asker.old.shape ≡ shape_of problem.now }
     ensures { asker.new.shape ≡ asker.old.shape }
@@ -77,7 +94,11 @@ fn step(
     if node.len() > problem.pair_count() as usize {
         return Ok(false);
     }
-    let alive = is_alive(problem, asker, node)?;
+    let before = asker.questions();
+    let alive = is_alive(problem, asker, node, call)?;
+    if asker.questions() != before {
+        probed.asked = probed.asked.saturating_add(1);
+    }
     probed.nodes = probed.nodes.saturating_add(1);
     if alive {
         probed.alive = probed.alive.saturating_add(1);
@@ -89,13 +110,22 @@ fn step(
 }
 
 // Probes all nodes of a problem, in order.
-fn probe_all(alloc: Global, problem: &Problem, asker: &mut Asker) -> Result<Probed, AllocError>
+fn probe_all(
+    alloc: Global,
+    problem: &Problem,
+    asker: &mut Asker,
+    call: Call,
+) -> Result<Probed, AllocError>
     requires { asker.old.shape ≡ shape_of problem.now }
 {
-    let mut probed = Probed { nodes: 0, alive: 0 };
+    let mut probed = Probed {
+        nodes: 0,
+        alive: 0,
+        asked: 0,
+    };
     let mut node = Position::new(alloc);
     for _ in 0..u64::MAX {
-        if !step(problem, asker, &mut node, &mut probed)? {
+        if !step(problem, asker, &mut node, &mut probed, call)? {
             return Ok(probed);
         }
     }
@@ -103,22 +133,32 @@ fn probe_all(alloc: Global, problem: &Problem, asker: &mut Asker) -> Result<Prob
 }
 
 // What came of probing all nodes of a problem.
-fn probed_text(alloc: Global, problem: &Problem) -> Result<String, AllocError> {
+fn probed_text(alloc: Global, problem: &Problem, call: Call) -> Result<String, AllocError> {
     let mut asker = Asker::new(alloc, problem)?;
-    let Probed { nodes, alive } = probe_all(alloc, problem, &mut asker)?;
+    let probed = probe_all(alloc, problem, &mut asker, call)?;
+    let Probed {
+        nodes,
+        alive,
+        asked,
+    } = probed;
     let questions = asker.questions();
-    format!(in alloc; "nodes {nodes} alive {alive} questions {questions}")
+    format!(in alloc; "nodes {nodes} alive {alive} questions {questions} asked {asked}")
 }
 
 /// What came of probing all nodes of the problem in a file.
-pub fn probe<S: Store>(alloc: Global, store: &mut S, name: &str) -> Result<String, AllocError> {
+pub fn probe<S: Store>(
+    alloc: Global,
+    store: &mut S,
+    name: &str,
+    call: Call,
+) -> Result<String, AllocError> {
     let bytes = match bytes_of(alloc, store, name) {
         Ok(bytes) => bytes,
         Err(StoreFault::Failed) => return format!(in alloc; "failed"),
         Err(StoreFault::NoMemory) => return Err(AllocError),
     };
     match read_problem(alloc, &bytes, all_on()) {
-        Ok(problem) => probed_text(alloc, &problem),
+        Ok(problem) => probed_text(alloc, &problem, call),
         Err(_) => format!(in alloc; "refused"),
     }
 }
