@@ -94,8 +94,26 @@ fn put_all_worlds<W: Sink>(alloc: Global, out: &mut W, problem: &Problem) -> Res
 {
     let _built = problem.taxonomy_count();
     let mut asker = Asker::new(alloc, problem)?;
+    put_found_worlds(alloc, out, problem, &mut asker)
+}
+
+// The same by an asker.
+#[tactic(auto, using(crate::proofs::ListingLemmas::partly_nothing))]
+fn put_found_worlds<W: Sink>(
+    alloc: Global,
+    out: &mut W,
+    problem: &Problem,
+    asker: &mut Asker,
+) -> Result<u64, StoreFault>
+    requires shape { asker.old.shape ≡ shape_of problem.now }
+    ensures ok { IfOk result (IsPutTo problem.now None (W.received out.old) (W.received out.new)) }
+    ensures err { OnErr result (IsPutPartly problem.now (W.received out.old) (W.received out.new)) }
+    ensures cause { IfFailed result (Rose (W.faults out.old) (W.faults out.new)) (W.faults out.new ≡ W.faults out.old) }
+    ensures later { W.faults out.old ≤ W.faults out.new }
+{
+    let _built = problem.taxonomy_count();
     let mut search = Search::from(alloc, problem, Position::new(alloc), None)?;
-    put_worlds(alloc, out, problem, &mut asker, &mut search)
+    put_worlds(alloc, out, problem, asker, &mut search)
 }
 
 // The words of the last line.

@@ -393,6 +393,15 @@ impl Walk {
         place < self.serves.len() && self.serves[place].has_at(self.slots[number as usize], number)
     }
 
+    // Whether the last witness of a need is a point of the prefix in it.
+    fn has_witness(&self, number: u32) -> bool
+        requires kept { IsKept self.now }
+        requires within { number < need_count self.now.stand.problem }
+    {
+        let wanted = by_concepts(self.stand.problem(), number);
+        self.is_fit(self.witness[number as usize], wanted)
+    }
+
     // The place of a point of the prefix that is in a need: that of the last witness, or else the first.
     fn find(&self, number: u32) -> Option<usize>
         requires kept { IsKept self.now }
@@ -732,6 +741,9 @@ impl Walk {
     {
         let _few = count_pairs(self.stand.problem());
         let number = 3 * self.stand.len() + part;
+        if self.has_witness(number) {
+            return Ok(false);
+        }
         if solver.is_bare(&self.stand, number)? {
             return Ok(true);
         }
@@ -979,11 +991,53 @@ fn common_len(one: &[Rel], other: &[Rel]) -> usize
     ensures other { result ≤ length other.now }
     ensures same { take result one.now ≡ take result other.now }
 {
-    let mut count = 0;
+    let mut count = blocks_alike(one, other);
     while agree_at(one, other, count) {
         count += 1;
     }
     count
+}
+
+// How many relations two prefixes begin with alike, as far as whole blocks go.
+fn blocks_alike(one: &[Rel], other: &[Rel]) -> usize
+    ensures one { result ≤ length one.now }
+    ensures other { result ≤ length other.now }
+    ensures same { take result one.now ≡ take result other.now }
+{
+    let mut count = 0;
+    while is_block_alike(one, other, count) {
+        count += 64;
+    }
+    count
+}
+
+// Whether two prefixes have the same relations in a block of sixty-four from a place on. There is no branch in the loop, so the
+// compiler may compare many at a time.
+fn is_block_alike(one: &[Rel], other: &[Rel], start: usize) -> bool
+    ensures one { result ≡ true → start + 64 ≤ length one.now }
+    ensures other { result ≡ true → start + 64 ≤ length other.now }
+    ensures same { result ≡ true → (k : ℕ) → start ≤ k → k < start + 64 → slice_index_or one.now k Equals ≡ slice_index_or other.now k Equals }
+{
+    if one.len() < 64 || other.len() < 64 {
+        return false;
+    }
+    if one.len() - 64 < start || other.len() - 64 < start {
+        return false;
+    }
+    let left = &one[start..start + 64];
+    let right = &other[start..start + 64];
+    let mut alike = true;
+    for place in 0..64 {
+        alike &= is_same_rel(left[place], right[place]);
+    }
+    alike
+}
+
+// Whether two relations are the same.
+fn is_same_rel(one: Rel, other: Rel) -> bool
+    ensures { result ≡ true → one ≡ other }
+{
+    one == other
 }
 
 // Whether two prefixes have the same relation at a place.

@@ -1,5 +1,5 @@
 use Rattle.std.proofs.Common.{arith}
-use Rattle.point_query.proofs.Querying.{goes_same}
+use Rattle.point_query.proofs.Querying.{goes_nowhere, goes_same}
 use Rattle.point_query.proofs.Walking.{but_none, but_some}
 use Rattle.point_query.proofs.walk.Walk.is_bare.Goals as goal
 
@@ -14,3 +14,6 @@ returns-then-branch-clause-kept c = goes_same c.args.solver.now c.is_bare.new.se
 
 pub returns-then-is_some-clause-kept : goal.returns-then-is_some-clause-kept
 returns-then-is_some-clause-kept c = goes_same c.args.solver.now c.is_bare.new.self c.is_bare.ensures.same
+
+pub returns-then-has_witness-clause-kept : goal.returns-then-has_witness-clause-kept
+returns-then-has_witness-clause-kept c = goes_nowhere c.args.solver.now
