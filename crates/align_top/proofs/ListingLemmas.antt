@@ -1,13 +1,13 @@
 -- A listing that is put line by line while a search goes on.
-use Rattle.std.proofs.Common.{◌≡◌, ℕ, ◌+◌, ◌-◌, ◌^◌, ◌<◌, ◌≤◌, min, true, false, not, List, [], ◌∷◌, ◌++◌, Option, None, Some, length, refl, sym, ap, subst, ◌∙◌, arith, IsTrue, append-nil, append_assoc, length-append}
+use Rattle.std.proofs.Common.{◌≡◌, ℕ, ◌+◌, ◌-◌, ◌^◌, ◌<◌, min, not, List, [], ◌∷◌, ◌++◌, Option, None, Some, length, refl, sym, ap, subst, ◌∙◌, arith, IsTrue, append-nil, append_assoc, length-append}
 use Rattle.std.specs.Prelude.{flat_map, Result, Ok, Err, OnErr}
 use Rattle.std.proofs.lemmas.Grind.{flat_map-append}
 use Rattle.std.proofs.lemmas.Bool.{false≢true}
 use Rattle.rcc5_core.specs.declared.Rel.{Rel}
 use Rattle.outer_store.specs.Bytes.{GrownInPart, added}
-use Rattle.outer_store.proofs.BytesLemmas.{added-added, GrownInPart-kept, GrownInPart-whole, GrownInPart-longer, GrownInPart-after}
+use Rattle.outer_store.proofs.BytesLemmas.{added-added, GrownInPart-whole, GrownInPart-longer, GrownInPart-after}
 use Rattle.world_model.specs.Problem.{Problem, is_problem}
-use Rattle.world_model.specs.Listing.{is_below, is_before_end, is_between, IsListing}
+use Rattle.world_model.specs.Listing.{is_below, is_between, IsListing}
 use Rattle.world_model.specs.Laws.{is_not_above_end}
 use Rattle.world_model.specs.Trial.{worlds_between}
 use Rattle.world_model.proofs.OrderListings.{listing, listings_join_law, one_listing_law}

@@ -1,5 +1,5 @@
 -- What the words ask for, and what is put of it.
-use Rattle.std.proofs.Common.{◌≡◌, ◌≢◌, ℕ, ◌+◌, ◌<◌, ◌≤◌, Bool, true, false, List, [], ◌∷◌, ◌++◌, append-nil, Option, None, Some, IfSome, Result, Ok, Err, length, take, refl, sym, ap, subst, ◌∙◌, ◌⊎◌, inl, inr, ⊎_elim, arith, length-take, take_all}
+use Rattle.std.proofs.Common.{◌≡◌, ◌≢◌, ℕ, ◌<◌, ◌≤◌, Bool, true, false, List, [], ◌∷◌, append-nil, Option, None, Some, IfSome, Ok, Err, length, take, refl, sym, ap, subst, ◌∙◌, ◌⊎◌, inl, inr, ⊎_elim, arith, length-take, take_all}
 use Rattle.std.specs.Prelude.{nat_lt, ◌==◌, unwrap_or}
 use Rattle.std.proofs.lemmas.Bool.{ltb-true, lt-ltb, ltb-false, eqb-true}
 use Rattle.world_model.specs.declared.Switches.{Switches}
@@ -19,8 +19,8 @@ use Rattle.align_top.specs.declared.Status.TheVariants as status
 use Rattle.align_top.specs.declared.Request.{Request}
 use Rattle.align_top.specs.declared.Request.TheVariants.{Align}
 use Rattle.align_top.specs.Words.{request_of}
-use Rattle.align_top.specs.Output.{IsAnswer, IsRequestAnswer, IsTextAnswer, end_line, listing_text, listing_status, IsLastPut}
-use Rattle.align_top.specs.Run.{IfAnswered, IfReadFault, IfWriteFault, IfCutShort, IfNoMemory, UnlessWriteFault, AreHeld, IsAsked, IsPut, IsAskedText, IsCutShort, IsPutInPart, IsEndOf, IsReadFailed, IsReadTold, AsksFor}
+use Rattle.align_top.specs.Output.{IsTextAnswer, end_line, listing_text, listing_status, IsLastPut}
+use Rattle.align_top.specs.Run.{IfAnswered, IfReadFault, IfWriteFault, IfCutShort, IfNoMemory, UnlessWriteFault, AreHeld, IsAsked, IsPut, IsCutShort, IsPutInPart, IsEndOf, IsReadFailed, IsReadTold, AsksFor}
 use Rattle.align_top.specs.Putting.{counted_worlds, count_status, IsPutWhole, IsPutPartly, IsListingEnd}
 
 -- a text that is cut behind the longest one says what the whole says

@@ -1,10 +1,10 @@
 -- What a run puts on the sink, and the status that it ends with.
-use Rattle.std.specs.Prelude.{◌≡◌, ℕ, ◌-◌, ◌^◌, min, nat_lt, MatchBool, List, [], ◌∷◌, ◌++◌, length, map, flat_map, ◌⊎◌, Option, None, Result, Ok, Err, codes, decimal}
+use Rattle.std.specs.Prelude.{◌≡◌, ℕ, ◌-◌, ◌^◌, min, List, [], ◌∷◌, ◌++◌, length, map, flat_map, ◌⊎◌, Option, None, Result, Ok, Err, codes, decimal}
 use Rattle.outer_store.specs.Bytes.{GrownInPart, added}
 use Rattle.outer_store.specs.Faults.{Rose}
 use Rattle.rcc5_core.specs.declared.Rel.{Rel}
 use Rattle.rcc5_core.specs.Relation.{letter_of}
-use Rattle.world_model.specs.Problem.{Problem, concept_count}
+use Rattle.world_model.specs.Problem.{Problem}
 use Rattle.world_model.specs.Listing.{IsListing}
 use Rattle.cleantax_text.specs.declared.TextKind.{TextKind}
 use Rattle.cleantax_text.specs.declared.TextKind.TheVariants as text

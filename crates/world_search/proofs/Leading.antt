@@ -1,5 +1,5 @@
 -- Where a walk goes on to: the least node of a kind.
-use Rattle.std.proofs.Common.{◌≡◌, ℕ, ◌+◌, ◌<◌, ◌≤◌, Bool, true, false, not, ◌⊎◌, inl, inr, List, [], ◌∷◌, ◌++◌, length, get_or, refl, sym, ap, ◌∙◌, subst, arith, IsTrue, append_assoc, append-nil, length-append}
+use Rattle.std.proofs.Common.{◌≡◌, ◌<◌, ◌≤◌, true, false, not, ◌⊎◌, inl, inr, List, [], ◌∷◌, ◌++◌, length, sym, ap, ◌∙◌, subst, arith, IsTrue, append_assoc, append-nil, length-append}
 use Rattle.std.specs.Prelude.{Option, Some, None, slice_get}
 use Rattle.std.proofs.lemmas.Bool.{true≢false, not-true, not_from_false, cases_order}
 use Rattle.rcc5_core.specs.declared.Rel.{Rel}
@@ -9,12 +9,12 @@ use Rattle.world_model.specs.Problem.{Problem, pair_count}
 use Rattle.world_model.specs.Listing.{is_below}
 use Rattle.world_model.specs.Alive.{allowed, problem_at, IsAlive}
 use Rattle.world_model.specs.Node.{IsNode, pair_at}
-use Rattle.world_model.proofs.OrderPositions.{below_chain, below_apart, below_itself, below_longer, below_branch}
+use Rattle.world_model.proofs.OrderPositions.{below_apart, below_itself, below_longer, below_branch}
 use Rattle.world_search.specs.declared.walk.Stage.{Stage}
 use Rattle.world_search.specs.declared.walk.Stage.TheVariants.{Start, Standing, Past}
 use Rattle.world_search.specs.declared.walk.Walk.{Walk}
-use Rattle.world_search.specs.Walking.{IsBehind, IsLeastNode, HasNoNode, waiting, place, LeadsBy, LeadsTo, IsOnWay, IsFrom, IsAfter}
-use Rattle.world_search.proofs.Places.{Upward, within, behind, upward, below_both, not_below_behind, not_below_prefix}
+use Rattle.world_search.specs.Walking.{IsBehind, waiting, LeadsBy, IsOnWay, IsFrom, IsAfter}
+use Rattle.world_search.proofs.Places.{Upward, within, behind, upward, below_both, not_below_behind}
 use Rattle.world_search.proofs.Relations.{same_rank, next_is_in, next_is_least, none_is_next}
 use Rattle.world_search.proofs.LeastNodes.{IsChild, child_within, child_is_node, below_child, first_child, least_after_alive, after_is_behind}
 

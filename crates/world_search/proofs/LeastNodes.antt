@@ -1,6 +1,6 @@
 -- Nodes: their prefixes, what follows them, and the least node of a kind.
-use Rattle.std.proofs.Common.{◌≡◌, ℕ, zero, suc, ◌+◌, ◌<◌, ◌≤◌, Bool, true, false, not, ◌⊎◌, inl, inr, List, [], ◌∷◌, ◌++◌, length, get_or, refl, sym, ap, ◌∙◌, subst, arith, IsTrue, append_assoc, append-nil, length-append}
-use Rattle.std.specs.Prelude.{Option, Some, None}
+use Rattle.std.proofs.Common.{◌≡◌, ℕ, ◌<◌, ◌≤◌, true, false, not, ◌⊎◌, inl, inr, List, [], ◌∷◌, ◌++◌, length, get_or, refl, sym, ap, ◌∙◌, subst, arith, IsTrue, append_assoc, append-nil, length-append}
+use Rattle.std.specs.Prelude.{Some, None}
 use Rattle.std.proofs.Math.Seq.{get_or-append_seam}
 use Rattle.std.proofs.lemmas.Bool.{true≢false, not-true, not_from_false, cases_order}
 use Rattle.rcc5_core.specs.declared.Rel.{Rel}
@@ -10,13 +10,13 @@ use Rattle.rcc5_core.specs.RelationSet.{has, is_empty_set, first_of, next_of}
 use Rattle.world_model.specs.Problem.{Problem, pairs, pair_count}
 use Rattle.world_model.specs.Listing.{is_below}
 use Rattle.world_model.specs.Alive.{allowed, problem_at, IsAlive}
-use Rattle.world_model.specs.Node.{IsNode, IsStep, pair_at}
+use Rattle.world_model.specs.Node.{IsNode, pair_at}
 use Rattle.world_model.proofs.Members.{all_at, In-get_or}
-use Rattle.world_model.proofs.OrderPositions.{below_chain, below_apart, below_itself, below_longer, below_branch, below_upto, upto_below}
+use Rattle.world_model.proofs.OrderPositions.{below_apart, below_itself, below_longer, below_branch}
 use Rattle.world_model.proofs.PointPositions.{prefix_is_alive}
 use Rattle.world_model.proofs.PointOnce.{narrowed_inside, narrowed_beyond}
 use Rattle.world_search.specs.Walking.{IsBehind, IsLeastNode, IsAfter}
-use Rattle.world_search.proofs.Places.{Side, within, ahead, behind, side, Upward, upward, below_both, not_below_behind, not_below_prefix}
+use Rattle.world_search.proofs.Places.{Side, within, ahead, behind, side, below_both, not_below_behind, not_below_prefix}
 use Rattle.world_search.proofs.Relations.{same_rank, first_is_in, first_is_least, some_has_first, next_is_in, next_is_least, none_is_next, narrowed_has}
 
 -- what a relation within a node shows: its prefix is alive and not full, and the next pair allows the relation

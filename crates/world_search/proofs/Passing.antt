@@ -1,13 +1,13 @@
 -- What a walk passes: nodes and worlds between two places, one step after another.
-use Rattle.std.proofs.Common.{◌≡◌, ℕ, suc, ◌+◌, ◌<◌, ◌≤◌, Bool, true, false, not, ◌⊎◌, inl, inr, List, [], ◌∷◌, ◌++◌, length, refl, sym, ap, ◌∙◌, subst, arith, IsTrue, append-nil, length-append}
+use Rattle.std.proofs.Common.{◌≡◌, ℕ, ◌+◌, ◌<◌, Bool, true, false, not, inl, inr, List, [], ◌∷◌, ◌++◌, length, refl, sym, ap, ◌∙◌, subst, arith, IsTrue, append-nil, length-append}
 use Rattle.std.specs.Prelude.{Option, Some, None, if◌then◌else◌}
-use Rattle.std.proofs.lemmas.Bool.{true≢false, not-true, not_from_false, cases_Bool}
+use Rattle.std.proofs.lemmas.Bool.{true≢false, not-true, not_from_false}
 use Rattle.rcc5_core.specs.declared.Rel.{Rel}
 use Rattle.world_model.specs.Problem.{Problem}
 use Rattle.world_model.specs.Family.{IsPossibleWorld}
-use Rattle.world_model.specs.Listing.{is_below, is_before_end, is_between, ascends, IsListing}
+use Rattle.world_model.specs.Listing.{is_below, is_before_end, is_between}
 use Rattle.world_model.specs.Laws.{is_not_above_end}
-use Rattle.world_model.specs.Node.{IsNode, IsNodeFrom, IsNodeList}
+use Rattle.world_model.specs.Node.{IsNode, IsNodeFrom}
 use Rattle.world_model.specs.Trial.{nodes_between}
 use Rattle.world_model.proofs.Members.{In, here, there}
 use Rattle.world_model.proofs.OrderPositions.{below_itself, below_chain, below_cases, below_apart, below_upto, upto_below}
@@ -19,7 +19,7 @@ use Rattle.world_search.specs.Searching.{SearchState, StandsBetween, Passes, Fel
 use Rattle.world_search.specs.declared.walk.Stage.{Stage}
 use Rattle.world_search.specs.declared.walk.Stage.TheVariants.{Start, Standing, Past}
 use Rattle.world_search.specs.declared.walk.Walk.{Walk}
-use Rattle.world_search.specs.Walking.{IsLeastNode, place, LeadsBy, IsFrom, IsAfter, IsStanding, IsPlacedBy, at_by, left_by}
+use Rattle.world_search.specs.Walking.{place, LeadsBy, IsFrom, IsAfter, IsStanding, IsPlacedBy, at_by, left_by}
 
 -- a list of no position, and of one
 exact_none : (W : List Rel → Type 0) → ((t : List Rel) → W t → ⊥) → IsExactly W []

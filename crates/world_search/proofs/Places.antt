@@ -1,5 +1,5 @@
 -- How a position stands to those that begin with a prefix.
-use Rattle.std.proofs.Common.{◌≡◌, ◌<◌, Bool, true, false, List, [], ◌∷◌, ◌++◌, refl, sym, ap, ◌∙◌, subst, is_lt, Ordering, Less, Equal, Greater, append-nil}
+use Rattle.std.proofs.Common.{◌≡◌, false, List, [], ◌∷◌, ◌++◌, refl, sym, ap, ◌∙◌, is_lt, Ordering, Less, Equal, Greater, append-nil}
 use Rattle.std.specs.Prelude.{IsTrue}
 use Rattle.std.specs.Ordering.{ordering_then}
 use Rattle.std.proofs.lemmas.Bool.{true≢false}
@@ -8,7 +8,7 @@ use Rattle.rcc5_core.specs.declared.Rel.{Rel}
 use Rattle.rcc5_core.specs.Relation.{rank_of}
 use Rattle.rcc5_core.specs.Order.{rel_cmp, position_cmp}
 use Rattle.world_model.specs.Listing.{is_below}
-use Rattle.world_model.proofs.OrderPositions.{below_chain, below_apart, below_itself, below_longer, below_branch, exact_rels, rel_itself}
+use Rattle.world_model.proofs.OrderPositions.{below_apart, below_itself, below_longer, below_branch, exact_rels, rel_itself}
 use Rattle.world_search.specs.Walking.{IsBehind}
 
 -- a position begins with a prefix, or it comes before all that do, or behind them

@@ -1,20 +1,19 @@
 -- Points for needs: how many there are, and what shows that a prefix is dead.
-use Rattle.std.proofs.Common.{◌≡◌, ℕ, ◌+◌, ◌*◌, ◌-◌, ◌^◌, ◌<◌, ◌≤◌, Bool, true, false, not, cond, List, [], ◌∷◌, ◌++◌, map, length, refl, sym, ap, ◌∙◌, subst, arith, IsTrue, length-append, mul-le-mul_left, mul-le-mul_right}
+use Rattle.std.proofs.Common.{◌≡◌, ℕ, ◌+◌, ◌*◌, ◌-◌, ◌^◌, ◌<◌, ◌≤◌, Bool, true, false, not, cond, List, [], ◌∷◌, ◌++◌, map, length, refl, sym, ◌∙◌, subst, arith, length-append, mul-le-mul_left, mul-le-mul_right}
 use Rattle.std.specs.Prelude.{filter, flat_map, if◌then◌else◌, Contains}
 use Rattle.std.proofs.lemmas.List.{length-map}
 use Rattle.std.proofs.lemmas.List.FromFn.{length-range_with_len}
 use Rattle.std.proofs.lemmas.Bool.{true≢false, not-true}
 use Rattle.rcc5_core.specs.declared.Rel.{Rel}
-use Rattle.rcc5_core.specs.declared.Region.{Region}
 use Rattle.rcc5_core.specs.declared.Regions.{Regions}
 use Rattle.rcc5_core.specs.declared.Occupancy.TheVariants.{Occupied}
 use Rattle.rcc5_core.specs.RelationSet.{is_empty_set}
-use Rattle.rcc5_core.specs.Region.{all_regions, word_at, same_word, forced_regions}
+use Rattle.rcc5_core.specs.Region.{all_regions, word_at, same_word}
 use Rattle.world_model.specs.Problem.{Problem, pairs, pair_count, concepts, concept_count}
-use Rattle.world_model.specs.Alive.{Need, allowed, forced_of, forced_pairs, needs_at, needs, problem_at, HasPoint, IsAlive}
+use Rattle.world_model.specs.Alive.{Need, allowed, forced_of, forced_pairs, needs_at, needs, problem_at, IsAlive}
 use Rattle.world_model.specs.Alive.Need.{InRegion, InConcept}
 use Rattle.world_model.specs.Node.{pair_at}
-use Rattle.world_model.proofs.Members.{In, here, there, In-right, contains_from_in, all_at, In-get_or}
+use Rattle.world_model.proofs.Members.{here, In-right, contains_from_in, all_at, In-get_or}
 use Rattle.world_model.proofs.PointOnce.{pairs_number}
 use Rattle.point_query.specs.Asking.{AskerState}
 use Rattle.point_query.specs.Answers.{EachServed, IsServed, IsFirstEmpty, IsFirstClosed}

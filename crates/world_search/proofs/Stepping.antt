@@ -1,7 +1,6 @@
 -- What a turn of a walk leaves, as a step of the search.
-use Rattle.std.proofs.Common.{◌≡◌, ◌≢◌, ℕ, ◌+◌, ◌<◌, Bool, true, false, not, List, [], ◌∷◌, ◌++◌, refl, sym, ap, ◌∙◌, subst, IsTrue, append-nil}
-use Rattle.std.specs.Prelude.{Option, Some, None, IfSome, Result, Ok, Err, OnErr, if◌then◌else◌}
-use Rattle.std.proofs.lemmas.Bool.{true≢false, not_from_false}
+use Rattle.std.proofs.Common.{◌≡◌, ◌≢◌, ℕ, ◌<◌, true, false, List, [], ◌∷◌, refl, sym, ap, ◌∙◌, subst, IsTrue}
+use Rattle.std.specs.Prelude.{Option, Some, IfSome, Result, Ok, Err, OnErr, if◌then◌else◌}
 use Rattle.rcc5_core.specs.declared.Rel.{Rel}
 use Rattle.world_model.specs.Problem.{Problem}
 use Rattle.world_model.specs.Family.{meets, table_of, IsPossibleWorld}
@@ -11,11 +10,11 @@ use Rattle.world_search.specs.Steps.{IsStep}
 use Rattle.world_search.specs.declared.step.Step.{Step}
 use Rattle.world_search.specs.declared.step.Step.TheVariants.{World, Spent, End}
 use Rattle.world_search.specs.declared.walk.Stage.{Stage}
-use Rattle.world_search.specs.declared.walk.Stage.TheVariants.{Start, Standing, Past}
+use Rattle.world_search.specs.declared.walk.Stage.TheVariants.{Start, Standing}
 use Rattle.world_search.specs.declared.walk.Walk.{Walk}
 use Rattle.world_search.specs.declared.walk.World.{World as Found}
-use Rattle.world_search.specs.Walking.{place, LeadsBy, LeadsTo, IsFrom, IsAfter, IsStanding, IsPlacedBy, IsPlaced, at_by, state_of, left_by, nodes_left, Knows, AreOpenBeside, IsWorldAt, Finds}
-use Rattle.world_search.proofs.Passing.{WorldsAt, none_there, one_there, stays_put, fell_nowhere, came_nowhere, came_join, passes_first, passes_next, placed_first, placed_next, fewer_left, at_end_standing}
+use Rattle.world_search.specs.Walking.{place, LeadsBy, LeadsTo, IsAfter, IsStanding, IsPlacedBy, IsPlaced, at_by, state_of, left_by, nodes_left, Knows, AreOpenBeside, IsWorldAt}
+use Rattle.world_search.proofs.Passing.{WorldsAt, stays_put, fell_nowhere, came_join, passes_next, placed_next, fewer_left, at_end_standing}
 
 -- a walk that stands is at its place
 pub standing_at : (p : Problem) (from : List Rel) (to : Option (List Rel)) (w : Walk) → w.stage ≡ Standing → IsPlaced p from to w → IsStanding p from to (place w)

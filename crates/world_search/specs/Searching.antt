@@ -1,9 +1,9 @@
 -- What a search is seen as, and what stands between two of its places.
-use Rattle.std.specs.Prelude.{◌≡◌, ℕ, ◌+◌, ◌≤◌, Bool, not, List, [], length, Option, Some, None, Contains, IsTrue, if◌then◌else◌}
+use Rattle.std.specs.Prelude.{◌≡◌, ℕ, ◌+◌, not, List, [], length, Option, Some, None, IsTrue, if◌then◌else◌}
 use Rattle.rcc5_core.specs.declared.Rel.{Rel}
 use Rattle.world_model.specs.Problem.{Problem}
 use Rattle.world_model.specs.Listing.{is_below, is_before_end, IsListing}
-use Rattle.world_model.specs.Node.{IsNode, IsNodeFrom, IsNodeList}
+use Rattle.world_model.specs.Node.{IsNodeFrom, IsNodeList}
 
 -- the problem, the start and the end, and where the search stands: all nodes from the start on and below this position are
 -- passed, and with none all nodes are

@@ -1,6 +1,5 @@
 -- What a step of a search means.
-use Rattle.std.specs.Prelude.{◌≡◌, ℕ, List, [], ◌∷◌, Option, Some, Result, Ok, Err, IsTrue}
-use Rattle.rcc5_core.specs.declared.Rel.{Rel}
+use Rattle.std.specs.Prelude.{◌≡◌, ℕ, [], ◌∷◌, Option, Some, Result, Ok, Err, IsTrue}
 use Rattle.world_model.specs.Family.{meets, table_of}
 use Rattle.world_search.specs.declared.step.Step.{Step}
 use Rattle.world_search.specs.declared.step.Step.TheVariants.{World, Spent, End}

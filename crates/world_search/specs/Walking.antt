@@ -4,7 +4,7 @@ use Rattle.rcc5_core.specs.declared.Rel.{Rel}
 use Rattle.rcc5_core.specs.declared.RelSet.{RelSet}
 use Rattle.rcc5_core.specs.RelationSet.{has}
 use Rattle.world_model.specs.Problem.{Problem, pair_count}
-use Rattle.world_model.specs.Family.{Family, meets, table_of, IsPossibleWorld}
+use Rattle.world_model.specs.Family.{meets, table_of, IsPossibleWorld}
 use Rattle.world_model.specs.Listing.{is_below, is_before_end}
 use Rattle.world_model.specs.Alive.{problem_at, IsAlive}
 use Rattle.world_model.specs.Node.{IsNode, IsNodeFrom}

@@ -1,5 +1,4 @@
 use Rattle.std.proofs.Common.{◌≡◌, [], sym, subst, rules}
-use Rattle.std.specs.Prelude.{Some}
 use Rattle.world_search.specs.Searching.{Passes}
 use Rattle.world_search.specs.Walking.{place, at_by}
 use Rattle.world_search.specs.declared.walk.Stage.TheVariants.{Start}

@@ -1,4 +1,4 @@
-use Rattle.std.proofs.Common.{◌≡◌, refl, sym, ap, ◌∙◌}
+use Rattle.std.proofs.Common.{refl, sym, ap, ◌∙◌}
 use Rattle.rcc5_core.specs.RelationSet.{next_of}
 use Rattle.world_search.proofs.LeastNodes.{climb_on, climb_found, climb_none}
 use Rattle.world_search.proofs.walk.climb.Goals as goal

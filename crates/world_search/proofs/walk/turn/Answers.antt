@@ -1,10 +1,10 @@
-use Rattle.std.proofs.Common.{◌≡◌, List, [], ◌∷◌, true, false, sym, ap, ◌∙◌, subst}
+use Rattle.std.proofs.Common.{[], ◌∷◌, sym, ap, ◌∙◌, subst}
 use Rattle.std.specs.Prelude.{IfSome}
 use Rattle.world_model.specs.Listing.{is_before_end}
 use Rattle.world_search.specs.declared.walk.Walk.{Walk}
 use Rattle.world_search.specs.Searching.{Came}
-use Rattle.world_search.specs.Walking.{place, state_of, AreOpenBeside, Finds, IsWorldAt}
-use Rattle.world_search.proofs.Passing.{WorldsAt, none_there, one_there}
+use Rattle.world_search.specs.Walking.{place, state_of, AreOpenBeside, IsWorldAt}
+use Rattle.world_search.proofs.Passing.{none_there, one_there}
 use Rattle.world_search.proofs.Stepping.{came_same, step_end, step_spent, came_visit, placed_visit, fewer_visit, knows_same, world_there, on_err}
 use Rattle.world_search.proofs.walk.turn.Goals as goal
 

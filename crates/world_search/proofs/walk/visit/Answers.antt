@@ -1,4 +1,4 @@
-use Rattle.std.proofs.Common.{◌≡◌, ◌≤◌, length, arith, true≢false, sym, ◌∙◌}
+use Rattle.std.proofs.Common.{◌≤◌, length, arith}
 use Rattle.world_model.specs.Problem.{pair_count}
 use Rattle.world_search.specs.Walking.{place}
 use Rattle.world_search.proofs.Leading.{leads_after, full_childless}

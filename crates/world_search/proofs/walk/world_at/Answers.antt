@@ -1,7 +1,7 @@
-use Rattle.std.proofs.Common.{◌≡◌, ◌<◌, ◌^◌, length, refl, sym, ap, ◌∙◌, subst}
+use Rattle.std.proofs.Common.{sym, ap, ◌∙◌}
 use Rattle.world_model.specs.Alive.{problem_at, family_of}
 use Rattle.point_encode.specs.Needs.{need_seen}
-use Rattle.point_query.specs.Answers.{IsServed, IsFirstEmpty, IsFirstClosed, IsAliveAnswer}
+use Rattle.point_query.specs.Answers.{IsServed, IsFirstClosed}
 use Rattle.world_search.proofs.Serving.{few_points, closed_is_dead}
 use Rattle.world_search.proofs.walk.world_at.Goals as goal
 

@@ -1,4 +1,4 @@
-use Rattle.std.proofs.Common.{◌≡◌, ◌≤◌, List, [], ◌++◌, length, inl, refl, sym, ap, ◌∙◌, subst}
+use Rattle.std.proofs.Common.{◌≤◌, ◌++◌, length, inl, refl, sym, ap, subst}
 use Rattle.world_model.specs.Problem.{pair_count}
 use Rattle.world_search.proofs.search.Search.from.Goals as goal
 

@@ -1,7 +1,6 @@
-use Rattle.std.proofs.Common.{◌≡◌, ◌≤◌, length, sym, ap, ◌∙◌, subst}
-use Rattle.world_model.specs.Problem.{Problem, pair_count}
+use Rattle.std.proofs.Common.{◌≡◌, sym, ap, ◌∙◌, subst}
 use Rattle.world_search.specs.Searching.{SearchState}
-use Rattle.world_search.specs.Walking.{Knows, IsPlaced, IsSearch}
+use Rattle.world_search.specs.Walking.{Knows, IsPlaced}
 use Rattle.world_search.proofs.search.Search.next.Goals as goal
 
 pub walk_on-requires-clause-knows : goal.walk_on-requires-clause-knows
