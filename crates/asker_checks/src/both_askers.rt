@@ -148,6 +148,9 @@ fn visit_table(
     if (said, points) != plain {
         met.unlike = met.unlike.saturating_add(1);
     }
+    if asker.serving(problem, table)?.is_some() != (said == Probe::Alive) {
+        met.unlike = met.unlike.saturating_add(1);
+    }
     if said == Probe::Alive {
         met.worlds = met.worlds.saturating_add(1);
     }

@@ -17,3 +17,4 @@ pub mod Denying
 pub mod Ruled
 pub mod Following
 pub mod Choosing
+pub mod Gathering

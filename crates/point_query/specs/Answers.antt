@@ -1,11 +1,12 @@
 -- What the answers of an asker mean.
-use Rattle.std.specs.Prelude.{◌≡◌, ℕ, ◌<◌, Bool, not, List, [], ◌∷◌, ◌++◌, MatchOption, IsTrue, Contains}
+use Rattle.std.specs.Prelude.{◌≡◌, ℕ, ◌<◌, ◌≤◌, length, Bool, not, List, [], ◌∷◌, ◌++◌, MatchOption, IsTrue, Contains}
+use Rattle.std.specs.List.{list_all}
 use Rattle.rcc5_core.specs.declared.Rel.{Rel}
 use Rattle.rcc5_core.specs.RelationSet.{is_empty_set}
 use Rattle.lits_core.specs.Derivation.{live_clause}
 use Rattle.world_model.specs.Problem.{Problem, pair_count}
 use Rattle.world_model.specs.Node.{pair_at}
-use Rattle.world_model.specs.Alive.{Need, allowed, all_allow, needs, problem_at, is_point, is_in_need, HasPoint, IsAlive, serves}
+use Rattle.world_model.specs.Alive.{Need, allowed, all_allow, needs, problem_at, is_point, is_in_need, HasPoint, IsAlive, each_has_one, serves}
 use Rattle.cert_model.specs.Forced.{IsClosedAt}
 use Rattle.point_encode.specs.Needs.{need_seen}
 use Rattle.point_query.specs.declared.answers.Found.{Found}
@@ -38,6 +39,18 @@ pub record IsServed (p : Problem) (points : List (List Bool)) : Type 0 where
   pub allow : IsTrue (all_allow p)
   pub each : EachServed p (needs p) points
   pub serve : IsTrue (serves p points)
+
+-- points serve some needs: each is a point, each need has one of them, and they are no more than the needs
+pub record AreServing (p : Problem) (needs : List Need) (points : List (List Bool)) : Type 0 where
+  pub each_is : IsTrue (list_all (is_point p) points)
+  pub each_has : IsTrue (each_has_one needs points)
+  pub few : length points ≤ length needs
+
+-- a prefix is alive, as no more points than needs show
+pub record IsServedByFew (p : Problem) (points : List (List Bool)) : Type 0 where
+  pub allow : IsTrue (all_allow p)
+  pub serve : IsTrue (serves p points)
+  pub few : length points ≤ length (needs p)
 
 -- a pair is the first that allows nothing
 pub record IsFirstEmpty (p : Problem) (pair : ℕ) : Type 0 where

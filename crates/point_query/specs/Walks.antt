@@ -1,5 +1,5 @@
 -- Points that were found, at a prefix: which of them are points of it, and which needs they serve.
-use Rattle.std.specs.Prelude.{◌≡◌, ◌≢◌, ◌++◌, ◌∷◌, set, ℕ, ◌+◌, ◌*◌, ◌<◌, ◌≤◌, ◌==◌, ◌&&◌, ◌⊎◌, Bool, true, not, List, [], length, take, drop, filter, slice_index_or, All, Contains, Option, Some, None, MatchOption, IsTrue}
+use Rattle.std.specs.Prelude.{◌≡◌, ◌≢◌, ◌++◌, ◌∷◌, set, ℕ, ◌+◌, ◌*◌, ◌<◌, ◌≤◌, ◌==◌, ◌&&◌, ◌⊎◌, Bool, true, false, not, List, [], length, take, drop, filter, slice_index_or, All, Contains, Option, Some, None, MatchOption, IsTrue}
 use Rattle.std.specs.List.{list_all, list_any, range_with_len, items_where_true}
 use Rattle.rcc5_core.specs.declared.Rel.{Rel}
 use Rattle.rcc5_core.specs.declared.Region as regions
@@ -19,9 +19,9 @@ use Rattle.point_query.specs.declared.walk.Wanted.{Wanted}
 use Rattle.point_query.specs.declared.walk.Wanted.TheVariants.{Region, Concept}
 use Rattle.point_query.specs.declared.walk.Walk.{Walk}
 use Rattle.learn_solver.specs.Solving.{SolverState}
-use Rattle.point_query.specs.Answers.{IsClosed}
+use Rattle.point_query.specs.Answers.{IsClosed, AreServing}
 use Rattle.point_query.specs.Queries.{IsSolverOf, asker_with}
-use Rattle.point_query.specs.Stands.{forced_at, need_at, is_needed}
+use Rattle.point_query.specs.Stands.{forced_at, need_at, is_needed, needs_below}
 
 -- how many needs may be
 abbrev pub need_count : Problem → ℕ
@@ -159,6 +159,12 @@ pub record IsStriking (w : Walk) (regions : Regions) (upto : ℕ) : Type 0 where
       Contains w.waiting number ⊎
       (IsServed w.stand.problem (length w.stand.path) w.points.items w.depths.items w.serves.items number (slice_index_or w.witness.items number 0) ×
       (slice_index_or w.witness.items number 0 < upto → IsUnstruck (length w.stand.path + 1) (depth_at w.depths.items (slice_index_or w.witness.items number 0))))
+
+-- points that are gathered from a walk's serve the needs with a number below n; those at the places that are taken are there
+pub record AreGathered (w : Walk) (n : ℕ) (list : List (List Bool)) (taken : List Bool) : Type 0 where
+  pub counted : length taken ≡ length w.points.items
+  pub there : (place : ℕ) → IsTrue (slice_index_or taken place false) → Contains list (point_at w.points.items place)
+  pub serving : AreServing (problem_at w.stand.problem w.stand.path) (needs_below (problem_at w.stand.problem w.stand.path) n) list
 
 -- all needs but this one wait or are served, and a clause closes it
 pub record IsStuck (w : Walk) (s : SolverState) (number id : ℕ) : Type 0 where

@@ -1,5 +1,5 @@
 //! The asker, as its users see it.
-ghost use Rattle.std.specs.Prelude.{◌≡◌, ◌<◌, ◌≤◌, ◌↔◌, [], ◌∷◌, ◌++◌, length, IfOk, IsTrue, Contains};
+ghost use Rattle.std.specs.Prelude.{◌≡◌, ◌<◌, ◌≤◌, ◌↔◌, [], ◌∷◌, ◌++◌, length, IfOk, IfSome, IfNone, IsTrue, Contains};
 ghost use Rattle.rcc5_core.specs.declared.Rel.{Rel};
 ghost use Rattle.rcc5_core.specs.RelationSet.{has};
 ghost use Rattle.world_model.specs.Problem.{pair_count};
@@ -7,11 +7,11 @@ ghost use Rattle.world_model.specs.Alive.{needs, problem_at, IsAlive};
 ghost use Rattle.constraint_set.specs.Shape.{shape_of};
 ghost use Rattle.point_encode.specs.Needs.{need_seen, IsInRange};
 ghost use Rattle.point_query.specs.Asking.{IsNewAsker, AskerGoes, IsAsker};
-ghost use Rattle.point_query.specs.Answers.{IsFound, IsAliveAnswer, IsProbeAnswer};
+ghost use Rattle.point_query.specs.Answers.{IsFound, IsAliveAnswer, IsProbeAnswer, IsServedByFew};
 ghost use Rattle.point_query.specs.Walks.{IsWalkAt};
 
 use crate::after::alive_after;
-use crate::answers::{Alive, Found, Probe};
+use crate::answers::{Alive, Found, Points, Probe};
 use crate::given::solver_of;
 use crate::oracle::Oracle;
 use crate::same::same_problem;
@@ -96,6 +96,24 @@ impl Asker {
         let answer = walk.alive(&mut self.solver, prefix)?;
         self.walk = Some(walk);
         Ok(answer)
+    }
+
+    /// Points that serve the prefix, no more than the needs, if it is alive: the witnesses, of which one often serves many needs.
+    pub fn serving(
+        &mut self,
+        problem: &Problem,
+        prefix: &Position,
+    ) -> Result<Option<Points>, AllocError>
+        requires shape { self.old.shape ≡ shape_of problem.now }
+        requires prefix { length prefix.now ≤ pair_count problem.now }
+        ensures kept { AskerGoes self.old self.new }
+        ensures some { IfOk result (λ found. IfSome found (IsServedByFew (problem_at problem.now prefix.now))) }
+        ensures none { IfOk result (λ found. IfNone found (IsAlive (problem_at problem.now prefix.now) → ⊥)) }
+    {
+        let mut walk = self.take_walk(problem)?;
+        let points = walk.serving(&mut self.solver, prefix)?;
+        self.walk = Some(walk);
+        Ok(points)
     }
 
     /// Whether the prefix is alive.

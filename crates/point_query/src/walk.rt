@@ -9,9 +9,9 @@ ghost use Rattle.constraint_set.specs.Shape.{SameShape};
 ghost use Rattle.cert_model.specs.Forced.{region_with};
 ghost use Rattle.point_encode.specs.Needs.{need_seen, number_of, IsInRange};
 ghost use Rattle.learn_solver.specs.Solving.{GoesTo};
-ghost use Rattle.point_query.specs.Answers.{IsFound, IsAliveAnswer, IsProbeAnswer, EachServed};
+ghost use Rattle.point_query.specs.Answers.{IsFound, IsAliveAnswer, IsProbeAnswer, EachServed, AreServing, IsServedByFew};
 ghost use Rattle.point_query.specs.Queries.{IsSolverOf, asker_with};
-ghost use Rattle.point_query.specs.Walks.{need_count, lies_by, wanted_seen, IsBelow, IsUnstruck, depth_at, IsFit, IsUndone, meets_trees, IsStruckBeyond, avoids_by, StrikesOut, served_at, IsServed, IsServedNow, IsClosedNow, IsStuck, IsFirstStuck, IsAdded, IsKept, IsNeeded, IsWalk, IsWalkAt, IsWalkBut, IsStriking};
+ghost use Rattle.point_query.specs.Walks.{need_count, lies_by, wanted_seen, IsBelow, IsUnstruck, depth_at, IsFit, IsUndone, meets_trees, IsStruckBeyond, avoids_by, StrikesOut, served_at, IsServed, IsServedNow, IsClosedNow, IsStuck, IsFirstStuck, IsAdded, IsKept, IsNeeded, AreGathered, IsWalk, IsWalkAt, IsWalkBut, IsStriking};
 ghost use Rattle.point_query.specs.Ruling.{IsBare};
 ghost use Rattle.point_query.specs.Stands.{need_at, is_needed, needs_below, IsEmptyPair};
 
@@ -862,6 +862,71 @@ impl Walk {
         }
         let place = self.witness[number as usize];
         list.push(copy(self.alloc, &self.points[place])?)?;
+        Ok(())
+    }
+
+    // Points that serve a prefix, no more than its needs, if it is alive.
+    pub(crate) fn serving(
+        &mut self,
+        solver: &mut Oracle,
+        prefix: &Position,
+    ) -> Result<Option<Points>, AllocError>
+        requires walk { IsWalk self.old }
+        requires prefix { length prefix.now ≤ pair_count self.old.stand.problem }
+        requires solver { IsSolverOf self.old.stand.problem solver.old }
+        ensures kept { GoesTo solver.old solver.new }
+        ensures solver { IsSolverOf self.old.stand.problem solver.new }
+        ensures walk { OnOk result (IsWalk self.new) }
+        ensures problem { OnOk result (self.new.stand.problem ≡ self.old.stand.problem) }
+        ensures some { IfOk result (λ found. IfSome found (IsServedByFew (problem_at self.old.stand.problem prefix.now))) }
+        ensures none { IfOk result (λ found. IfNone found (IsAlive (problem_at self.old.stand.problem prefix.now) → ⊥)) }
+    {
+        if let Some(_) = self.go_to(prefix)? {
+            return Ok(None);
+        }
+        if let Some(_) = self.settle(solver)? {
+            return Ok(None);
+        }
+        let points = self.gathered()?;
+        Ok(Some(points))
+    }
+
+    // The witnesses of all needs, each point once, where none waits.
+    fn gathered(&self) -> Result<Points, AllocError>
+        requires walk { IsWalk self.now }
+        requires settled { self.now.waiting ≡ [] }
+        ensures { IfOk result (AreServing (problem_at self.now.stand.problem self.now.stand.path) (needs (problem_at self.now.stand.problem self.now.stand.path))) }
+    {
+        let mut list = Vec::new(self.alloc);
+        let mut taken = vec![in self.alloc; false; self.points.len()]?;
+        for number in 0..count_needs(self.stand.problem()) {
+            self.gather(&mut list, &mut taken, number)?;
+        }
+        Ok(Points::new(list))
+    }
+
+    // Adds the witness of a need, if the number is that of one and its point is not there yet.
+    fn gather(
+        &self,
+        list: &mut Vec<Bits>,
+        taken: &mut Vec<bool>,
+        number: u32,
+    ) -> Result<(), AllocError>
+        requires walk { IsWalk self.now }
+        requires settled { self.now.waiting ≡ [] }
+        requires within { number < need_count self.now.stand.problem }
+        requires gathered { AreGathered self.now number list.old.items taken.old.items }
+        ensures { OnOk result (AreGathered self.now (number + 1) list.new.items taken.new.items) }
+    {
+        if !self.stand.is_needed(number) {
+            return Ok(());
+        }
+        let place = self.witness[number as usize];
+        if taken[place] {
+            return Ok(());
+        }
+        list.push(copy(self.alloc, &self.points[place])?)?;
+        taken[place] = true;
         Ok(())
     }
 

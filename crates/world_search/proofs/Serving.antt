@@ -16,14 +16,7 @@ use Rattle.world_model.specs.Node.{pair_at}
 use Rattle.world_model.proofs.Members.{here, In-right, contains_from_in, all_at, In-get_or}
 use Rattle.world_model.proofs.PointOnce.{pairs_number}
 use Rattle.point_query.specs.Asking.{AskerState}
-use Rattle.point_query.specs.Answers.{EachServed, IsServed, IsFirstEmpty, IsFirstClosed}
-
--- there is one point for each need
-one_each : (p : Problem) (ns : List Need) (points : List (List Bool)) → EachServed p ns points → length points ≡ length ns
-one_each p [] [] each = refl
-one_each p [] (bits ∷ rest) each = absurd each
-one_each p (need ∷ ns) [] each = absurd each
-one_each p (need ∷ ns) (bits ∷ rest) each = let more = one_each p ns rest each.2 in omega arith
+use Rattle.point_query.specs.Answers.{IsServedByFew, IsFirstEmpty, IsFirstClosed}
 
 filter_within : {X : Type 0} (test : X → Bool) (xs : List X) → length (filter test xs) ≤ length xs
 filter_within test [] = omega arith
@@ -70,9 +63,9 @@ needs_counted p = by p.switches.nonempty
         omega arith
 
 -- so the points of a problem that is not large are few
-pub few_points : (p : Problem) (m : List Rel) (points : List (List Bool)) → concept_count p ≤ 1024 → IsServed (problem_at p m) points → length points < 2 ^ 32
+pub few_points : (p : Problem) (m : List Rel) (points : List (List Bool)) → concept_count p ≤ 1024 → IsServedByFew (problem_at p m) points → length points < 2 ^ 32
 few_points p m points small served =
-    let each = one_each (problem_at p m) (needs (problem_at p m)) points served.each in
+    let each : length points ≤ length (needs (problem_at p m)) = served.few in
     let few : length (needs (problem_at p m)) ≤ 3 * pair_count p + concept_count p = needs_counted (problem_at p m) in
     let pairs = pairs_number p in
     let most : concept_count p * (concept_count p - 1) ≤ 1024 * 1024 = at_most (concept_count p) (concept_count p - 1) 1024 small (omega arith) in

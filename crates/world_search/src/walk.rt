@@ -14,7 +14,7 @@ ghost use Rattle.world_search.specs.Steps.{IsStep, IsStepped};
 
 use crate::step::{Nodes, Step};
 use constraint_set::Problem;
-use point_query::{Alive, Asker, Points};
+use point_query::Asker;
 use rcc5_core::{Position, Rel, RelSet};
 use set_family::Family;
 use std::alloc::{AllocError, Global};
@@ -207,16 +207,15 @@ fn world_at(
 {
     alive_tables_are_worlds();
     let _taxonomies = problem.taxonomy_count();
-    let alive = asker.alive(problem, table)?;
+    let serving = asker.serving(problem, table)?;
     asker.clear_lines();
-    match alive {
-        Alive::Points(points) => {
+    match serving {
+        Some(points) => {
             let family = Family::from_points(alloc, problem.concept_count(), points.list())?;
             let table = table.copy(alloc)?;
             Ok(Some(World { table, family }))
         }
-        Alive::EmptyPair(_) => Ok(None),
-        Alive::Closed(_, _) => Ok(None),
+        None => Ok(None),
     }
 }
 

@@ -1,0 +1,23 @@
+use Rattle.std.proofs.lemmas.List.{length-replicate}
+use Rattle.std.proofs.Common.{◌≡◌, false, get_or, length, sym, ap, ◌∙◌, subst, arith}
+use Rattle.world_model.specs.Alive.{problem_at}
+use Rattle.point_query.specs.Answers.{AreServing}
+use Rattle.point_query.specs.Stands.{needs_below}
+use Rattle.point_query.specs.Walks.{need_count}
+use Rattle.point_query.proofs.Gathering.{none_gathered, all_false}
+use Rattle.point_query.proofs.Numbering.{needs_numbered}
+use Rattle.point_query.proofs.walk.Walk.gathered.Goals as goal
+
+pub loop-number-init : goal.loop-number-init
+loop-number-init c =
+    let all = c.in_ok-taken.ensures.items_if_clones_equal (λ y same. same) in
+    none_gathered c.args.self.now c.new-list.result.items c.in_ok-taken.taken.items c.new-list.ensures.items (let counted = ap length all ∙ length-replicate c.len.result false in omega (arith, counted, c.len.ensures, c.args.self.now.points.ok))
+    (λ place. ap (λ ts. get_or ts place false) all ∙ all_false c.len.result place)
+
+pub returns : goal.returns
+returns c =
+    let q = problem_at c.args.self.now.stand.problem c.args.self.now.stand.path in
+    let counted : c.count_needs-number-end.result ≡ need_count q = c.count_needs-number-end.ensures ∙ ap need_count c.problem.ensures in
+    let all : c.loop-number.number ≡ need_count q = omega (arith, counted) in
+    subst (λ ns. AreServing q ns c.new.result) (sym (needs_numbered q ∙ ap (needs_below q) (sym all)))
+    (subst (λ bs. AreServing q (needs_below q c.loop-number.number) bs) (sym c.new.ensures) c.loop-number.invariant.serving)
