@@ -12,3 +12,4 @@ mod Teaching
 mod Conflicts
 mod Idle
 mod Givens
+mod Hinting

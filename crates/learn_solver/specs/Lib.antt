@@ -4,3 +4,4 @@ pub mod States
 pub mod Weights
 pub mod Noted
 pub mod Learners
+pub mod Hints

@@ -7,6 +7,7 @@ mod literals;
 mod order;
 mod reading;
 mod search;
+mod showing;
 mod solver;
 
 pub use solver::{Answer, Solver};

@@ -38,7 +38,7 @@ impl Learner {
     }
 
     // A literal of a clause, by its place there.
-    fn lit_of(&self, at: Ref, place: usize) -> Lit
+    pub(crate) fn lit_of(&self, at: Ref, place: usize) -> Lit
         requires of_the_list { at < length self.now.trail.records }
         requires in_range { place < length (record_at self.now.trail.records at).lits }
         ensures is { result ≡ slice_index_or (record_at self.now.trail.records at).lits place 0 }
@@ -122,7 +122,8 @@ impl Learner {
     // The record of the live clause with an id.
     pub(crate) fn find(&self, id: u64) -> Option<Ref>
         requires { IsSound self.now }
-        ensures { MatchOption result (live_clause (seen self.now).state id ≡ None) (λ at. (at < length self.now.trail.records) × (live_clause (seen self.now).state id ≡ Some (record_at self.now.trail.records at).lits)) }
+        ensures clause { MatchOption result (live_clause (seen self.now).state id ≡ None) (λ at. (at < length self.now.trail.records) × (live_clause (seen self.now).state id ≡ Some (record_at self.now.trail.records at).lits)) }
+        ensures named { IfSome result (λ at. (record_at self.now.trail.records at).id ≡ id) }
     {
         if id == 0 {
             return None;

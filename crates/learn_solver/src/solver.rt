@@ -1,6 +1,6 @@
 //! The solver, as its users see it.
-ghost use Rattle.std.specs.Prelude.{◌≡◌, ◌+◌, [], length, IfOk, OnOk, OnErr, MatchResult, ⊤};
-ghost use Rattle.lits_core.specs.Derivation.{State, first_state, live_clause};
+ghost use Rattle.std.specs.Prelude.{◌≡◌, ◌≢◌, ◌+◌, [], None, length, IfOk, OnOk, OnErr, IfSome, IfNone, MatchOption, MatchResult, ⊤};
+ghost use Rattle.lits_core.specs.Derivation.{State, first_state, live_clause, hints_fault, SameLits};
 ghost use Rattle.watch_arena.specs.Trails.{AreInRange};
 ghost use Rattle.learn_solver.specs.Solving.{SolverState, GoesTo, IsSolver, AddsGiven, AreConsistent, IsModel, IsRefutation};
 ghost use Rattle.learn_solver.specs.Answers.{IsAnswer};
@@ -72,6 +72,22 @@ impl Solver {
         ensures answer { IfOk result (IsAnswer self.new assumptions.now) }
     {
         self.learner.solve(assumptions)
+    }
+
+    /// Adds a clause that live clauses show, with its line, and answers its id. None comes where the hints do not show it, and
+    /// then nothing has changed.
+    ///
+    /// The hints are ids, taken in turn with the clause's literals held false: each one's clause must be left at most one
+    /// literal, which then holds, until one is left none. Hints after that one are dropped.
+    pub fn derive(&mut self, lits: &[Lit], hints: &[u64]) -> Result<Option<u64>, AllocError>
+        requires range { AreInRange lits.now self.old.variables }
+        ensures kept { GoesTo self.old self.new }
+        ensures derived { IfOk result (λ o. IfSome o (λ id. MatchOption (live_clause self.new.state id) ⊥ (SameLits lits.now))) }
+        ensures shown { IfOk result (λ o. IfSome o (λ _. hints_fault self.old.state hints.now lits.now ≡ None)) }
+        ensures fault { IfOk result (λ o. IfNone o (hints_fault self.old.state hints.now lits.now ≢ None)) }
+        ensures same { IfOk result (λ o. IfNone o (self.new ≡ self.old)) }
+    {
+        self.learner.derive(lits, hints)
     }
 
     /// The literals of the live clause with this id.

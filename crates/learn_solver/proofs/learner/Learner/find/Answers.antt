@@ -24,10 +24,10 @@ numbered records given id count found r least size is =
           subst P (sym (is ∙ ap (λ b. cond b (Some (id - 1)) None) test)) here
     ]
 
-pub returns-then-id-eq0 : goal.returns-then-id-eq0
-returns-then-id-eq0 c =
+pub returns-then-id-eq0-clause-clause : goal.returns-then-id-eq0-clause-clause
+returns-then-id-eq0-clause-clause c =
     let zero : c.args.id ≡ 0 = omega arith in
     ap (λ n. live_clause (state_of c.args.self.now.trail.records c.args.self.now.given) n) zero ∙ zero-free c.args.self.now.trail.records c.args.self.now.given c.requires.records
 
-pub returns : goal.returns
-returns c = numbered c.args.self.now.trail.records c.args.self.now.given c.args.id (length c.arena.result.now) c.nth.result c.requires.records (omega arith) (ap length c.arena.ensures) c.nth.ensures
+pub returns-clause-clause : goal.returns-clause-clause
+returns-clause-clause c = numbered c.args.self.now.trail.records c.args.self.now.given c.args.id (length c.arena.result.now) c.nth.result c.requires.records (omega arith) (ap length c.arena.ensures) c.nth.ensures
