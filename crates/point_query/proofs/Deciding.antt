@@ -9,7 +9,7 @@ use Rattle.world_model.specs.Node.{pair_at}
 use Rattle.world_model.specs.Alive.{Need, allowed, needs, problem_at, IsAlive}
 use Rattle.world_model.proofs.Members.{here, In-right, contains_from_in, all_at, In-get_or}
 use Rattle.point_query.specs.Asking.{AskerState}
-use Rattle.point_query.specs.Ruling.{IsBare}
+use Rattle.point_query.specs.Bare.{IsBare}
 use Rattle.point_query.specs.Stands.{need_at, is_needed}
 use Rattle.point_query.specs.Walks.{need_count}
 use Rattle.point_query.proofs.Numbering.{need_in}

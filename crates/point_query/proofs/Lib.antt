@@ -13,7 +13,6 @@ pub mod Answering
 pub mod Sameness
 pub mod Seeking
 pub mod Deciding
-pub mod Denying
 pub mod Ruled
 pub mod Following
 pub mod Choosing

@@ -19,7 +19,7 @@ use Rattle.world_model.proofs.Members.{In-get_or, contains_from_in}
 use Rattle.world_model.proofs.PointAlive.{Pointed, point_parts}
 use Rattle.cert_model.specs.Forced.{region_with}
 use Rattle.point_encode.specs.declared.need.Need.TheVariants as code
-use Rattle.point_query.specs.Ruling.{IsBare}
+use Rattle.point_query.specs.Bare.{IsBare}
 use Rattle.point_query.specs.Stands.{IsOpen, forced_at, need_at, is_needed}
 use Rattle.point_query.proofs.Standing.{open_more, forced_inside}
 use Rattle.point_query.proofs.Prefixes.{point_later, needed_by, needed_past}

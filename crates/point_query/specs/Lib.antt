@@ -3,6 +3,6 @@ pub mod Answers
 pub mod Queries
 pub mod Stands
 pub mod After
-pub mod Ruling
+pub mod Bare
 pub mod Walks
 pub mod Seeking

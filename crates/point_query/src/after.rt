@@ -1,5 +1,5 @@
 //! Which relations lead on from an alive prefix to an alive one.
-ghost use Rattle.std.specs.Prelude.{◌≡◌, ◌<◌, ◌↔◌, true, false, ◌∷◌, ◌++◌, [], length, IfOk, OnOk, IsTrue};
+ghost use Rattle.std.specs.Prelude.{◌≡◌, ◌<◌, ◌↔◌, false, ◌∷◌, ◌++◌, [], length, IfOk, OnOk, IsTrue};
 ghost use Rattle.rcc5_core.specs.declared.Rel.{Rel};
 ghost use Rattle.rcc5_core.specs.RelationSet.{has, only};
 ghost use Rattle.world_model.specs.Problem.{pair_count};

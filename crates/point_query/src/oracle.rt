@@ -1,30 +1,30 @@
 //! The solver of an asker, with the clauses that closed needs before.
-ghost use Rattle.std.specs.Prelude.{◌≡◌, ℕ, [], List, ◌+◌, ◌*◌, ◌<◌, ◌≤◌, ◌⊎◌, length, Contains, IfOk, OnOk, IfSome, IfNone, MatchOption, IsTrue, slice_index_or, None, Some};
+ghost use Rattle.std.specs.Prelude.{◌≡◌, [], List, ◌+◌, ◌*◌, ◌<◌, ◌≤◌, length, Contains, IfOk, IfSome, IfNone, MatchOption, IsTrue, None, Some};
 ghost use Rattle.rcc5_core.specs.declared.Rel.{Rel};
 ghost use Rattle.lits_core.specs.Derivation.{live_clause};
 ghost use Rattle.world_model.specs.Problem.{pair_count, concept_count};
 ghost use Rattle.world_model.specs.Alive.{needs, problem_at, IsAlive};
-ghost use Rattle.constraint_set.specs.Readers.{sum_places};
 ghost use Rattle.cert_model.specs.Clauses.{is_so, first_sum_selector};
 ghost use Rattle.cert_model.specs.Forced.{selectors_of, need_lits, asked_of, IsClosedAt};
 ghost use Rattle.point_encode.specs.Needs.{need_seen, lits_there, IsInRange};
+ghost use Rattle.watch_arena.specs.Trails.{AreInRange};
 ghost use Rattle.learn_solver.specs.Solving.{GoesTo, IsSolver};
 ghost use Rattle.point_query.specs.Answers.{IsFound, IsClosed};
 ghost use Rattle.point_query.specs.Queries.{IsSolverOf, asker_with};
 ghost use Rattle.point_query.specs.Stands.{need_at, is_needed};
-ghost use Rattle.point_query.specs.Ruling.{IsBare, IsPointIn};
+ghost use Rattle.point_query.specs.Bare.{IsBare, IsPointIn};
 ghost use Rattle.point_query.specs.Walks.{need_count};
 
 use crate::answers::Found;
+use crate::draft::Draft;
 use crate::query::query;
-use crate::ruling::rules_out;
 use crate::stand::{Stand, count_pairs, word_of};
-use crate::walk::{by_concepts, count_needs, need_of};
+use crate::walk::{count_needs, need_of};
 use cert_model::{clauses_are_points, needs_are_literals};
 use constraint_set::Problem;
 use learn_solver::Solver;
-use lits_core::{Bits, Line, Lit, law_literals_are_sets};
-use point_encode::{Need, need_lits, selectors_of};
+use lits_core::{Bits, Line, Lit, law_derived_clauses_follow, law_literals_are_sets};
+use point_encode::{Need, need_lits, selectors_of, variable_count};
 use rcc5_core::{Occupancy, Position, Rel};
 use std::alloc::{AllocError, Global};
 use std::marker::Model;
@@ -36,6 +36,7 @@ use world_model::positions_narrow;
 #[derive(Drop)]
 pub(crate) struct Oracle {
     solver: Solver,
+    draft: Draft,
     closings: Vec<Vec<u64>>,
     // For each pair and relation, the need that was found without a point when this relation was added.
     lost: Vec<u32>,
@@ -60,11 +61,13 @@ impl Oracle {
     ) -> Result<Oracle, AllocError>
         ensures { IfOk result (λ o. o ≡ solver) }
     {
+        let draft = Draft::new(alloc, &solver, problem)?;
         let closings = no_ids(alloc, count_needs(problem))?;
         let relations = 5 * count_pairs(problem) as usize;
         let lost = vec![in alloc; u32::MAX; relations]?;
         Ok(Oracle {
             solver,
+            draft,
             closings,
             lost,
             questions: 0,
@@ -83,11 +86,65 @@ impl Oracle {
         if let Some(id) = self.known(stand, number) {
             return Ok(Found::Closed(id));
         }
-        let found = self.question(stand, number)?;
+        let found = self.answer(stand, number)?;
         if let Found::Closed(id) = &found {
             self.note(number, *id)?;
         }
         Ok(found)
+    }
+
+    // The same by a clause that is drafted here, or else by the solver.
+    fn answer(&mut self, stand: &Stand, number: u32) -> Result<Found, AllocError>
+        requires within { number < need_count stand.now.problem }
+        requires solver { IsSolverOf stand.now.problem self.old }
+        ensures kept { GoesTo self.old self.new }
+        ensures solver { IsSolverOf stand.now.problem self.new }
+        ensures found { IfOk result (IsFound (asker_with stand.now.problem self.new) stand.now.problem stand.now.path (need_at stand.now.problem number)) }
+    {
+        law_literals_are_sets();
+        if let Some(id) = self.drafted(stand, number)? {
+            return Ok(Found::Closed(id));
+        }
+        self.question(stand, number)
+    }
+
+    // A clause that closes the need with a number, drafted without a search and checked by the solver, if there is one.
+    fn drafted(&mut self, stand: &Stand, number: u32) -> Result<Option<u64>, AllocError>
+        requires within { number < need_count stand.now.problem }
+        requires solver { IsSolverOf stand.now.problem self.old }
+        ensures kept { GoesTo self.old self.new }
+        ensures solver { IsSolverOf stand.now.problem self.new }
+        ensures closed { IfOk result (λ found. IfSome found (IsClosed (asker_with stand.now.problem self.new) stand.now.problem stand.now.path (need_at stand.now.problem number))) }
+    {
+        let Some(drafted) = self.draft.of_need(&self.solver, stand, number)? else {
+            return Ok(None);
+        };
+        let Some(id) = self.added(stand, &drafted.lits, &drafted.hints)? else {
+            return Ok(None);
+        };
+        if !closes(&self.solver, stand, number, id) {
+            return Ok(None);
+        }
+        self.shows(stand, number, id);
+        Ok(Some(id))
+    }
+
+    // Adds a clause to the solver, if its literals are in range and the hints show it.
+    fn added(
+        &mut self,
+        stand: &Stand,
+        lits: &[Lit],
+        hints: &[u64],
+    ) -> Result<Option<u64>, AllocError>
+        requires solver { IsSolverOf stand.now.problem self.old }
+        ensures kept { GoesTo self.old self.new }
+        ensures solver { IsSolverOf stand.now.problem self.new }
+    {
+        law_derived_clauses_follow();
+        if !are_below(lits, variable_count(stand.problem())) {
+            return Ok(None);
+        }
+        self.solver.derive(lits, hints)
     }
 
     // The same by the solver.
@@ -194,7 +251,7 @@ impl Oracle {
         ensures point { IfOk result (λ found. IfSome found (IsPointIn stand.now.problem stand.now.path (need_at stand.now.problem number))) }
         ensures none { IfOk result (λ found. IfNone found (IsBare stand.now.problem stand.now.path (need_at stand.now.problem number))) }
     {
-        match self.question(stand, number)? {
+        match self.answer(stand, number)? {
             Found::Point(bits) => Ok(Some(bits)),
             Found::Closed(id) => {
                 self.note(number, id)?;
@@ -203,82 +260,16 @@ impl Oracle {
         }
     }
 
-    // Whether the region with a number is known to have no point of the prefix: by a clause that closed it before, or one that
-    // closed the same region of concepts above.
-    pub(crate) fn is_bare(&mut self, stand: &Stand, number: u32) -> Result<bool, AllocError>
-        requires within { number < 3 * pair_count stand.now.problem }
-        requires solver { IsSolverOf stand.now.problem self.old }
-        ensures same { self.new ≡ self.old }
-        ensures bare { IfOk result (λ yes. IsTrue yes → IsBare stand.now.problem stand.now.path (need_at stand.now.problem number)) }
-    {
-        if self.ruling(stand, number, number).is_some() {
-            return Ok(true);
-        }
-        match self.ruling_above(stand, number) {
-            Some(id) => {
-                self.note(number, id)?;
-                Ok(true)
-            }
-            None => Ok(false),
-        }
-    }
-
-    // A clause that shows that no point of the prefix is in the need with a number, among those that closed another one.
-    fn ruling(&self, stand: &Stand, number: u32, other: u32) -> Option<u64>
+    // Whether the need with a number is known to have no point of the prefix: by a clause that closed it before.
+    pub(crate) fn is_bare(&self, stand: &Stand, number: u32) -> bool
         requires within { number < need_count stand.now.problem }
         requires solver { IsSolverOf stand.now.problem self.now }
-        ensures { IfSome result (λ id. IsBare stand.now.problem stand.now.path (need_at stand.now.problem number)) }
+        ensures { IsTrue result → IsBare stand.now.problem stand.now.path (need_at stand.now.problem number) }
     {
-        let wanted = by_concepts(stand.problem(), number);
-        let ids = self.closings.get(other as usize)?;
-        for id in ids {
-            if rules_out(&self.solver, stand, wanted, *id) {
-                return Some(*id);
-            }
+        match self.known(stand, number) {
+            Some(_) => true,
+            None => false,
         }
-        None
-    }
-
-    // The same among those that closed the region of a parent.
-    fn ruling_above(&self, stand: &Stand, number: u32) -> Option<u64>
-        requires within { number < 3 * pair_count stand.now.problem }
-        requires solver { IsSolverOf stand.now.problem self.now }
-        ensures { IfSome result (λ id. IsBare stand.now.problem stand.now.path (need_at stand.now.problem number)) }
-    {
-        let (x, y) = stand.problem().pair_at(number / 3);
-        let part = number % 3;
-        if part < 2 {
-            if let Some(id) = self.ruling_by(
-                stand,
-                number,
-                parent_of(stand.problem(), x),
-                Some(y),
-            ) {
-                return Some(id);
-            }
-        }
-        if part > 0 {
-            return self.ruling_by(stand, number, Some(x), parent_of(stand.problem(), y));
-        }
-        None
-    }
-
-    // The same among those that closed the region of two other concepts, if both are there.
-    fn ruling_by(
-        &self,
-        stand: &Stand,
-        number: u32,
-        left: Option<u32>,
-        right: Option<u32>,
-    ) -> Option<u64>
-        requires within { number < need_count stand.now.problem }
-        requires left { IfSome left (λ x. x < concept_count stand.now.problem) }
-        requires right { IfSome right (λ y. y < concept_count stand.now.problem) }
-        requires solver { IsSolverOf stand.now.problem self.now }
-        ensures { IfSome result (λ id. IsBare stand.now.problem stand.now.path (need_at stand.now.problem number)) }
-    {
-        let other = region_of(stand.problem(), left?, right?, number % 3)?;
-        self.ruling(stand, number, other)
     }
 
     // Whether the need is one without a point that was one when the last relation of the prefix was added to its pair before.
@@ -301,10 +292,7 @@ impl Oracle {
         if !stand.is_needed(number) {
             return false;
         }
-        match self.ruling(stand, number, number) {
-            Some(_) => true,
-            None => false,
-        }
+        self.is_bare(stand, number)
     }
 
     // The number of the need that had no point when the last relation of the prefix was added to its pair before.
@@ -364,31 +352,6 @@ impl Oracle {
     }
 }
 
-// The parent of a concept.
-fn parent_of(problem: &Problem, concept: u32) -> Option<u32>
-    requires { concept < concept_count problem.now }
-    ensures { IfSome result (λ parent. parent < concept_count problem.now) }
-{
-    let _built = problem.taxonomy_count();
-    problem.parent(concept)
-}
-
-// The number of a region of two concepts, given as that of the first beside the second; none of one concept beside itself.
-fn region_of(problem: &Problem, one: u32, other: u32, part: u32) -> Option<u32>
-    requires one { one < concept_count problem.now }
-    requires other { other < concept_count problem.now }
-    requires part { part < 3 }
-{
-    let _few = count_pairs(problem);
-    if one < other {
-        return Some(3 * problem.pair_index(one, other) + part);
-    }
-    if other < one {
-        return Some(3 * problem.pair_index(other, one) + 2 - part);
-    }
-    None
-}
-
 // The place of a prefix's last relation at its pair, among all relations of all pairs.
 fn place_of(path: &[Rel]) -> Option<usize> {
     let pair = path.len().checked_sub(1)?;
@@ -421,6 +384,18 @@ fn closes(solver: &Solver, stand: &Stand, number: u32, id: u64) -> bool
     };
     for place in 0..lits.count() {
         if !is_asked(stand, number, lits.lit(place).negate()) {
+            return false;
+        }
+    }
+    true
+}
+
+// Whether the variables of literals are below a number.
+fn are_below(lits: &[Lit], count: u32) -> bool
+    ensures { IsTrue result → AreInRange lits.now count }
+{
+    for lit in lits {
+        if lit.variable() >= count {
             return false;
         }
     }

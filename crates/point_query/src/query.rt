@@ -1,5 +1,5 @@
 //! Asking the solver for one point.
-ghost use Rattle.std.specs.Prelude.{◌≡◌, ℕ, ◌≤◌, ◌++◌, length, take, IfOk, OnOk, None};
+ghost use Rattle.std.specs.Prelude.{◌≡◌, ◌≤◌, ◌++◌, length, take, IfOk, OnOk, None};
 ghost use Rattle.cert_model.specs.Forced.{need_lits};
 ghost use Rattle.point_encode.specs.Needs.{need_seen, lits_there, IsInRange};
 ghost use Rattle.learn_solver.specs.Solving.{GoesTo};

@@ -1,5 +1,5 @@
 //! Points for all needs of a prefix.
-ghost use Rattle.std.specs.Prelude.{◌≡◌, ◌<◌, ◌≤◌, [], ◌++◌, length, map, All, Contains, IfOk, IfSome, IfNone, IsTrue, slice_index_or};
+ghost use Rattle.std.specs.Prelude.{◌≡◌, ◌<◌, [], length, map, All, IfOk, IfSome, IfNone, IsTrue, slice_index_or};
 ghost use Rattle.world_model.specs.Problem.{pair_count, concept_count};
 ghost use Rattle.world_model.specs.Node.{pair_at};
 ghost use Rattle.world_model.specs.Alive.{allowed, all_allow, needs, problem_at, is_in_need};

@@ -9,18 +9,16 @@ ghost use Rattle.constraint_set.specs.Shape.{SameShape};
 ghost use Rattle.cert_model.specs.Forced.{region_with};
 ghost use Rattle.point_encode.specs.Needs.{need_seen, number_of, IsInRange};
 ghost use Rattle.learn_solver.specs.Solving.{GoesTo};
-ghost use Rattle.point_query.specs.Answers.{IsFound, IsAliveAnswer, IsProbeAnswer, EachServed, AreServing, IsServedByFew};
+ghost use Rattle.point_query.specs.Answers.{IsFound};
 ghost use Rattle.point_query.specs.Queries.{IsSolverOf, asker_with};
-ghost use Rattle.point_query.specs.Walks.{need_count, lies_by, wanted_seen, IsBelow, IsUnstruck, depth_at, IsFit, IsUndone, meets_trees, IsStruckBeyond, avoids_by, StrikesOut, served_at, IsServed, IsServedNow, IsClosedNow, IsStuck, IsFirstStuck, IsAdded, IsKept, IsNeeded, AreGathered, IsWalk, IsWalkAt, IsWalkBut, IsStriking};
-ghost use Rattle.point_query.specs.Ruling.{IsBare};
-ghost use Rattle.point_query.specs.Stands.{need_at, is_needed, needs_below, IsEmptyPair};
+ghost use Rattle.point_query.specs.Walks.{need_count, lies_by, wanted_seen, IsBelow, IsUnstruck, depth_at, IsFit, IsUndone, meets_trees, IsStruckBeyond, avoids_by, StrikesOut, served_at, IsServed, IsServedNow, IsClosedNow, IsStuck, IsFirstStuck, IsAdded, IsKept, IsNeeded, IsWalk, IsWalkAt, IsWalkBut, IsStriking};
+ghost use Rattle.point_query.specs.Stands.{need_at, is_needed, IsEmptyPair};
 
-use crate::answers::{Alive, Found, Points, Probe};
+use crate::answers::{Found, Points};
 use crate::fresh::depths_at_start;
 use crate::oracle::Oracle;
-use crate::query::copy;
 use crate::same::{is_same, same_problem};
-use crate::stand::{Stand, count_pairs, word_of};
+use crate::stand::{Stand, count_pairs};
 use crate::waiting::{Numbers, Waiting};
 use constraint_set::Problem;
 use lits_core::{Bits, law_literals_are_sets};
@@ -43,15 +41,15 @@ pub(crate) enum Wanted {
 /// where it has its slot in the list of the point at its place.
 #[derive(Drop)]
 pub(crate) struct Walk {
-    stand: Stand,
-    points: Vec<Bits>,
+    pub(crate) stand: Stand,
+    pub(crate) points: Vec<Bits>,
     depths: Vec<Option<usize>>,
     struck: Vec<usize>,
-    witness: Vec<usize>,
+    pub(crate) witness: Vec<usize>,
     slots: Vec<usize>,
     serves: Vec<Numbers>,
-    waiting: Waiting,
-    alloc: Global,
+    pub(crate) waiting: Waiting,
+    pub(crate) alloc: Global,
 }
 
 // The need with a number.
@@ -394,7 +392,7 @@ impl Walk {
     }
 
     // Whether the last witness of a need is a point of the prefix in it.
-    fn has_witness(&self, number: u32) -> bool
+    pub(crate) fn has_witness(&self, number: u32) -> bool
         requires kept { IsKept self.now }
         requires within { number < need_count self.now.stand.problem }
     {
@@ -403,7 +401,7 @@ impl Walk {
     }
 
     // The place of a point of the prefix that is in a need: that of the last witness, or else the first.
-    fn find(&self, number: u32) -> Option<usize>
+    pub(crate) fn find(&self, number: u32) -> Option<usize>
         requires kept { IsKept self.now }
         requires within { number < need_count self.now.stand.problem }
         ensures { IfSome result (IsFit (length self.now.stand.path) self.now.points.items self.now.depths.items (need_at self.now.stand.problem number)) }
@@ -439,7 +437,7 @@ impl Walk {
     }
 
     // Adds a point of the prefix, and answers its place.
-    fn add(&mut self, bits: Bits) -> Result<usize, AllocError>
+    pub(crate) fn add(&mut self, bits: Bits) -> Result<usize, AllocError>
         requires kept { IsKept self.old }
         requires point { IsTrue (is_point (problem_at self.old.stand.problem self.old.stand.path) bits) }
         ensures walk { OnOk result ((low high : ℕ) → IsWalkBut self.old low high → IsWalkBut self.new low high) }
@@ -457,7 +455,11 @@ impl Walk {
     }
 
     // Sees to it that a need has a witness, or answers the clause that shows that it has no point.
-    fn serve(&mut self, solver: &mut Oracle, number: u32) -> Result<Option<u64>, AllocError>
+    pub(crate) fn serve(
+        &mut self,
+        solver: &mut Oracle,
+        number: u32,
+    ) -> Result<Option<u64>, AllocError>
         requires walk { IsWalkBut self.old number (number + 1) }
         requires within { number < need_count self.old.stand.problem }
         requires needed { IsNeeded self.old number }
@@ -507,7 +509,7 @@ impl Walk {
     }
 
     // Sees to it that each need has a witness, or answers the first need without a point and the clause that shows it.
-    fn settle(&mut self, solver: &mut Oracle) -> Result<Option<(u32, u64)>, AllocError>
+    pub(crate) fn settle(&mut self, solver: &mut Oracle) -> Result<Option<(u32, u64)>, AllocError>
         requires walk { IsWalk self.old }
         requires solver { IsSolverOf self.old.stand.problem solver.old }
         ensures kept { GoesTo solver.old solver.new }
@@ -562,27 +564,6 @@ impl Walk {
         self.is_settled_at(solver, prefix)
     }
 
-    // Whether a prefix is dead, as far as that shows from its parent, where the walk stands at the parent or beyond it.
-    fn is_ruled_out_at(
-        &mut self,
-        solver: &mut Oracle,
-        prefix: &Position,
-    ) -> Result<bool, AllocError>
-        requires walk { IsWalk self.old }
-        requires prefix { length prefix.now ≤ pair_count self.old.stand.problem }
-        requires solver { IsSolverOf self.old.stand.problem solver.old }
-        ensures kept { GoesTo solver.old solver.new }
-        ensures solver { IsSolverOf self.old.stand.problem solver.new }
-        ensures walk { OnOk result (IsWalk self.new) }
-        ensures problem { OnOk result (self.new.stand.problem ≡ self.old.stand.problem) }
-        ensures dead { IfOk result (λ yes. IsTrue yes → IsAlive (problem_at self.old.stand.problem prefix.now) → ⊥) }
-    {
-        match self.stand_at_parent(prefix) {
-            Some(rel) => self.is_ruled_out(solver, rel),
-            None => Ok(false),
-        }
-    }
-
     // Whether a prefix is alive: goes there, and looks for a point for each need.
     fn is_settled_at(&mut self, solver: &mut Oracle, prefix: &Position) -> Result<bool, AllocError>
         requires walk { IsWalk self.old }
@@ -616,364 +597,6 @@ impl Walk {
             return Ok(false);
         }
         Ok(true)
-    }
-
-    // Whether the prefix with one more relation is dead, as far as that shows without striking points out: the need that was
-    // lost there before is lost again, or a region of the next pair has no point.
-    pub(crate) fn is_ruled_out(&mut self, solver: &mut Oracle, rel: Rel) -> Result<bool, AllocError>
-        requires walk { IsWalk self.old }
-        requires within { length self.old.stand.path < pair_count self.old.stand.problem }
-        requires allowed { IsTrue (has (allowed self.old.stand.problem (pair_at self.old.stand.problem (length self.old.stand.path))) rel) }
-        requires solver { IsSolverOf self.old.stand.problem solver.old }
-        ensures kept { GoesTo solver.old solver.new }
-        ensures solver { IsSolverOf self.old.stand.problem solver.new }
-        ensures walk { OnOk result (IsWalk self.new) }
-        ensures stand { OnOk result (self.new.stand ≡ self.old.stand) }
-        ensures dead { IfOk result (λ yes. IsTrue yes → IsAlive (problem_at self.old.stand.problem (self.old.stand.path ++ rel ∷ [])) → ⊥) }
-    {
-        if self.is_lost(solver, rel)? {
-            return Ok(true);
-        }
-        self.is_barred(solver, rel)
-    }
-
-    // Whether the need that had no point before with this relation of the next pair has none again.
-    fn is_lost(&mut self, solver: &Oracle, rel: Rel) -> Result<bool, AllocError>
-        requires walk { IsWalk self.old }
-        requires within { length self.old.stand.path < pair_count self.old.stand.problem }
-        requires allowed { IsTrue (has (allowed self.old.stand.problem (pair_at self.old.stand.problem (length self.old.stand.path))) rel) }
-        requires solver { IsSolverOf self.old.stand.problem solver.now }
-        ensures same { self.new ≡ self.old }
-        ensures dead { IfOk result (λ yes. IsTrue yes → IsAlive (problem_at self.old.stand.problem (self.old.stand.path ++ rel ∷ [])) → ⊥) }
-    {
-        let pair = self.stand.len();
-        self.stand.push(rel)?;
-        let lost = solver.is_lost(&self.stand);
-        self.stand.back_to(pair as usize);
-        Ok(lost)
-    }
-
-    // Whether a relation of the next pair wants a point in a region that has none, or leaves a concept none where each is to
-    // have one.
-    fn is_barred(&mut self, solver: &mut Oracle, rel: Rel) -> Result<bool, AllocError>
-        requires walk { IsWalk self.old }
-        requires within { length self.old.stand.path < pair_count self.old.stand.problem }
-        requires allowed { IsTrue (has (allowed self.old.stand.problem (pair_at self.old.stand.problem (length self.old.stand.path))) rel) }
-        requires solver { IsSolverOf self.old.stand.problem solver.old }
-        ensures kept { GoesTo solver.old solver.new }
-        ensures solver { IsSolverOf self.old.stand.problem solver.new }
-        ensures walk { OnOk result (IsWalk self.new) }
-        ensures stand { OnOk result (self.new.stand ≡ self.old.stand) }
-        ensures dead { IfOk result (λ yes. IsTrue yes → IsAlive (problem_at self.old.stand.problem (self.old.stand.path ++ rel ∷ [])) → ⊥) }
-    {
-        law_literals_are_sets();
-        for part in 0..3 {
-            if self.wants_in_vain(solver, rel, part)? {
-                return Ok(true);
-            }
-        }
-        self.leaves_nothing(solver, rel)
-    }
-
-    // Whether a relation of the next pair puts one concept into the other, each concept is to have a point, and the two have none
-    // in common.
-    fn leaves_nothing(&mut self, solver: &mut Oracle, rel: Rel) -> Result<bool, AllocError>
-        requires walk { IsWalk self.old }
-        requires within { length self.old.stand.path < pair_count self.old.stand.problem }
-        requires allowed { IsTrue (has (allowed self.old.stand.problem (pair_at self.old.stand.problem (length self.old.stand.path))) rel) }
-        requires solver { IsSolverOf self.old.stand.problem solver.old }
-        ensures kept { GoesTo solver.old solver.new }
-        ensures solver { IsSolverOf self.old.stand.problem solver.new }
-        ensures walk { OnOk result (IsWalk self.new) }
-        ensures stand { OnOk result (self.new.stand ≡ self.old.stand) }
-        ensures dead { IfOk result (λ yes. IsTrue yes → IsAlive (problem_at self.old.stand.problem (self.old.stand.path ++ rel ∷ [])) → ⊥) }
-    {
-        positions_narrow();
-        let _open = self.stand.path();
-        let problem = self.stand.problem();
-        let _pair = problem.pair_at(self.stand.len());
-        if !problem.switches().nonempty {
-            return Ok(false);
-        }
-        match rel.row().both {
-            Occupancy::Free => self.is_bare(solver, 1),
-            Occupancy::Occupied | Occupancy::Empty => Ok(false),
-        }
-    }
-
-    // Whether a relation of the next pair wants a point in a region, by its number among the three, that has none.
-    fn wants_in_vain(
-        &mut self,
-        solver: &mut Oracle,
-        rel: Rel,
-        part: u32,
-    ) -> Result<bool, AllocError>
-        requires walk { IsWalk self.old }
-        requires within { length self.old.stand.path < pair_count self.old.stand.problem }
-        requires allowed { IsTrue (has (allowed self.old.stand.problem (pair_at self.old.stand.problem (length self.old.stand.path))) rel) }
-        requires part { part < 3 }
-        requires solver { IsSolverOf self.old.stand.problem solver.old }
-        ensures kept { GoesTo solver.old solver.new }
-        ensures solver { IsSolverOf self.old.stand.problem solver.new }
-        ensures walk { OnOk result (IsWalk self.new) }
-        ensures stand { OnOk result (self.new.stand ≡ self.old.stand) }
-        ensures dead { IfOk result (λ yes. IsTrue yes → IsAlive (problem_at self.old.stand.problem (self.old.stand.path ++ rel ∷ [])) → ⊥) }
-    {
-        positions_narrow();
-        let _open = self.stand.path();
-        match word_of(rel.row(), part) {
-            Occupancy::Occupied => self.is_bare(solver, part),
-            Occupancy::Empty | Occupancy::Free => Ok(false),
-        }
-    }
-
-    // Whether a region of the next pair, by its number among the three, has no point of the prefix. A point that is found is kept.
-    fn is_bare(&mut self, solver: &mut Oracle, part: u32) -> Result<bool, AllocError>
-        requires walk { IsWalk self.old }
-        requires within { length self.old.stand.path < pair_count self.old.stand.problem }
-        requires part { part < 3 }
-        requires solver { IsSolverOf self.old.stand.problem solver.old }
-        ensures kept { GoesTo solver.old solver.new }
-        ensures solver { IsSolverOf self.old.stand.problem solver.new }
-        ensures walk { OnOk result (IsWalk self.new) }
-        ensures stand { OnOk result (self.new.stand ≡ self.old.stand) }
-        ensures bare { IfOk result (λ yes. IsTrue yes → IsBare self.old.stand.problem self.old.stand.path (need_at self.old.stand.problem (3 * length self.old.stand.path + part))) }
-    {
-        let _few = count_pairs(self.stand.problem());
-        let number = 3 * self.stand.len() + part;
-        if self.has_witness(number) {
-            return Ok(false);
-        }
-        if solver.is_bare(&self.stand, number)? {
-            return Ok(true);
-        }
-        if self.find(number).is_some() {
-            return Ok(false);
-        }
-        match solver.look(&self.stand, number)? {
-            Some(bits) => {
-                self.add(bits)?;
-                Ok(false)
-            }
-            None => Ok(true),
-        }
-    }
-
-    // Goes back to the parent of a prefix, if the walk stands at it or beyond it. The relation that leads on from there, if the
-    // problem allows it.
-    fn stand_at_parent(&mut self, prefix: &Position) -> Option<Rel>
-        requires walk { IsWalk self.old }
-        requires prefix { length prefix.now ≤ pair_count self.old.stand.problem }
-        ensures walk { IsWalk self.new }
-        ensures problem { self.new.stand.problem ≡ self.old.stand.problem }
-        ensures path { IfSome result (λ rel. self.new.stand.path ++ rel ∷ [] ≡ prefix.now) }
-        ensures allowed { IfSome result (λ rel. IsTrue (has (allowed self.new.stand.problem (pair_at self.new.stand.problem (length self.new.stand.path))) rel)) }
-    {
-        let count = prefix.len();
-        if count == 0 {
-            return None;
-        }
-        let parent = count - 1;
-        let _open = self.stand.path();
-        if common_len(self.stand.path(), prefix.rels()) < parent {
-            return None;
-        }
-        self.back_to(parent);
-        let pair = self.stand.len();
-        let rel = prefix.at(pair as usize);
-        if !self.stand.problem().allowed(pair).has(rel) {
-            return None;
-        }
-        Some(rel)
-    }
-
-    // Whether a prefix is alive.
-    pub(crate) fn probe(
-        &mut self,
-        solver: &mut Oracle,
-        prefix: &Position,
-    ) -> Result<Probe, AllocError>
-        requires walk { IsWalk self.old }
-        requires prefix { length prefix.now ≤ pair_count self.old.stand.problem }
-        requires solver { IsSolverOf self.old.stand.problem solver.old }
-        ensures kept { GoesTo solver.old solver.new }
-        ensures solver { IsSolverOf self.old.stand.problem solver.new }
-        ensures walk { OnOk result (IsWalk self.new) }
-        ensures problem { OnOk result (self.new.stand.problem ≡ self.old.stand.problem) }
-        ensures answer { IfOk result (IsProbeAnswer (asker_with self.old.stand.problem solver.new) self.old.stand.problem prefix.now) }
-    {
-        if let Some(pair) = self.go_to(prefix)? {
-            return Ok(Probe::EmptyPair(pair));
-        }
-        if let Some((number, id)) = self.settle(solver)? {
-            return Ok(Probe::Closed(need_of(self.stand.problem(), number), id));
-        }
-        Ok(Probe::Alive)
-    }
-
-    // Whether a prefix is alive, with a point for each need.
-    pub(crate) fn alive(
-        &mut self,
-        solver: &mut Oracle,
-        prefix: &Position,
-    ) -> Result<Alive, AllocError>
-        requires walk { IsWalk self.old }
-        requires prefix { length prefix.now ≤ pair_count self.old.stand.problem }
-        requires solver { IsSolverOf self.old.stand.problem solver.old }
-        ensures kept { GoesTo solver.old solver.new }
-        ensures solver { IsSolverOf self.old.stand.problem solver.new }
-        ensures walk { OnOk result (IsWalk self.new) }
-        ensures problem { OnOk result (self.new.stand.problem ≡ self.old.stand.problem) }
-        ensures answer { IfOk result (IsAliveAnswer (asker_with self.old.stand.problem solver.new) self.old.stand.problem prefix.now) }
-    {
-        if let Some(pair) = self.go_to(prefix)? {
-            return Ok(Alive::EmptyPair(pair));
-        }
-        if let Some((number, id)) = self.settle(solver)? {
-            return Ok(Alive::Closed(need_of(self.stand.problem(), number), id));
-        }
-        let points = self.witnesses()?;
-        Ok(Alive::Points(points))
-    }
-
-    // A point for each need, in order, where none waits.
-    fn witnesses(&self) -> Result<Points, AllocError>
-        requires walk { IsWalk self.now }
-        requires settled { self.now.waiting ≡ [] }
-        ensures { IfOk result (EachServed (problem_at self.now.stand.problem self.now.stand.path) (needs (problem_at self.now.stand.problem self.now.stand.path))) }
-    {
-        let mut list = Vec::new(self.alloc);
-        for number in 0..count_needs(self.stand.problem()) {
-            self.push_witness(&mut list, number)?;
-        }
-        Ok(Points::new(list))
-    }
-
-    // Adds the point of a need, if the number is that of one.
-    fn push_witness(&self, list: &mut Vec<Bits>, number: u32) -> Result<(), AllocError>
-        requires walk { IsWalk self.now }
-        requires settled { self.now.waiting ≡ [] }
-        requires within { number < need_count self.now.stand.problem }
-        requires served { EachServed (problem_at self.now.stand.problem self.now.stand.path) (needs_below (problem_at self.now.stand.problem self.now.stand.path) number) list.old.items }
-        ensures { OnOk result (EachServed (problem_at self.now.stand.problem self.now.stand.path) (needs_below (problem_at self.now.stand.problem self.now.stand.path) (number + 1)) list.new.items) }
-    {
-        if !self.stand.is_needed(number) {
-            return Ok(());
-        }
-        let place = self.witness[number as usize];
-        list.push(copy(self.alloc, &self.points[place])?)?;
-        Ok(())
-    }
-
-    // Points that serve a prefix, no more than its needs, if it is alive.
-    pub(crate) fn serving(
-        &mut self,
-        solver: &mut Oracle,
-        prefix: &Position,
-    ) -> Result<Option<Points>, AllocError>
-        requires walk { IsWalk self.old }
-        requires prefix { length prefix.now ≤ pair_count self.old.stand.problem }
-        requires solver { IsSolverOf self.old.stand.problem solver.old }
-        ensures kept { GoesTo solver.old solver.new }
-        ensures solver { IsSolverOf self.old.stand.problem solver.new }
-        ensures walk { OnOk result (IsWalk self.new) }
-        ensures problem { OnOk result (self.new.stand.problem ≡ self.old.stand.problem) }
-        ensures some { IfOk result (λ found. IfSome found (IsServedByFew (problem_at self.old.stand.problem prefix.now))) }
-        ensures none { IfOk result (λ found. IfNone found (IsAlive (problem_at self.old.stand.problem prefix.now) → ⊥)) }
-    {
-        if let Some(_) = self.go_to(prefix)? {
-            return Ok(None);
-        }
-        if let Some(_) = self.settle(solver)? {
-            return Ok(None);
-        }
-        let points = self.gathered()?;
-        Ok(Some(points))
-    }
-
-    // The witnesses of all needs, each point once, where none waits.
-    fn gathered(&self) -> Result<Points, AllocError>
-        requires walk { IsWalk self.now }
-        requires settled { self.now.waiting ≡ [] }
-        ensures { IfOk result (AreServing (problem_at self.now.stand.problem self.now.stand.path) (needs (problem_at self.now.stand.problem self.now.stand.path))) }
-    {
-        let mut list = Vec::new(self.alloc);
-        let mut taken = vec![in self.alloc; false; self.points.len()]?;
-        for number in 0..count_needs(self.stand.problem()) {
-            self.gather(&mut list, &mut taken, number)?;
-        }
-        Ok(Points::new(list))
-    }
-
-    // Adds the witness of a need, if the number is that of one and its point is not there yet.
-    fn gather(
-        &self,
-        list: &mut Vec<Bits>,
-        taken: &mut Vec<bool>,
-        number: u32,
-    ) -> Result<(), AllocError>
-        requires walk { IsWalk self.now }
-        requires settled { self.now.waiting ≡ [] }
-        requires within { number < need_count self.now.stand.problem }
-        requires gathered { AreGathered self.now number list.old.items taken.old.items }
-        ensures { OnOk result (AreGathered self.now (number + 1) list.new.items taken.new.items) }
-    {
-        if !self.stand.is_needed(number) {
-            return Ok(());
-        }
-        let place = self.witness[number as usize];
-        if taken[place] {
-            return Ok(());
-        }
-        list.push(copy(self.alloc, &self.points[place])?)?;
-        taken[place] = true;
-        Ok(())
-    }
-
-    // A point of a prefix in a need, or the clause that shows that there is none.
-    pub(crate) fn ask(
-        &mut self,
-        solver: &mut Oracle,
-        prefix: &Position,
-        need: Need,
-    ) -> Result<Found, AllocError>
-        requires walk { IsWalk self.old }
-        requires prefix { length prefix.now ≤ pair_count self.old.stand.problem }
-        requires range { IsInRange self.old.stand.problem need }
-        requires forced { Contains (needs (problem_at self.old.stand.problem prefix.now)) (need_seen self.old.stand.problem need) }
-        requires solver { IsSolverOf self.old.stand.problem solver.old }
-        ensures kept { GoesTo solver.old solver.new }
-        ensures solver { IsSolverOf self.old.stand.problem solver.new }
-        ensures walk { OnOk result (IsWalk self.new) }
-        ensures problem { OnOk result (self.new.stand.problem ≡ self.old.stand.problem) }
-        ensures found { IfOk result (IsFound (asker_with self.old.stand.problem solver.new) self.old.stand.problem prefix.now (need_seen self.old.stand.problem need)) }
-    {
-        match self.go_to(prefix)? {
-            None => self.ask_here(solver, need),
-            Some(_) => solver.ask_at(self.stand.problem(), prefix, need),
-        }
-    }
-
-    // The same at the prefix of the walk.
-    fn ask_here(&mut self, solver: &mut Oracle, need: Need) -> Result<Found, AllocError>
-        requires walk { IsWalk self.old }
-        requires range { IsInRange self.old.stand.problem need }
-        requires forced { Contains (needs (problem_at self.old.stand.problem self.old.stand.path)) (need_seen self.old.stand.problem need) }
-        requires solver { IsSolverOf self.old.stand.problem solver.old }
-        ensures kept { GoesTo solver.old solver.new }
-        ensures solver { IsSolverOf self.old.stand.problem solver.new }
-        ensures walk { OnOk result (IsWalk self.new) }
-        ensures problem { OnOk result (self.new.stand.problem ≡ self.old.stand.problem) }
-        ensures found { IfOk result (IsFound (asker_with self.old.stand.problem solver.new) self.old.stand.problem self.old.stand.path (need_seen self.old.stand.problem need)) }
-    {
-        let number = number_of(self.stand.problem(), need);
-        if let Some(id) = self.serve(solver, number)? {
-            self.waiting.push(number)?;
-            return Ok(Found::Closed(id));
-        }
-        let place = self.witness[number as usize];
-        let point = copy(self.alloc, &self.points[place])?;
-        Ok(Found::Point(point))
     }
 }
 
@@ -1039,7 +662,7 @@ pub(crate) fn need_of(problem: &Problem, number: u32) -> Need
 }
 
 // The number of a need.
-fn number_of(problem: &Problem, need: Need) -> u32
+pub(crate) fn number_of(problem: &Problem, need: Need) -> u32
     requires { IsInRange problem.now need }
     ensures { result ≡ number_of problem.now need }
 {
@@ -1051,7 +674,7 @@ fn number_of(problem: &Problem, need: Need) -> u32
 }
 
 // How many relations two prefixes begin with alike.
-fn common_len(one: &[Rel], other: &[Rel]) -> usize
+pub(crate) fn common_len(one: &[Rel], other: &[Rel]) -> usize
     ensures one { result ≤ length one.now }
     ensures other { result ≤ length other.now }
     ensures same { take result one.now ≡ take result other.now }
