@@ -5,7 +5,7 @@ ghost use Rattle.world_model.specs.Problem.{pair_count};
 ghost use Rattle.world_model.specs.Alive.{problem_at, IsAlive};
 ghost use Rattle.constraint_set.specs.Shape.{SameShape, shape_of};
 
-use cleantax_text::read_problem;
+use crate::nodes::{ALL, go_in, go_on, problem_of};
 use constraint_set::Problem;
 use point_query::{Alive, Asker, PlainAsker, Probe};
 use rcc5_core::{Position, Rel, RelSet};
@@ -24,12 +24,6 @@ const RELS: [Rel; 5] = [
     Rel::Overlaps,
     Rel::Disjoint,
 ];
-
-const ALL: Switches = Switches {
-    nonempty: true,
-    sibling: true,
-    coverage: true,
-};
 
 /// How many nodes a walk met, how many full tables that are alive, and how often the two askers said different things.
 #[derive(Clone, Copy, Debug, PartialEq, Eq)]
@@ -157,39 +151,6 @@ fn visit_table(
     Ok(())
 }
 
-/// What the pair after a prefix allows: nothing if there is none.
-fn next_set(problem: &Problem, prefix: &Position) -> RelSet {
-    if prefix.len() < problem.pair_count() as usize {
-        problem.allowed(prefix.len() as u32)
-    } else {
-        RelSet::none()
-    }
-}
-
-/// Adds the first relation that the next pair allows, if there is one.
-fn go_in(problem: &Problem, node: &mut Position) -> Result<bool, AllocError> {
-    match next_set(problem, node).first() {
-        Some(rel) => {
-            node.push(rel)?;
-            Ok(true)
-        }
-        None => Ok(false),
-    }
-}
-
-/// Goes to the next node that does not begin with this one, if there is one.
-fn go_on(problem: &Problem, node: &mut Position) -> Result<bool, AllocError> {
-    for _ in 0..node.len() {
-        if let Some(rel) = node.pop() {
-            if let Some(next) = next_set(problem, node).after(rel) {
-                node.push(next)?;
-                return Ok(true);
-            }
-        }
-    }
-    Ok(false)
-}
-
 /// Asks both about a node, and goes to the next one, if there is one.
 fn step(
     alloc: Global,
@@ -237,14 +198,6 @@ fn walk(alloc: Global, asker: &mut Asker, problem: &Problem) -> Result<Met, Allo
         }
     }
     Err(AllocError)
-}
-
-/// The problem of a text.
-fn problem_of(alloc: Global, text: &str, switches: Switches) -> Result<Problem, AllocError> {
-    match read_problem(alloc, text.as_bytes(), switches) {
-        Ok(problem) => Ok(problem),
-        Err(_) => Err(AllocError),
-    }
 }
 
 /// What a walk with a new asker meets.
