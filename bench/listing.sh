@@ -1,6 +1,7 @@
 #!/usr/bin/env bash
 # Lists the worlds of the furniture example, of generated problems and of flat ones, and prints how many there are, the
-# processor time, the peak memory (by Debian's time), and the nodes where a walk by crates/measure counts them soon. Words choose among them: sizes to generate (14 24 48 96 160 256; 512 too),
+# processor time, the peak memory (by Debian's time), and the nodes where a walk by crates/measure counts them soon.
+# Words choose among them: sizes to generate (14 24 48 96 160 256, or another one),
 # flat ones (2x3 3x4 3x5 3x6 4x5), furniture; without any, all are listed, the last of which takes most of a minute.
 set -eu
 cd "$(git rev-parse --show-toplevel)/crates/euler_align"
