@@ -1,7 +1,15 @@
-"""Prints a problem to list. `generated SEED SIZE` is one with seven possible worlds: two trees of SIZE/2 concepts, a root over
-blocks of three concepts each, of which one block is loose and the others are fixed by their articulations in one of three
-forms. `flat A B` is a root over A children on one side and over B on the other, with equal roots."""
+"""Prints a problem to list, of one of these families:
+
+generated SEED SIZE   two trees of SIZE/2 concepts, a root over blocks of three concepts each, of which one block is loose and
+                      the others are fixed by their articulations in one of three forms; seven possible worlds
+flat A B              a root over A children on one side and over B on the other, with equal roots
+loose L F             L loose blocks beside F fixed ones, a block being a parent with two children on both sides; 7^L worlds
+chain T K             T taxonomies, a root over K children each, whose roots are equal and whose first children are in a row
+sums A B              flat, where each child of the second root but the last is the union of two of the first root's (A at least 2B - 1)
+split A B             flat, with {equals disjoint} or {includes overlaps} between the first children
+roots N M             N and M concepts without parents; each of the first lies in or apart from one of the second"""
 import sys
+
 
 def draws_of(seed, count):
     number = seed % 65537
@@ -10,6 +18,7 @@ def draws_of(seed, count):
         number = (75 * number + 74) % 65537
         draws.append(number)
     return draws
+
 
 def generated(seed, size):
     half = size // 2
@@ -41,10 +50,62 @@ def generated(seed, size):
         said(f"s{k}", "equals")
     return lines
 
-def flat(left, right):
+
+def two_roots(left, right):
     return ["taxonomy 1", "(A " + " ".join(f"a{i}" for i in range(left)) + ")",
             "taxonomy 2", "(B " + " ".join(f"b{i}" for i in range(right)) + ")",
             "articulation", "[1.A equals 2.B]"]
 
-kind, one, other = sys.argv[1], int(sys.argv[2]), int(sys.argv[3])
-print("\n".join(generated(one, other) if kind == "generated" else flat(one, other)))
+
+def loose(free, fixed):
+    blocks = [f"l{t}" for t in range(free)] + [f"f{t}" for t in range(fixed)]
+    lines = []
+    for taxonomy in (1, 2):
+        lines += [f"taxonomy {taxonomy}", "(r " + " ".join(blocks) + ")"]
+        lines += [f"({block} {block}x {block}y)" for block in blocks]
+    lines.append("articulation")
+    for block in blocks:
+        lines.append(f"[1.{block} equals 2.{block}]")
+        if block.startswith("f"):
+            lines.append(f"[1.{block}x equals 2.{block}x]")
+    return lines
+
+
+def chain(taxonomies, children):
+    lines = []
+    for t in range(1, taxonomies + 1):
+        lines += [f"taxonomy {t}", "(r " + " ".join(f"c{k}" for k in range(children)) + ")"]
+    lines.append("articulation")
+    for t in range(1, taxonomies):
+        lines.append(f"[{t}.r equals {t + 1}.r]")
+        lines.append(f"[{t}.c0 {{equals includes}} {t + 1}.c0]")
+        lines += [f"[{t}.c{k} equals {t + 1}.c{k}]" for k in range(2, children)]
+    return lines
+
+
+def sums(left, right):
+    lines = two_roots(left, right)
+    for k in range(right - 1):
+        lines.append(f"[2.b{k} sums 1.a{2 * k % left} 1.a{(2 * k + 1) % left}]")
+    return lines
+
+
+def split(left, right):
+    lines = two_roots(left, right)
+    for k in range(min(left, right)):
+        lines.append(f"[1.a{k} {'{equals disjoint}' if k % 2 == 0 else '{includes overlaps}'} 2.b{k}]")
+    return lines
+
+
+def roots(left, right):
+    lines = ["taxonomy 1"] + [f"(a{i})" for i in range(left)] + ["taxonomy 2"] + [f"(b{i})" for i in range(right)] + ["articulation"]
+    for k in range(left):
+        lines.append(f"[1.a{k} {{is_included_in disjoint}} 2.b{k % right}]")
+    return lines
+
+
+FAMILIES = {"generated": generated, "flat": two_roots, "loose": loose, "chain": chain, "sums": sums, "split": split, "roots": roots}
+
+if __name__ == "__main__":
+    kind, one, other = sys.argv[1], int(sys.argv[2]), int(sys.argv[3])
+    print("\n".join(FAMILIES[kind](one, other)))

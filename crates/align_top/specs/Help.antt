@@ -3,7 +3,7 @@ use Rattle.std.specs.Prelude.{ℕ, ◌==◌, if◌then◌else◌, List, [], ◌�
 use Rattle.align_top.specs.declared.Command.{Command}
 use Rattle.align_top.specs.declared.Key.{Key}
 use Rattle.align_top.specs.declared.KeyKind.{KeyKind}
-use Rattle.align_top.specs.declared.KeyKind.TheVariants.{FileName, OnOff}
+use Rattle.align_top.specs.declared.KeyKind.TheVariants.{FileName, OnOff, Limit}
 use Rattle.align_top.specs.declared.Request.{Request}
 use Rattle.align_top.specs.declared.Request.TheVariants.{Align}
 use Rattle.align_top.specs.Words.{Row, row_of, all_commands, key_name, kind_of}
@@ -12,6 +12,7 @@ use Rattle.align_top.specs.Words.{Row, row_of, all_commands, key_name, kind_of}
 abbrev pub value_form : KeyKind → List ℕ
 value_form FileName = codes "FILE"
 value_form OnOff = codes "on|off"
+value_form Limit = codes "NUMBER"
 
 -- how a key is shown, with its value
 abbrev pub key_form : Key → List ℕ
@@ -37,7 +38,7 @@ usage_help = codes "the words are a command and its keys; keys in brackets may b
 
 -- the file that a request reads its problem from
 abbrev pub input_of : Request → List ℕ
-input_of (Align input switches) = input
+input_of (Align input switches nodes worlds token resume) = input
 
 -- the line within a file; nothing, where the file as a whole is meant
 abbrev pub line_form : ℕ → List ℕ

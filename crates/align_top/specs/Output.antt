@@ -1,5 +1,5 @@
 -- What a run puts on the sink, and the status that it ends with.
-use Rattle.std.specs.Prelude.{◌≡◌, ℕ, ◌-◌, ◌^◌, min, List, [], ◌∷◌, ◌++◌, length, map, flat_map, ◌⊎◌, Option, None, Result, Ok, Err, codes, decimal}
+use Rattle.std.specs.Prelude.{◌≡◌, ℕ, ◌-◌, ◌^◌, min, List, [], ◌∷◌, ◌++◌, length, map, flat_map, ◌⊎◌, Option, Some, None, option_map, Result, Ok, Err, codes, decimal}
 use Rattle.outer_store.specs.Bytes.{GrownInPart, added}
 use Rattle.outer_store.specs.Faults.{Rose}
 use Rattle.rcc5_core.specs.declared.Rel.{Rel}
@@ -9,10 +9,15 @@ use Rattle.world_model.specs.Listing.{IsListing}
 use Rattle.cleantax_text.specs.declared.TextKind.{TextKind}
 use Rattle.cleantax_text.specs.declared.TextKind.TheVariants as text
 use Rattle.cleantax_text.specs.Reading.{text_result}
+use Rattle.world_model.specs.Node.{IsCut}
+use Rattle.resume_token.specs.declared.TokenKind.{TokenKind}
+use Rattle.resume_token.specs.declared.TokenKind.TheVariants as token
+use Rattle.resume_token.specs.Token.{token_text, token_result}
+use Rattle.align_top.specs.declared.Order.{Order}
 use Rattle.align_top.specs.declared.UsageKind.{UsageKind}
 use Rattle.align_top.specs.declared.UsageKind.TheVariants as usage
 use Rattle.align_top.specs.declared.Status.{Status}
-use Rattle.align_top.specs.declared.Status.TheVariants.{Done, RefusedText, Usage, ReadFault, WriteFault, NoWorld, NoMemory}
+use Rattle.align_top.specs.declared.Status.TheVariants.{Done, RefusedText, Usage, ReadFault, WriteFault, Cut, NoWorld, RefusedToken, NoMemory}
 use Rattle.align_top.specs.declared.Request.{Request}
 use Rattle.align_top.specs.declared.Request.TheVariants.{Align}
 use Rattle.align_top.specs.Words.{request_of}
@@ -24,7 +29,9 @@ code_of (RefusedText line kind) = 1
 code_of (Usage kind) = 2
 code_of ReadFault = 3
 code_of WriteFault = 4
+code_of (Cut at) = 5
 code_of NoWorld = 6
+code_of (RefusedToken kind) = 7
 code_of NoMemory = 9
 
 -- a line: its words, and its end
@@ -39,8 +46,12 @@ usage_name usage.NotOperand = codes "NotOperand"
 usage_name usage.UnknownKey = codes "UnknownKey"
 usage_name usage.KeyTwice = codes "KeyTwice"
 usage_name usage.BadSwitch = codes "BadSwitch"
+usage_name usage.BadNumber = codes "BadNumber"
+usage_name usage.ZeroBudget = codes "ZeroBudget"
 usage_name usage.EmptyName = codes "EmptyName"
 usage_name usage.MissingKey = codes "MissingKey"
+usage_name usage.BudgetWithoutToken = codes "BudgetWithoutToken"
+usage_name usage.SameName = codes "SameName"
 
 abbrev pub text_name : TextKind → List ℕ
 text_name text.NotUtf8 = codes "NotUtf8"
@@ -63,9 +74,17 @@ text_name text.TooLong = codes "TooLong"
 text_name text.NoMemory = codes "NoMemory"
 text_name text.PartTwice = codes "PartTwice"
 
--- what is said of a refused text, and of words that are no request
+abbrev pub token_name : TokenKind → List ℕ
+token_name token.BadToken = codes "BadToken"
+token_name token.OtherProblem = codes "OtherProblem"
+token_name token.BadPosition = codes "BadPosition"
+
+-- what is said of a refused text, of a refused token, and of words that are no request
 abbrev pub refused_words : ℕ → TextKind → List ℕ
 refused_words line kind = codes "refused " ++ (decimal line ++ (codes " " ++ text_name kind))
+
+abbrev pub token_words : TokenKind → List ℕ
+token_words kind = codes "token " ++ token_name kind
 
 abbrev pub usage_words : UsageKind → List ℕ
 usage_words kind = codes "usage " ++ usage_name kind
@@ -77,7 +96,9 @@ end_line (RefusedText line kind) = line_of (refused_words line kind)
 end_line (Usage kind) = line_of (usage_words kind)
 end_line ReadFault = line_of (codes "read fault")
 end_line WriteFault = []
+end_line (Cut at) = []
 end_line NoWorld = []
+end_line (RefusedToken kind) = line_of (token_words kind)
 end_line NoMemory = line_of (codes "no memory")
 
 -- the last line is put and the status answered; or its put was refused; or memory was wanting
@@ -95,32 +116,65 @@ world_line table = line_of (map letter_of table)
 abbrev pub complete_line : ℕ → List ℕ
 complete_line count = line_of (codes "complete " ++ decimal count)
 
--- the text of a listing: a line for each world, and how many they are, up to the last value of a u64
-abbrev pub listing_text : List (List Rel) → List ℕ
-listing_text worlds = flat_map world_line worlds ++ complete_line (min (length worlds) (2 ^ 64 - 1))
+-- the last line of a listing of so many worlds that stopped before its end
+abbrev pub cut_line : ℕ → List ℕ
+cut_line count = line_of (codes "cut " ++ decimal count)
 
--- a good end: NoWorld where there is no world
-abbrev pub listing_status : List (List Rel) → Status
-listing_status [] = NoWorld
-listing_status (world ∷ worlds) = Done
+-- the last line of a listing, by where it stopped
+abbrev pub last_line : Option (List Rel) → ℕ → List ℕ
+last_line None count = complete_line count
+last_line (Some cut) count = cut_line count
 
--- the listing of all worlds is what is put
-pub record IsListed (p : Problem) (status : Status) (text : List ℕ) : Type 0 where
+-- how many worlds there are, up to the last value of a u64
+abbrev pub count_of : List (List Rel) → ℕ
+count_of worlds = min (length worlds) (2 ^ 64 - 1)
+
+-- the text of a listing: a line for each world, and how many they are
+abbrev pub listing_text : Option (List Rel) → List (List Rel) → List ℕ
+listing_text cut worlds = flat_map world_line worlds ++ last_line cut (count_of worlds)
+
+-- a good end: where the listing was cut; NoWorld where it began at the empty position and there is no world
+abbrev pub listing_status : List Rel → Option (List Rel) → List (List Rel) → Status
+listing_status start (Some cut) worlds = Cut cut
+listing_status [] None [] = NoWorld
+listing_status [] None (world ∷ worlds) = Done
+listing_status (rel ∷ rels) None worlds = Done
+
+-- the listing up to the cut is what is put, and the token of the cut is what is written
+pub record IsListed (order : Order) (status : Status) (text : List ℕ) (file : Option (List ℕ)) : Type 0 where
+  pub cut : Option (List Rel)
+  pub cut_is : IsCut order.problem order.start order.nodes order.worlds cut
   pub worlds : List (List Rel)
-  pub exactly : IsListing p [] None worlds
-  pub put : text ≡ listing_text worlds
-  pub ended : status ≡ listing_status worlds
+  pub exactly : IsListing order.problem order.start cut worlds
+  pub put : text ≡ listing_text cut worlds
+  pub ended : status ≡ listing_status order.start cut worlds
+  pub written : file ≡ option_map (token_text order.problem) cut
 
--- what comes of a text: the listing of its problem, or its refusal
-abbrev pub IsTextAnswer : Result Problem (ℕ × TextKind) → Status → List ℕ → Type 0
-IsTextAnswer (Ok p) status text = IsListed p status text
-IsTextAnswer (Err fault) status text =
-    (status ≡ RefusedText fault.0 fault.1) × (text ≡ end_line (RefusedText fault.0 fault.1))
+-- the start of a listing: the position of the token, if one is given, and else the empty one
+abbrev pub start_of : Problem → Option (List ℕ) → Result (List Rel) TokenKind
+start_of p None = Ok []
+start_of p (Some token) = token_result p token
 
--- what comes of words, where names hold what `held` tells, if no call fails and memory is found
-abbrev pub IsRequestAnswer : Result Request UsageKind → (List ℕ → List ℕ) → Status → List ℕ → Type 0
-IsRequestAnswer (Err kind) held status text = (status ≡ Usage kind) × (text ≡ end_line (Usage kind))
-IsRequestAnswer (Ok (Align input switches)) held status text = IsTextAnswer (text_result (held input) switches) status text
+-- an order from a problem's start, or how a run ends whose token is refused
+abbrev pub order_from : Problem → Option ℕ → Option ℕ → Result (List Rel) TokenKind → Result Order Status
+order_from p nodes worlds (Ok start) = Ok (record { problem = p; start = start; nodes = nodes; worlds = worlds })
+order_from p nodes worlds (Err kind) = Err (RefusedToken kind)
 
-abbrev pub IsAnswer : List (List ℕ) → (List ℕ → List ℕ) → Status → List ℕ → Type 0
-IsAnswer words held status text = IsRequestAnswer (request_of words) held status text
+-- an order from a text and a token, or how a run ends whose text is refused
+abbrev pub order_by : Result Problem (ℕ × TextKind) → Option ℕ → Option ℕ → Option (List ℕ) → Result Order Status
+order_by (Ok p) nodes worlds token = order_from p nodes worlds (start_of p token)
+order_by (Err fault) nodes worlds token = Err (RefusedText fault.0 fault.1)
+
+-- the order that words come to, where names hold what `held` tells, or how a run ends that is refused
+abbrev pub order_of : (List ℕ → List ℕ) → Result Request UsageKind → Result Order Status
+order_of held (Ok (Align input switches nodes worlds token resume)) = order_by (text_result (held input) switches) nodes worlds (option_map held resume)
+order_of held (Err kind) = Err (Usage kind)
+
+-- what comes of an order: its listing; and of a refusal: its last line
+abbrev pub IsOrderAnswer : Result Order Status → Status → List ℕ → Option (List ℕ) → Type 0
+IsOrderAnswer (Ok order) status text file = IsListed order status text file
+IsOrderAnswer (Err refusal) status text file = (status ≡ refusal) × (text ≡ end_line refusal) × (file ≡ None)
+
+-- the status, the text that is put and the token that is written, for words and what names hold
+abbrev pub IsAnswer : List (List ℕ) → (List ℕ → List ℕ) → Status → List ℕ → Option (List ℕ) → Type 0
+IsAnswer words held status text file = IsOrderAnswer (order_of held (request_of words)) status text file

@@ -1,48 +1,77 @@
--- What of a problem's listing has been put.
-use Rattle.std.specs.Prelude.{◌≡◌, ℕ, ◌-◌, ◌^◌, ◌==◌, if◌then◌else◌, min, List, [], length, flat_map, Option, Some, None}
+-- What of a listing has been put, and how far its budget has come.
+use Rattle.std.specs.Prelude.{◌≡◌, ◌≤◌, ℕ, IsTrue, List, [], ◌∷◌, length, flat_map, Option, Some, None}
 use Rattle.rcc5_core.specs.declared.Rel.{Rel}
 use Rattle.outer_store.specs.Bytes.{GrownInPart, added}
-use Rattle.world_model.specs.Problem.{Problem}
-use Rattle.world_model.specs.Listing.{IsListing}
+use Rattle.world_model.specs.Problem.{Problem, pair_count}
+use Rattle.world_model.specs.Listing.{is_before_end, IsListing}
+use Rattle.world_model.specs.Laws.{is_not_above_end}
+use Rattle.world_model.specs.Node.{IsNodeFrom, IsNodeList, IsSpent, IsCut}
 use Rattle.world_model.specs.Trial.{worlds_between}
-use Rattle.align_top.specs.declared.Status.{Status}
-use Rattle.align_top.specs.declared.Status.TheVariants.{Done, NoWorld}
-use Rattle.align_top.specs.Output.{world_line, listing_text, listing_status}
-use Rattle.align_top.specs.Run.{IsEndOf}
+use Rattle.world_search.specs.Searching.{SearchState, Came, FellBy, IsNext}
+use Rattle.world_search.specs.Steps.{StandsBehind}
+use Rattle.align_top.specs.declared.listing.Met.{Met}
+use Rattle.align_top.specs.declared.listing.Met.TheVariants as met
+use Rattle.align_top.specs.declared.Order.{Order}
+use Rattle.align_top.specs.Output.{world_line, count_of, listing_text}
 
--- a count of some worlds, up to the last value of a u64
-abbrev pub counted_worlds : List (List Rel) → ℕ
-counted_worlds worlds = min (length worlds) (2 ^ 64 - 1)
+-- just these nodes and these worlds stand from the start on and below a place, which is not before the start
+pub record AreUpTo (order : Order) (at : Option (List Rel)) (nodes worlds : List (List Rel)) : Type 0 where
+  pub begun : IsTrue (is_not_above_end order.start at)
+  pub nodes_are : IsNodeList order.problem order.start at nodes
+  pub worlds_are : IsListing order.problem order.start at worlds
 
--- a good end after so many worlds: NoWorld where there was none
-abbrev pub count_status : ℕ → Status
-count_status count = if count == 0 then NoWorld else Done
+-- before no node from the start on and below a place the budget is used up
+abbrev pub LastsTo : Order → Option (List Rel) → Type 0
+LastsTo order at =
+    (m : List Rel) → IsNodeFrom order.problem order.start m → IsTrue (is_before_end m at) → IsSpent order.problem order.start order.nodes order.worlds m → ⊥
 
--- a line for each world below a position, or for all with none, and how many they are
-pub record IsPutTo (p : Problem) (at : Option (List Rel)) (old new : Option (List ℕ)) (count : ℕ) : Type 0 where
+-- a line for each world below a place, how many they are, and what is left of the budget there
+pub record IsPutTo (order : Order) (at : Option (List Rel)) (old new : Option (List ℕ)) (count : ℕ) (nodes_left worlds_left : Option ℕ) : Type 0 where
+  pub nodes : List (List Rel)
   pub worlds : List (List Rel)
-  pub exactly : IsListing p [] at worlds
+  pub up_to : AreUpTo order at nodes worlds
+  pub lasts : LastsTo order at
   pub put : new ≡ added old (flat_map world_line worlds)
-  pub counted : count ≡ counted_worlds worlds
+  pub counted : count ≡ count_of worlds
+  pub nodes_fell : FellBy order.nodes nodes_left (length nodes)
+  pub worlds_fell : FellBy order.worlds worlds_left (length worlds)
 
--- the whole text of the listing
-pub record IsPutWhole (p : Problem) (old new : Option (List ℕ)) (count : ℕ) : Type 0 where
+-- a line for each world up to the cut, and how many they are
+pub record IsPutToCut (order : Order) (old new : Option (List ℕ)) (cut : Option (List Rel)) (count : ℕ) : Type 0 where
   pub worlds : List (List Rel)
-  pub exactly : IsListing p [] None worlds
-  pub put : new ≡ added old (listing_text worlds)
-  pub counted : count ≡ counted_worlds worlds
+  pub cut_is : IsCut order.problem order.start order.nodes order.worlds cut
+  pub exactly : IsListing order.problem order.start cut worlds
+  pub put : new ≡ added old (flat_map world_line worlds)
+  pub counted : count ≡ count_of worlds
 
 -- a first part of the text of the listing
-pub record IsPutPartly (p : Problem) (old new : Option (List ℕ)) : Type 0 where
+pub record IsPutPartly (order : Order) (old new : Option (List ℕ)) : Type 0 where
+  pub cut : Option (List Rel)
   pub worlds : List (List Rel)
-  pub exactly : IsListing p [] None worlds
-  pub part : GrownInPart old new (listing_text worlds)
+  pub cut_is : IsCut order.problem order.start order.nodes order.worlds cut
+  pub exactly : IsListing order.problem order.start cut worlds
+  pub part : GrownInPart old new (listing_text cut worlds)
 
--- the listing is put whole, or cut short by a refused put or want of memory
-pub record IsListingEnd (p : Problem) (result : Status) (old new : Option (List ℕ)) (before now : ℕ) : Type 0 where
-  pub worlds : List (List Rel)
-  pub exactly : IsListing p [] None worlds
-  pub ended : IsEndOf (listing_status worlds) (listing_text worlds) result old new before now
+-- an order that can be carried out: its start is no longer than its problem has pairs
+abbrev pub IsOrder : Order → Type 0
+IsOrder order = length order.start ≤ pair_count order.problem
+
+-- what a search without an end meets: a world, right behind which it then stands; the next node, where none may be visited; or the
+-- end, where all nodes are passed
+abbrev pub IsMet : SearchState → SearchState → Option ℕ → Option ℕ → Met → Type 0
+IsMet one other before left (met.World table) = Came one other before left (table ∷ []) × StandsBehind other table
+IsMet one other before left (met.Cut node) = Came one other before left [] × (left ≡ Some 0) × IsNext other node
+IsMet one other before left met.End = Came one other before left [] × (other.at ≡ None)
+
+-- where a search stands that passed no node: at a node, or past all of them
+abbrev pub StandsAt : SearchState → Option (List Rel) → Type 0
+StandsAt s None = s.at ≡ None
+StandsAt s (Some node) = IsNext s node
+
+pub record IsStop (one other : SearchState) (cut : Option (List Rel)) : Type 0 where
+  pub left : Option ℕ
+  pub came : Came one other (Some 0) left []
+  pub stands : StandsAt other cut
 
 -- the worlds that are not below a position, and none where all are passed
 abbrev pub worlds_from : Problem → Option (List Rel) → List (List Rel)

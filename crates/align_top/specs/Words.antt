@@ -1,16 +1,17 @@
 -- The words of the command line: a request, or the first usage fault.
-use Rattle.std.specs.Prelude.{ℕ, ◌==◌, Bool, true, not, ◌||◌, List, [], ◌∷◌, ◌++◌, length, find, Option, Some, None, option_map, unwrap_or, Result, Ok, Err, if◌then◌else◌, bytes_eq, codes, ⊤}
+use Rattle.std.specs.Prelude.{ℕ, ◌==◌, Bool, true, false, not, ◌||◌, ◌&&◌, ◌-◌, ◌^◌, List, [], ◌∷◌, ◌++◌, length, find, Option, Some, None, option_map, option_and_then, unwrap_or, Result, Ok, Err, if◌then◌else◌, bytes_eq, codes, ⊤}
 use Rattle.std.specs.List.{list_any, before_first, after_first}
+use Rattle.proof_text.specs.Numbers.{number_in}
 use Rattle.world_model.specs.declared.Switches.{Switches}
 use Rattle.align_top.specs.declared.Key.{Key}
-use Rattle.align_top.specs.declared.Key.TheVariants.{In, Nonempty, Sibling, Coverage}
+use Rattle.align_top.specs.declared.Key.TheVariants.{In, Nonempty, Sibling, Coverage, Nodes, Worlds, Token, Resume}
 use Rattle.align_top.specs.declared.KeyKind.{KeyKind}
-use Rattle.align_top.specs.declared.KeyKind.TheVariants.{FileName, OnOff}
+use Rattle.align_top.specs.declared.KeyKind.TheVariants.{FileName, OnOff, Limit}
 use Rattle.align_top.specs.declared.Command.{Command}
 use Rattle.align_top.specs.declared.Command.TheVariants as command
 use Rattle.align_top.specs.declared.Operand.{Operand}
 use Rattle.align_top.specs.declared.UsageKind.{UsageKind}
-use Rattle.align_top.specs.declared.UsageKind.TheVariants.{NoCommand, UnknownCommand, NotOperand, UnknownKey, KeyTwice, BadSwitch, EmptyName, MissingKey}
+use Rattle.align_top.specs.declared.UsageKind.TheVariants.{NoCommand, UnknownCommand, NotOperand, UnknownKey, KeyTwice, BadSwitch, BadNumber, ZeroBudget, EmptyName, MissingKey, BudgetWithoutToken, SameName}
 use Rattle.align_top.specs.declared.Request.{Request}
 use Rattle.align_top.specs.declared.Request.TheVariants.{Align}
 use Rattle.align_top.specs.declared.WordsFault.{WordsFault}
@@ -22,6 +23,10 @@ key_name In = codes "in"
 key_name Nonempty = codes "nonempty"
 key_name Sibling = codes "sibling"
 key_name Coverage = codes "coverage"
+key_name Nodes = codes "nodes"
+key_name Worlds = codes "worlds"
+key_name Token = codes "token"
+key_name Resume = codes "resume"
 
 -- what a key's value is
 abbrev pub kind_of : Key → KeyKind
@@ -29,6 +34,10 @@ kind_of In = FileName
 kind_of Nonempty = OnOff
 kind_of Sibling = OnOff
 kind_of Coverage = OnOff
+kind_of Nodes = Limit
+kind_of Worlds = Limit
+kind_of Token = FileName
+kind_of Resume = FileName
 
 -- whether two keys are one
 abbrev pub same_key : Key → Key → Bool
@@ -42,7 +51,11 @@ pub record Row : Type 0 where
 
 -- the table of commands
 abbrev pub row_of : Command → Row
-row_of command.Align = record { name = codes "align"; required = In ∷ []; optional = Nonempty ∷ Sibling ∷ Coverage ∷ [] }
+row_of command.Align = record {
+  name = codes "align";
+  required = In ∷ [];
+  optional = Nonempty ∷ Sibling ∷ Coverage ∷ Nodes ∷ Worlds ∷ Token ∷ Resume ∷ [];
+}
 
 -- the commands, in the order of the table
 abbrev pub all_commands : List Command
@@ -91,8 +104,18 @@ key_in row name = key_among (row.required ++ row.optional) name
 abbrev pub is_switch : List ℕ → Bool
 is_switch value = bytes_eq value (codes "on") || bytes_eq value (codes "off")
 
+-- the number that a word is, up to the last value of a u64
+abbrev pub number_of : List ℕ → Option ℕ
+number_of word = number_in 0 (2 ^ 64 - 1) word
+
+-- what is wrong with a number that is a limit
+abbrev pub limit_fault : Option ℕ → Option UsageKind
+limit_fault None = Some BadNumber
+limit_fault (Some number) = if number == 0 then Some ZeroBudget else None
+
 -- what is wrong with a key's value
 abbrev pub value_fault : KeyKind → List ℕ → Option UsageKind
+value_fault Limit value = limit_fault (number_of value)
 value_fault OnOff value = if is_switch value then None else Some BadSwitch
 value_fault FileName value = if length value == 0 then Some EmptyName else None
 
@@ -135,9 +158,31 @@ switches_of operands = record {
 abbrev pub is_lacking : Row → List Operand → Bool
 is_lacking row operands = list_any (λ key. not (is_given operands key)) row.required
 
+-- the number of a key, if it is given
+abbrev pub limit_of : List Operand → Key → Option ℕ
+limit_of operands key = option_and_then number_of (value_of operands key)
+
+-- whether a limit is given, but no token
+abbrev pub lacks_token : List Operand → Bool
+lacks_token operands = (is_given operands Nodes || is_given operands Worlds) && not (is_given operands Token)
+
+-- whether two values are given and are one
+abbrev pub is_same_value : Option (List ℕ) → Option (List ℕ) → Bool
+is_same_value None other = false
+is_same_value (Some value) None = false
+is_same_value (Some value) (Some other) = bytes_eq value other
+
+-- whether two of the file names are one
+abbrev pub has_same_name : List Operand → Bool
+has_same_name operands =
+    is_same_value (value_of operands In) (value_of operands Token) || is_same_value (value_of operands In) (value_of operands Resume) ||
+    is_same_value (value_of operands Token) (value_of operands Resume)
+
 -- the request of a command, whose required keys are given
 abbrev pub request_for : Command → List Operand → Request
-request_for command.Align operands = Align (unwrap_or (value_of operands In) []) (switches_of operands)
+request_for command.Align operands =
+    Align (unwrap_or (value_of operands In) []) (switches_of operands) (limit_of operands Nodes) (limit_of operands Worlds)
+    (value_of operands Token) (value_of operands Resume)
 
 -- what words ask for, or their first fault
 abbrev pub request_of : List (List ℕ) → Result Request UsageKind
@@ -146,7 +191,9 @@ request_of (word ∷ words) =
     need (command_named word) UnknownCommand (λ c.
     and_then (operands_of (row_of c) [] words) (λ operands.
     fail_if (is_lacking (row_of c) operands) MissingKey (
-    Ok (request_for c operands))))
+    fail_if (lacks_token operands) BudgetWithoutToken (
+    fail_if (has_same_name operands) SameName (
+    Ok (request_for c operands))))))
 
 -- a fact of the fault of the words that is answered
 abbrev pub IfUsage : {X : Type 0} → Result X WordsFault → (UsageKind → Type 0) → Type 0

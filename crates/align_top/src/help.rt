@@ -14,6 +14,7 @@ impl KeyKind {
         match self {
             KeyKind::FileName => "FILE",
             KeyKind::OnOff => "on|off",
+            KeyKind::Limit => "NUMBER",
         }
     }
 }

@@ -4,7 +4,10 @@
 ghost use Rattle.std.specs.Prelude.{◌≡◌, string_bytes};
 ghost use Rattle.align_top.specs.declared.WordsFault.TheVariants.{NoMemory};
 
+mod asking;
+mod carry;
 mod help;
+mod laws;
 mod listing;
 mod names;
 mod put;
@@ -13,11 +16,15 @@ mod top;
 mod words;
 
 use cleantax_text::TextKind;
+use constraint_set::Problem;
 pub use help::{fault_place, text_help, usage_help};
-pub use listing::put_listing;
-pub use names::text_name;
+pub use laws::chains_list_once;
+pub use listing::{Listed, put_worlds};
+pub use names::{text_name, token_name};
 pub use put::{put_end, put_line};
+use rcc5_core::Position;
 pub use read::{TEXT_LIMIT, read_front};
+use resume_token::TokenKind;
 use std::alloc::{AllocError, AllocFailed};
 use std::marker::Model;
 use thiserror::Error;
@@ -57,7 +64,23 @@ impl Word {
 #[derive(Debug, Drop)]
 pub enum Request {
     /// List the possible worlds of the problem in a file.
-    Align { input: Word, switches: Switches },
+    Align {
+        input: Word,
+        switches: Switches,
+        nodes: Option<u64>,
+        worlds: Option<u64>,
+        token: Option<Word>,
+        resume: Option<Word>,
+    },
+}
+
+/// What is to be listed: the worlds of a problem from a position on, until a limit of nodes or of worlds is reached.
+#[derive(Drop)]
+pub struct Order {
+    pub problem: Problem,
+    pub start: Position,
+    pub nodes: Option<u64>,
+    pub worlds: Option<u64>,
 }
 
 /// What is wrong with the words.
@@ -75,10 +98,18 @@ pub enum UsageKind {
     KeyTwice,
     #[error("a switch is neither on nor off")]
     BadSwitch,
+    #[error("a limit is no number, or one of more than 64 bits")]
+    BadNumber,
+    #[error("a limit is 0")]
+    ZeroBudget,
     #[error("a file name is empty")]
     EmptyName,
     #[error("a required key is missing")]
     MissingKey,
+    #[error("a limit is given, but no file for the token")]
+    BudgetWithoutToken,
+    #[error("two of the files are one")]
+    SameName,
 }
 
 /// Why words gave no request.
@@ -107,14 +138,17 @@ impl<T: Drop> From<AllocFailed<T>> for WordsFault {
 }
 
 /// How a run ended.
-#[derive(Clone, Copy, Debug, PartialEq, Eq)]
+#[derive(Debug, Drop)]
 pub enum Status {
     Done,
     RefusedText { line: u32, kind: TextKind },
     Usage(UsageKind),
     ReadFault,
     WriteFault,
+    /// The budget was used up before this node.
+    Cut(Position),
     NoWorld,
+    RefusedToken(TokenKind),
     NoMemory,
 }
 
@@ -129,6 +163,8 @@ pub enum Command {
 pub enum KeyKind {
     FileName,
     OnOff,
+    /// A number that isn't 0.
+    Limit,
 }
 
 /// A key of the command line.
@@ -138,6 +174,10 @@ pub enum Key {
     Nonempty,
     Sibling,
     Coverage,
+    Nodes,
+    Worlds,
+    Token,
+    Resume,
 }
 
 /// A key with its value.
@@ -147,5 +187,7 @@ pub struct Operand {
     pub value: Word,
 }
 
+#[cfg(test)]
+mod budget_tests;
 #[cfg(test)]
 mod tests;

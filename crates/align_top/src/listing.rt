@@ -1,22 +1,35 @@
-//! The listing of worlds on a sink.
-ghost use Rattle.std.specs.Prelude.{◌≡◌, ◌≤◌, ◌++◌, [], None, codes, decimal, map, string_bytes, IfOk, IfNone, OnOk, OnErr};
-ghost use Rattle.std.specs.Option.{option_to_list};
+//! The listing of worlds on a sink, within a budget.
+ghost use Rattle.std.specs.Prelude.{◌≡◌, ◌≢◌, ◌++◌, [], ◌∷◌, None, Some, codes, decimal, map, string_bytes, IfOk, OnOk, OnErr, IsTrue, ◌↔◌};
 ghost use Rattle.rcc5_core.specs.Relation.{letter_of};
 ghost use Rattle.constraint_set.specs.Shape.{shape_of};
-ghost use Rattle.outer_store.specs.Bytes.{GrownInPart, added};
-ghost use Rattle.outer_store.specs.Faults.{Rose, IfFailed};
-ghost use Rattle.world_search.specs.Searching.{begun, Came};
-ghost use Rattle.align_top.specs.Output.{world_line, complete_line};
-ghost use Rattle.align_top.specs.Putting.{IsPutTo, IsPutWhole, IsPutPartly};
+ghost use Rattle.world_search.specs.Searching.{begun, Came, FellBy};
+ghost use Rattle.align_top.specs.Output.{world_line, last_line};
+ghost use Rattle.align_top.specs.Run.{sink_state, Leaves, LeavesPiece};
+ghost use Rattle.align_top.specs.Putting.{IsPutTo, IsPutToCut, IsPutPartly, IsMet, IsStop, IsOrder};
 
-use crate::put_line;
+use crate::{Order, put_line};
 use cert_text::NoLog;
-use constraint_set::Problem;
 use outer_store::{Sink, StoreFault};
 use point_query::Asker;
 use rcc5_core::Position;
 use std::alloc::{AllocError, Global};
 use world_search::{Nodes, Search, Step, StepFault};
+
+/// How many worlds were put, up to the last value of a u64, and the node before which the budget was used up, if any.
+#[derive(Debug, Drop)]
+pub struct Listed {
+    pub count: u64,
+    pub cut: Option<Position>,
+}
+
+/// What a search without an end meets next.
+#[derive(Debug, Drop)]
+pub(crate) enum Met {
+    World(Position),
+    /// No node may be visited any more, and this one is next.
+    Cut(Position),
+    End,
+}
 
 // The letters of a table.
 fn letters_of(alloc: Global, world: &Position) -> Result<Vec<u8>, AllocError>
@@ -27,129 +40,154 @@ fn letters_of(alloc: Global, world: &Position) -> Result<Vec<u8>, AllocError>
 
 // Puts the line of a world.
 fn put_world<W: Sink>(alloc: Global, out: &mut W, world: &Position) -> Result<(), StoreFault>
-    ensures ok { OnOk result (W.received out.new ≡ added (W.received out.old) (world_line world.now)) }
-    ensures err { OnErr result (GrownInPart (W.received out.old) (W.received out.new) (world_line world.now)) }
-    ensures cause { IfFailed result (Rose (W.faults out.old) (W.faults out.new)) (W.faults out.new ≡ W.faults out.old) }
-    ensures later { W.faults out.old ≤ W.faults out.new }
+    ensures { LeavesPiece result (world_line world.now) (sink_state (W.received out.old) (W.faults out.old)) (sink_state (W.received out.new) (W.faults out.new)) }
 {
     let letters = letters_of(alloc, world)?;
     put_line(alloc, out, &letters)
 }
 
-// The next world that a search without an end finds, and none where all are passed.
+// What a search without an end meets next.
 #[tactic(auto, using(crate::proofs::ListingLemmas::at_no_end))]
-fn next_world(
-    problem: &Problem,
+fn next_met(
+    order: &Order,
     asker: &mut Asker,
     search: &mut Search,
-) -> Result<Option<Position>, AllocError>
-    requires problem { search.old.problem ≡ problem.now }
-    requires shape { asker.old.shape ≡ shape_of problem.now }
+    nodes: &mut Nodes,
+) -> Result<Met, AllocError>
+    requires problem { search.old.problem ≡ order.now.problem }
+    requires shape { asker.old.shape ≡ shape_of order.now.problem }
     requires unbounded { search.old.to ≡ None }
-    ensures world { IfOk result (λ found. Came search.old search.new None None (option_to_list found)) }
-    ensures end { IfOk result (λ found. IfNone found (search.new.at ≡ None)) }
-    ensures err { OnErr result (Came search.old search.new None None []) }
+    ensures met { IfOk result (IsMet search.old search.new nodes.old.left nodes.new.left) }
+    ensures err { OnErr result (Came search.old search.new nodes.old.left nodes.new.left []) }
     ensures asker { asker.new.shape ≡ asker.old.shape }
 {
-    let mut nodes = Nodes { left: None };
-    match search.next(problem, asker, &mut nodes, &mut NoLog::new()) {
-        Ok(Step::World(table, _)) => Ok(Some(table)),
-        Ok(Step::End(_) | Step::Spent(_)) => Ok(None),
+    match search.next(&order.problem, asker, nodes, &mut NoLog::new()) {
+        Ok(Step::World(table, _)) => Ok(Met::World(table)),
+        Ok(Step::Spent(node)) => Ok(Met::Cut(node)),
+        Ok(Step::End(_)) => Ok(Met::End),
         Err(StepFault::NoMemory) => Err(AllocError),
     }
 }
 
-// Puts the line of each world when the search finds it, and answers how many they are.
-#[tactic(auto, using(crate::proofs::ListingLemmas::world_rules))]
-fn put_worlds<W: Sink>(
-    alloc: Global,
-    out: &mut W,
-    problem: &Problem,
+// One world fewer may be put.
+fn one_less(left: Option<u64>) -> Option<u64>
+    requires { left ≢ Some 0 }
+    ensures { FellBy left result 1 }
+{
+    match left {
+        None => None,
+        Some(left) => Some(left - 1),
+    }
+}
+
+// Whether no world may be put any more.
+fn is_spent(left: Option<u64>) -> bool
+    ensures { IsTrue result ↔ (left ≡ Some 0) }
+{
+    matches!(left, Some(0))
+}
+
+// Where the limit of worlds is reached: the node that is next, if any. No node is visited.
+#[tactic(auto, using(crate::proofs::ListingLemmas::stop_rules))]
+fn put_stop(
+    order: &Order,
     asker: &mut Asker,
     search: &mut Search,
-) -> Result<u64, StoreFault>
-    requires begun { search.old ≡ begun problem.now [] None }
-    requires shape { asker.old.shape ≡ shape_of problem.now }
-    ensures ok { IfOk result (IsPutTo problem.now None (W.received out.old) (W.received out.new)) }
-    ensures err { OnErr result (IsPutPartly problem.now (W.received out.old) (W.received out.new)) }
-    ensures cause { IfFailed result (Rose (W.faults out.old) (W.faults out.new)) (W.faults out.new ≡ W.faults out.old) }
-    ensures later { W.faults out.old ≤ W.faults out.new }
+) -> Result<Option<Position>, AllocError>
+    requires problem { search.old.problem ≡ order.now.problem }
+    requires shape { asker.old.shape ≡ shape_of order.now.problem }
+    requires unbounded { search.old.to ≡ None }
+    ensures stop { IfOk result (IsStop search.old search.new) }
 {
-    let _built = problem.taxonomy_count();
-    let mut count: u64 = 0;
-    'worlds: while let Some(table) = next_world(problem, asker, search)? {
-        put_world(alloc, out, &table)?;
-        count = count.saturating_add(1);
+    let mut none = Nodes { left: Some(0) };
+    match next_met(order, asker, search, &mut none)? {
+        Met::Cut(node) => Ok(Some(node)),
+        Met::End => Ok(None),
+        Met::World(_) => Ok(None),
     }
-    Ok(count)
 }
 
-// Puts the line of each world of a problem, and answers how many they are.
-#[tactic(auto, using(crate::proofs::ListingLemmas::partly_nothing))]
-fn put_all_worlds<W: Sink>(alloc: Global, out: &mut W, problem: &Problem) -> Result<u64, StoreFault>
-    ensures ok { IfOk result (IsPutTo problem.now None (W.received out.old) (W.received out.new)) }
-    ensures err { OnErr result (IsPutPartly problem.now (W.received out.old) (W.received out.new)) }
-    ensures cause { IfFailed result (Rose (W.faults out.old) (W.faults out.new)) (W.faults out.new ≡ W.faults out.old) }
-    ensures later { W.faults out.old ≤ W.faults out.new }
-{
-    let _built = problem.taxonomy_count();
-    let mut asker = Asker::new(alloc, problem)?;
-    put_found_worlds(alloc, out, problem, &mut asker)
-}
-
-// The same by an asker.
-#[tactic(auto, using(crate::proofs::ListingLemmas::partly_nothing))]
+// Puts the line of each world when the search finds it, until the budget is used up or all are put.
+#[tactic(auto, using(crate::proofs::ListingLemmas::world_rules))]
 fn put_found_worlds<W: Sink>(
     alloc: Global,
     out: &mut W,
-    problem: &Problem,
+    order: &Order,
     asker: &mut Asker,
-) -> Result<u64, StoreFault>
-    requires shape { asker.old.shape ≡ shape_of problem.now }
-    ensures ok { IfOk result (IsPutTo problem.now None (W.received out.old) (W.received out.new)) }
-    ensures err { OnErr result (IsPutPartly problem.now (W.received out.old) (W.received out.new)) }
-    ensures cause { IfFailed result (Rose (W.faults out.old) (W.faults out.new)) (W.faults out.new ≡ W.faults out.old) }
-    ensures later { W.faults out.old ≤ W.faults out.new }
+    search: &mut Search,
+) -> Result<Listed, StoreFault>
+    requires order { IsOrder order.now }
+    requires begun { search.old ≡ begun order.now.problem order.now.start None }
+    requires shape { asker.old.shape ≡ shape_of order.now.problem }
+    ensures { Leaves result (λ listed. IsPutToCut order.now (W.received out.old) (W.received out.new) listed.cut listed.count) (IsPutPartly order.now (W.received out.old) (W.received out.new)) (sink_state (W.received out.old) (W.faults out.old)) (sink_state (W.received out.new) (W.faults out.new)) }
 {
-    let _built = problem.taxonomy_count();
-    let mut search = Search::from(alloc, problem, Position::new(alloc), None)?;
-    put_worlds(alloc, out, problem, asker, &mut search)
+    let _built = order.problem.taxonomy_count();
+    let mut nodes = Nodes { left: order.nodes };
+    let mut worlds = order.worlds;
+    let mut count: u64 = 0;
+    'worlds: while !is_spent(worlds) {
+        match next_met(order, asker, search, &mut nodes)? {
+            Met::World(table) => {
+                put_world(alloc, out, &table)?;
+                count = count.saturating_add(1);
+                worlds = one_less(worlds);
+            }
+            Met::Cut(node) => {
+                return Ok(Listed {
+                    count,
+                    cut: Some(node),
+                });
+            }
+            Met::End => return Ok(Listed { count, cut: None }),
+        }
+    }
+    let cut = put_stop(order, asker, search)?;
+    Ok(Listed { count, cut })
 }
 
-// The words of the last line.
-fn complete_words(alloc: Global, count: u64) -> Result<String, AllocError>
-    ensures { IfOk result (λ words. string_bytes words ≡ codes "complete " ++ decimal count) }
-{
-    format!(in alloc; "complete {count}")
-}
-
-// Puts the last line.
-fn put_complete<W: Sink>(alloc: Global, out: &mut W, count: u64) -> Result<(), StoreFault>
-    ensures ok { OnOk result (W.received out.new ≡ added (W.received out.old) (complete_line count)) }
-    ensures err { OnErr result (GrownInPart (W.received out.old) (W.received out.new) (complete_line count)) }
-    ensures cause { IfFailed result (Rose (W.faults out.old) (W.faults out.new)) (W.faults out.new ≡ W.faults out.old) }
-    ensures later { W.faults out.old ≤ W.faults out.new }
-{
-    let words = complete_words(alloc, count)?;
-    put_line(alloc, out, words.as_bytes())
-}
-
-/// Puts a line of letters for each possible world of a problem when it is found, each line in one put, and then how many
-/// they are, which it answers.
-#[tactic(auto, using(crate::proofs::ListingLemmas::listing_rules))]
-pub fn put_listing<W: Sink>(
+// The same from the order's start, by an asker of its problem.
+#[tactic(auto, using(crate::proofs::ListingLemmas::partly_nothing))]
+fn put_worlds_from<W: Sink>(
     alloc: Global,
     out: &mut W,
-    problem: &Problem,
-) -> Result<u64, StoreFault>
-    ensures ok { IfOk result (IsPutWhole problem.now (W.received out.old) (W.received out.new)) }
-    ensures err { OnErr result (IsPutPartly problem.now (W.received out.old) (W.received out.new)) }
-    ensures cause { IfFailed result (Rose (W.faults out.old) (W.faults out.new)) (W.faults out.new ≡ W.faults out.old) }
-    ensures later { W.faults out.old ≤ W.faults out.new }
+    order: &Order,
+    asker: &mut Asker,
+    start: Position,
+) -> Result<Listed, StoreFault>
+    requires order { IsOrder order.now }
+    requires start { start ≡ order.now.start }
+    requires shape { asker.old.shape ≡ shape_of order.now.problem }
+    ensures { Leaves result (λ listed. IsPutToCut order.now (W.received out.old) (W.received out.new) listed.cut listed.count) (IsPutPartly order.now (W.received out.old) (W.received out.new)) (sink_state (W.received out.old) (W.faults out.old)) (sink_state (W.received out.new) (W.faults out.new)) }
 {
-    let count = put_all_worlds(alloc, out, problem)?;
-    match put_complete(alloc, out, count) {
-        Ok(()) => Ok(count),
-        Err(fault) => Err(fault),
-    }
+    let _built = order.problem.taxonomy_count();
+    let mut search = Search::from(alloc, &order.problem, start, None)?;
+    put_found_worlds(alloc, out, order, asker, &mut search)
+}
+
+#[tactic(auto, using(crate::proofs::ListingLemmas::partly_nothing))]
+fn put_asked_worlds<W: Sink>(
+    alloc: Global,
+    out: &mut W,
+    order: &Order,
+    asker: &mut Asker,
+) -> Result<Listed, StoreFault>
+    requires order { IsOrder order.now }
+    requires shape { asker.old.shape ≡ shape_of order.now.problem }
+    ensures { Leaves result (λ listed. IsPutToCut order.now (W.received out.old) (W.received out.new) listed.cut listed.count) (IsPutPartly order.now (W.received out.old) (W.received out.new)) (sink_state (W.received out.old) (W.faults out.old)) (sink_state (W.received out.new) (W.faults out.new)) }
+{
+    let _built = order.problem.taxonomy_count();
+    let start = order.start.copy(alloc)?;
+    put_worlds_from(alloc, out, order, asker, start)
+}
+
+/// Puts a line of letters for each possible world from the order's start on when it is found, each line in one put, until the
+/// order's budget is used up or all are put.
+#[tactic(auto, using(crate::proofs::ListingLemmas::partly_nothing))]
+pub fn put_worlds<W: Sink>(alloc: Global, out: &mut W, order: &Order) -> Result<Listed, StoreFault>
+    requires { IsOrder order.now }
+    ensures { Leaves result (λ listed. IsPutToCut order.now (W.received out.old) (W.received out.new) listed.cut listed.count) (IsPutPartly order.now (W.received out.old) (W.received out.new)) (sink_state (W.received out.old) (W.faults out.old)) (sink_state (W.received out.new) (W.faults out.new)) }
+{
+    let _built = order.problem.taxonomy_count();
+    let mut asker = Asker::new(alloc, &order.problem)?;
+    put_asked_worlds(alloc, out, order, &mut asker)
 }

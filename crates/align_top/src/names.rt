@@ -1,9 +1,10 @@
 //! The exit code of a status, and how faults are printed.
 ghost use Rattle.std.specs.Prelude.{◌≡◌};
-ghost use Rattle.align_top.specs.Output.{code_of, usage_name, text_name};
+ghost use Rattle.align_top.specs.Output.{code_of, usage_name, text_name, token_name};
 
 use crate::{Status, UsageKind};
 use cleantax_text::TextKind;
+use resume_token::TokenKind;
 
 impl Status {
     /// The exit code.
@@ -16,7 +17,9 @@ impl Status {
             Status::Usage(_) => 2,
             Status::ReadFault => 3,
             Status::WriteFault => 4,
+            Status::Cut(_) => 5,
             Status::NoWorld => 6,
+            Status::RefusedToken(_) => 7,
             Status::NoMemory => 9,
         }
     }
@@ -34,8 +37,12 @@ impl UsageKind {
             UsageKind::UnknownKey => "UnknownKey",
             UsageKind::KeyTwice => "KeyTwice",
             UsageKind::BadSwitch => "BadSwitch",
+            UsageKind::BadNumber => "BadNumber",
+            UsageKind::ZeroBudget => "ZeroBudget",
             UsageKind::EmptyName => "EmptyName",
             UsageKind::MissingKey => "MissingKey",
+            UsageKind::BudgetWithoutToken => "BudgetWithoutToken",
+            UsageKind::SameName => "SameName",
         }
     }
 }
@@ -64,5 +71,16 @@ pub fn text_name(kind: TextKind) -> &'static str
         TextKind::TooLong => "TooLong",
         TextKind::NoMemory => "NoMemory",
         TextKind::PartTwice => "PartTwice",
+    }
+}
+
+/// The name of a token's fault, as it is printed.
+pub fn token_name(kind: TokenKind) -> &'static str
+    ensures { result.now ≡ token_name kind }
+{
+    match kind {
+        TokenKind::BadToken => "BadToken",
+        TokenKind::OtherProblem => "OtherProblem",
+        TokenKind::BadPosition => "BadPosition",
     }
 }

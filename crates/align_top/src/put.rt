@@ -2,19 +2,18 @@
 ghost use Rattle.std.specs.Prelude.{◌≡◌, ◌≤◌, string_bytes, IfOk, OnOk, OnErr};
 ghost use Rattle.outer_store.specs.Bytes.{GrownInPart, added};
 ghost use Rattle.outer_store.specs.Faults.{Rose, IfFailed};
-ghost use Rattle.align_top.specs.Output.{line_of, refused_words, usage_words, end_line, IsLastPut};
+ghost use Rattle.align_top.specs.Output.{line_of, refused_words, usage_words, token_words, end_line, IsLastPut};
+ghost use Rattle.align_top.specs.Run.{sink_state, LeavesPiece};
 
-use crate::{Status, UsageKind, text_name};
+use crate::{Status, UsageKind, text_name, token_name};
 use cleantax_text::TextKind;
 use outer_store::{Sink, StoreFault};
+use resume_token::TokenKind;
 use std::alloc::{AllocError, Global};
 
 /// Puts a line, its words and its end, in one put.
 pub fn put_line<W: Sink>(alloc: Global, out: &mut W, words: &[u8]) -> Result<(), StoreFault>
-    ensures ok { OnOk result (W.received out.new ≡ added (W.received out.old) (line_of words.now)) }
-    ensures err { OnErr result (GrownInPart (W.received out.old) (W.received out.new) (line_of words.now)) }
-    ensures cause { IfFailed result (Rose (W.faults out.old) (W.faults out.new)) (W.faults out.new ≡ W.faults out.old) }
-    ensures later { W.faults out.old ≤ W.faults out.new }
+    ensures { LeavesPiece result (line_of words.now) (sink_state (W.received out.old) (W.faults out.old)) (sink_state (W.received out.new) (W.faults out.new)) }
 {
     let line = whole_line(alloc, words)?;
     out.put(&line)
@@ -34,20 +33,14 @@ fn put_refused<W: Sink>(
     line: u32,
     kind: TextKind,
 ) -> Result<(), StoreFault>
-    ensures ok { OnOk result (W.received out.new ≡ added (W.received out.old) (line_of (refused_words line kind))) }
-    ensures err { OnErr result (GrownInPart (W.received out.old) (W.received out.new) (line_of (refused_words line kind))) }
-    ensures cause { IfFailed result (Rose (W.faults out.old) (W.faults out.new)) (W.faults out.new ≡ W.faults out.old) }
-    ensures later { W.faults out.old ≤ W.faults out.new }
+    ensures { LeavesPiece result (line_of (refused_words line kind)) (sink_state (W.received out.old) (W.faults out.old)) (sink_state (W.received out.new) (W.faults out.new)) }
 {
     let words = refused_words(alloc, line, kind)?;
     put_line(alloc, out, words.as_bytes())
 }
 
 fn put_usage<W: Sink>(alloc: Global, out: &mut W, kind: UsageKind) -> Result<(), StoreFault>
-    ensures ok { OnOk result (W.received out.new ≡ added (W.received out.old) (line_of (usage_words kind))) }
-    ensures err { OnErr result (GrownInPart (W.received out.old) (W.received out.new) (line_of (usage_words kind))) }
-    ensures cause { IfFailed result (Rose (W.faults out.old) (W.faults out.new)) (W.faults out.new ≡ W.faults out.old) }
-    ensures later { W.faults out.old ≤ W.faults out.new }
+    ensures { LeavesPiece result (line_of (usage_words kind)) (sink_state (W.received out.old) (W.faults out.old)) (sink_state (W.received out.new) (W.faults out.new)) }
 {
     let words = usage_words(alloc, kind)?;
     put_line(alloc, out, words.as_bytes())
@@ -67,29 +60,41 @@ fn usage_words(alloc: Global, kind: UsageKind) -> Result<String, AllocError>
     format!(in alloc; "usage {name}")
 }
 
+fn put_token_fault<W: Sink>(alloc: Global, out: &mut W, kind: TokenKind) -> Result<(), StoreFault>
+    ensures { LeavesPiece result (line_of (token_words kind)) (sink_state (W.received out.old) (W.faults out.old)) (sink_state (W.received out.new) (W.faults out.new)) }
+{
+    let words = token_words(alloc, kind)?;
+    put_line(alloc, out, words.as_bytes())
+}
+
+fn token_words(alloc: Global, kind: TokenKind) -> Result<String, AllocError>
+    ensures { IfOk result (λ words. string_bytes words ≡ token_words kind) }
+{
+    let name = token_name(kind);
+    format!(in alloc; "token {name}")
+}
+
 // A line that is known beforehand takes no memory.
-fn put_end_line<W: Sink>(alloc: Global, out: &mut W, status: Status) -> Result<(), StoreFault>
-    ensures ok { OnOk result (W.received out.new ≡ added (W.received out.old) (end_line status)) }
-    ensures err { OnErr result (GrownInPart (W.received out.old) (W.received out.new) (end_line status)) }
-    ensures cause { IfFailed result (Rose (W.faults out.old) (W.faults out.new)) (W.faults out.new ≡ W.faults out.old) }
-    ensures later { W.faults out.old ≤ W.faults out.new }
+fn put_end_line<W: Sink>(alloc: Global, out: &mut W, status: &Status) -> Result<(), StoreFault>
+    ensures { LeavesPiece result (end_line status.now) (sink_state (W.received out.old) (W.faults out.old)) (sink_state (W.received out.new) (W.faults out.new)) }
 {
     match status {
-        Status::Done | Status::NoWorld | Status::WriteFault => Ok(()),
-        Status::RefusedText { line, kind } => put_refused(alloc, out, line, kind),
-        Status::Usage(kind) => put_usage(alloc, out, kind),
+        Status::Done | Status::NoWorld | Status::WriteFault | Status::Cut(_) => Ok(()),
+        Status::RefusedText { line, kind } => put_refused(alloc, out, *line, *kind),
+        Status::RefusedToken(kind) => put_token_fault(alloc, out, *kind),
+        Status::Usage(kind) => put_usage(alloc, out, *kind),
         Status::ReadFault => out.put(b"read fault\n"),
         Status::NoMemory => out.put(b"no memory\n"),
     }
 }
 
-/// Puts the last line of a status, and answers how the run ends. After `Done` and `NoWorld` the
-/// command has put its last line itself, and after `WriteFault` nothing further is put.
+/// Puts the last line of a status, and answers how the run ends. After `Done`, `NoWorld` and
+/// `Cut` the command has put its last line itself, and after `WriteFault` nothing further is put.
 pub fn put_end<W: Sink>(alloc: Global, out: &mut W, status: Status) -> Status
     ensures put { IsLastPut status result (end_line status) (W.received out.old) (W.received out.new) (W.faults out.old) (W.faults out.new) }
     ensures later { W.faults out.old ≤ W.faults out.new }
 {
-    match put_end_line(alloc, out, status) {
+    match put_end_line(alloc, out, &status) {
         Ok(()) => status,
         Err(StoreFault::Failed) => Status::WriteFault,
         Err(StoreFault::NoMemory) => Status::NoMemory,

@@ -34,7 +34,24 @@ fn the_first_usage_fault_is_answered(rt: HostRuntime) -> Result<(), Fail> {
         ("align sibling=on", UsageKind::MissingKey),
         ("align in=f f", UsageKind::NotOperand),
         ("align in=f =x", UsageKind::UnknownKey),
-        ("align in=f nodes=3", UsageKind::UnknownKey),
+        ("align in=f cert=f", UsageKind::UnknownKey),
+        ("align nodes=3", UsageKind::MissingKey),
+        ("align in=f nodes=+3", UsageKind::BadNumber),
+        ("align in=f worlds=03 token=t", UsageKind::BadNumber),
+        (
+            "align in=f nodes=18446744073709551616",
+            UsageKind::BadNumber,
+        ),
+        ("align in=f nodes=0", UsageKind::ZeroBudget),
+        ("align in=f token= nodes=0", UsageKind::EmptyName),
+        ("align in=f nodes=3", UsageKind::BudgetWithoutToken),
+        (
+            "align in=f worlds=3 resume=f",
+            UsageKind::BudgetWithoutToken,
+        ),
+        ("align in=f token=f", UsageKind::SameName),
+        ("align in=f resume=f", UsageKind::SameName),
+        ("align in=f token=t resume=t", UsageKind::SameName),
         ("align in=f in=f", UsageKind::KeyTwice),
         ("align in=f in=", UsageKind::KeyTwice),
         ("align coverage=on coverage=1", UsageKind::KeyTwice),
@@ -50,10 +67,28 @@ fn the_first_usage_fault_is_answered(rt: HostRuntime) -> Result<(), Fail> {
     Ok(())
 }
 
+// The text of a name, and nothing where it isn't given.
+fn text_of_name(name: &Option<Word>) -> &str {
+    match name {
+        Some(name) => name.text(),
+        None => "",
+    }
+}
+
 #[test]
-fn a_request_has_its_name_and_its_switches(rt: HostRuntime) -> Result<(), Fail> {
-    let words = words_of(rt.alloc(), "align sibling=off in=a=b coverage=on")?;
-    let Request::Align { input, switches } = read_words(rt.alloc(), &words)?;
+fn a_request_has_what_the_words_give(rt: HostRuntime) -> Result<(), Fail> {
+    let words = words_of(
+        rt.alloc(),
+        "align nodes=3 sibling=off in=a=b worlds=18446744073709551615 token=t coverage=on resume=r",
+    )?;
+    let Request::Align {
+        input,
+        switches,
+        nodes,
+        worlds,
+        token,
+        resume,
+    } = read_words(rt.alloc(), &words)?;
     assert_eq!(rt; input.text(), "a=b");
     let wanted = Switches {
         nonempty: true,
@@ -61,30 +96,46 @@ fn a_request_has_its_name_and_its_switches(rt: HostRuntime) -> Result<(), Fail> 
         coverage: true,
     };
     assert_eq!(rt; switches, wanted);
+    assert_eq!(rt; nodes, Some(3));
+    assert_eq!(rt; worlds, Some(u64::MAX));
+    assert_eq!(rt; text_of_name(&token), "t");
+    assert_eq!(rt; text_of_name(&resume), "r");
     Ok(())
+}
+
+// A status with this exit code.
+fn status_of_code(code: u8) -> Status {
+    match code {
+        1 => Status::RefusedText {
+            line: 3,
+            kind: TextKind::TwoParents,
+        },
+        2 => Status::Usage(UsageKind::KeyTwice),
+        3 => Status::ReadFault,
+        7 => Status::RefusedToken(TokenKind::OtherProblem),
+        _ => Status::NoMemory,
+    }
 }
 
 // The last line of each status, its exit code, and what a refused put leaves.
 #[test]
 fn each_status_puts_its_last_line(rt: HostRuntime) -> Result<(), Fail> {
     let alloc = rt.alloc();
-    let refused = Status::RefusedText {
-        line: 3,
-        kind: TextKind::TwoParents,
-    };
     let rows = [
-        (refused, 1, "refused 3 TwoParents\n"),
-        (Status::Usage(UsageKind::KeyTwice), 2, "usage KeyTwice\n"),
-        (Status::ReadFault, 3, "read fault\n"),
-        (Status::NoMemory, 9, "no memory\n"),
+        (1, "refused 3 TwoParents\n"),
+        (2, "usage KeyTwice\n"),
+        (3, "read fault\n"),
+        (7, "token OtherProblem\n"),
+        (9, "no memory\n"),
     ];
-    for (status, code, line) in rows {
+    for (code, line) in rows {
         let mut sink = MemorySink::new(alloc, Vec::new(alloc));
-        assert_eq!(rt; put_end(alloc, &mut sink, status), status);
+        let status = put_end(alloc, &mut sink, status_of_code(code));
         assert_eq!(rt; sink.bytes(), line.as_bytes());
         assert_eq!(rt; status.code(), code);
         let mut refusing = MemorySink::new(alloc, vec![in alloc; 1]?);
-        assert_eq!(rt; put_end(alloc, &mut refusing, status), Status::WriteFault);
+        let status = put_end(alloc, &mut refusing, status_of_code(code));
+        assert_eq!(rt; status.code(), 4);
         assert_eq!(rt; refusing.bytes().len(), 0);
     }
     Ok(())
@@ -114,7 +165,7 @@ fn a_name_is_read_in_pieces(rt: HostRuntime) -> Result<(), Fail> {
     Ok(())
 }
 
-// How a run over the file `p` ends, and all that its sink has received then. Calls are numbered
+// The exit code of a run over the file `p`, and all that its sink has received then. Calls are numbered
 // from 1: the store's call and the sink's call of these numbers fail, and none does where the
 // number is 0.
 //
@@ -125,14 +176,14 @@ fn listed(
     words: &str,
     failing_read: u64,
     failing_put: u64,
-) -> Result<(Status, Vec<u8>), AllocError> {
+) -> Result<(u8, Vec<u8>), AllocError> {
     let mut store = MemoryStore::new(alloc, vec![in alloc; failing_read]?);
     store.hold("p", text)?;
     let mut sink = MemorySink::new(alloc, vec![in alloc; failing_put]?);
     let words = words_of(alloc, words)?;
     let status = run(alloc, &words, &mut store, &mut sink);
     let received = Vec::from_slice(alloc, sink.bytes())?;
-    Ok((status, received))
+    Ok((status.code(), received))
 }
 
 // The text of two taxonomies or more, and of statements.
@@ -228,19 +279,11 @@ fn a_problem_has_these_worlds(rt: HostRuntime) -> Result<(), Fail> {
         let text = text_of(alloc, first, second, statements)?;
         let words = format!(in alloc; "align in=p {switch}")?;
         let (status, received) = listed(alloc, text.as_bytes(), words.as_str(), 0, 0)?;
-        let wanted = if listing == "complete 0\n" {
-            Status::NoWorld
-        } else {
-            Status::Done
-        };
+        let wanted = if listing == "complete 0\n" { 6 } else { 0 };
         assert_eq!(rt; received.as_slice(), listing.as_bytes(), "{words}\n{text}");
         assert_eq!(rt; status, wanted, "{words}\n{text}");
     }
     Ok(())
-}
-
-fn refused(line: u32, kind: TextKind) -> Status {
-    Status::RefusedText { line, kind }
 }
 
 #[test]
@@ -251,68 +294,48 @@ fn words_and_texts_have_these_ends(rt: HostRuntime) -> Result<(), Fail> {
             "\u{FEFF}# note\r\ntaxonomy 1 old list\r\n(A B)\r\n(A C) # again\r\n\r\ntaxonomy 2\r\n(D E F)\r\narticulations both\r\n[2.D == 1.A]\r\n[1.B {equals overlaps} 2.E]\r\n[1.B == 2.E]\r\n".as_bytes(),
             "align in=p",
             "=>><=!<!=>>!>>!\ncomplete 1\n",
-            Status::Done,
+            0,
         ),
         (
             b"taxonomy 1\n(A B C)\n(D B)\n",
             "align in=p",
             "refused 3 TwoParents\n",
-            refused(3, TextKind::TwoParents),
+            1,
         ),
         (
             b"taxonomy 1\n(A B C)\n(B A)\n",
             "align in=p",
             "refused 3 Cycle\n",
-            refused(3, TextKind::Cycle),
+            1,
         ),
         (
             b"taxonomy 1\n(A B C)\n(A B)\n",
             "align in=p",
             "refused 3 ChildTwice\n",
-            refused(3, TextKind::ChildTwice),
+            1,
         ),
         (
             b"taxonomy 1\n(A)\ntaxonomy 2\n(B)\narticulation\n[1.A resembles 2.Z]\noops\n",
             "align in=p",
             "refused 6 UnknownRelation\n",
-            refused(6, TextKind::UnknownRelation),
+            1,
         ),
         (
             b"taxonomy 1\n(A)\ntaxonomy 2\n(B)\narticulation\n[1.A equals 2.Z]\n",
             "align in=p",
             "refused 6 UnknownConcept\n",
-            refused(6, TextKind::UnknownConcept),
+            1,
         ),
         (
             b"oops\n\n\n\n\n\n\n\n\xFF\n",
             "align in=p",
             "refused 9 NotUtf8\n",
-            refused(9, TextKind::NotUtf8),
+            1,
         ),
-        (
-            b"",
-            "align in=elsewhere",
-            "refused 0 TaxonomyCount\n",
-            refused(0, TextKind::TaxonomyCount),
-        ),
-        (
-            b"",
-            "",
-            "usage NoCommand\n",
-            Status::Usage(UsageKind::NoCommand),
-        ),
-        (
-            b"",
-            "align",
-            "usage MissingKey\n",
-            Status::Usage(UsageKind::MissingKey),
-        ),
-        (
-            b"",
-            "align in=p in=p",
-            "usage KeyTwice\n",
-            Status::Usage(UsageKind::KeyTwice),
-        ),
+        (b"", "align in=elsewhere", "refused 0 TaxonomyCount\n", 1),
+        (b"", "", "usage NoCommand\n", 2),
+        (b"", "align", "usage MissingKey\n", 2),
+        (b"", "align in=p in=p", "usage KeyTwice\n", 2),
     ];
     for (text, words, line, end) in rows {
         let (status, received) = listed(alloc, text, words, 0, 0)?;
@@ -329,14 +352,14 @@ fn a_failed_call_ends_a_run(rt: HostRuntime) -> Result<(), Fail> {
     let alloc = rt.alloc();
     let text = text_of(alloc, "(A)", "(B)", "")?;
     let rows = [
-        (0, 1, "", Status::WriteFault),
-        (0, 2, "=\n", Status::WriteFault),
-        (0, 6, "=\n>\n<\nx\n!\n", Status::WriteFault),
-        (0, 7, "=\n>\n<\nx\n!\ncomplete 5\n", Status::Done),
-        (1, 0, "read fault\n", Status::ReadFault),
-        (2, 0, "read fault\n", Status::ReadFault),
-        (3, 0, "=\n>\n<\nx\n!\ncomplete 5\n", Status::Done),
-        (1, 1, "", Status::WriteFault),
+        (0, 1, "", 4),
+        (0, 2, "=\n", 4),
+        (0, 6, "=\n>\n<\nx\n!\n", 4),
+        (0, 7, "=\n>\n<\nx\n!\ncomplete 5\n", 0),
+        (1, 0, "read fault\n", 3),
+        (2, 0, "read fault\n", 3),
+        (3, 0, "=\n>\n<\nx\n!\ncomplete 5\n", 0),
+        (1, 1, "", 4),
     ];
     for (failing_read, failing_put, lines, end) in rows {
         let (status, received) = listed(
@@ -362,7 +385,7 @@ fn people_are_told_the_words_and_the_place(rt: HostRuntime) -> Result<(), Fail> 
     let help = usage_help(alloc)?;
     assert_eq!(rt;
         help.as_str(),
-        "the words are a command and its keys; keys in brackets may be left out:\n  align in=FILE [nonempty=on|off] [sibling=on|off] [coverage=on|off]\n"
+        "the words are a command and its keys; keys in brackets may be left out:\n  align in=FILE [nonempty=on|off] [sibling=on|off] [coverage=on|off] [nodes=NUMBER] [worlds=NUMBER] [token=FILE] [resume=FILE]\n"
     );
     for (line, place) in [(0, "a.txt: "), (12, "a.txt:12: ")] {
         assert_eq!(rt; fault_place(alloc, "a.txt", line)?.as_str(), place);

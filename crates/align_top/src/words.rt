@@ -2,9 +2,10 @@
 ghost use Rattle.std.specs.Prelude.{◌≡◌, ◌<◌, not, length, [], Ok, Err, IfOk, IfSome, IfNone, map, find, bytes_eq, string_bytes, unwrap_or};
 ghost use Rattle.std.specs.List.{list_any};
 ghost use Rattle.std.specs.Option.{option_copied};
-ghost use Rattle.align_top.specs.Words.{row_of, all_commands, key_name, kind_of, same_key, command_named, is_equals, cut_word, key_among, key_in, is_switch, value_fault, is_given, operand_of, operands_of, value_of, is_on, switches_of, is_lacking, request_for, request_of, IfUsage};
+ghost use Rattle.align_top.specs.Words.{row_of, all_commands, key_name, kind_of, same_key, command_named, is_equals, cut_word, key_among, key_in, is_switch, number_of, limit_fault, limit_of, lacks_token, is_same_value, has_same_name, value_fault, is_given, operand_of, operands_of, value_of, is_on, switches_of, is_lacking, request_for, request_of, IfUsage};
 
 use crate::{Command, Key, KeyKind, Operand, Request, UsageKind, Word, WordsFault};
+use proof_text::read_number;
 use std::alloc::{AllocError, Global};
 use world_model::Switches;
 
@@ -12,7 +13,15 @@ static COMMANDS: [Command; 1] = [Command::Align];
 
 static ALIGN_REQUIRED: [Key; 1] = [Key::In];
 
-static ALIGN_OPTIONAL: [Key; 3] = [Key::Nonempty, Key::Sibling, Key::Coverage];
+static ALIGN_OPTIONAL: [Key; 7] = [
+    Key::Nonempty,
+    Key::Sibling,
+    Key::Coverage,
+    Key::Nodes,
+    Key::Worlds,
+    Key::Token,
+    Key::Resume,
+];
 
 impl Command {
     /// All of them, in the order of the table.
@@ -88,6 +97,10 @@ impl Key {
             Key::Nonempty => "nonempty",
             Key::Sibling => "sibling",
             Key::Coverage => "coverage",
+            Key::Nodes => "nodes",
+            Key::Worlds => "worlds",
+            Key::Token => "token",
+            Key::Resume => "resume",
         }
     }
 
@@ -96,8 +109,9 @@ impl Key {
         ensures { result ≡ kind_of self }
     {
         match self {
-            Key::In => KeyKind::FileName,
+            Key::In | Key::Token | Key::Resume => KeyKind::FileName,
             Key::Nonempty | Key::Sibling | Key::Coverage => KeyKind::OnOff,
+            Key::Nodes | Key::Worlds => KeyKind::Limit,
         }
     }
 
@@ -131,6 +145,23 @@ fn cut_word(word: &str) -> Option<(&str, &str)>
     word.split_once('=')
 }
 
+// The number that a word is.
+fn number_of(word: &str) -> Option<u64>
+    ensures { result ≡ number_of word.now }
+{
+    read_number(word.as_bytes(), 0, u64::MAX)
+}
+
+fn limit_fault(number: Option<u64>) -> Option<UsageKind>
+    ensures { result ≡ limit_fault number }
+{
+    match number {
+        None => Some(UsageKind::BadNumber),
+        Some(0) => Some(UsageKind::ZeroBudget),
+        Some(_) => None,
+    }
+}
+
 fn value_fault(kind: KeyKind, value: &str) -> Option<UsageKind>
     ensures { result ≡ value_fault kind value.now }
 {
@@ -139,6 +170,7 @@ fn value_fault(kind: KeyKind, value: &str) -> Option<UsageKind>
         KeyKind::OnOff => Some(UsageKind::BadSwitch),
         KeyKind::FileName if value.is_empty() => Some(UsageKind::EmptyName),
         KeyKind::FileName => None,
+        KeyKind::Limit => limit_fault(number_of(value)),
     }
 }
 
@@ -164,6 +196,50 @@ fn is_on(operands: &[Operand], key: Key) -> bool
         None => true,
         Some(value) => value == "on",
     }
+}
+
+// The number of a key, if it is given.
+fn limit_of(operands: &[Operand], key: Key) -> Option<u64>
+    ensures { result ≡ limit_of operands.now key }
+{
+    number_of(value_of(operands, key)?)
+}
+
+// A name of its own for the value of a key, if it is given.
+fn name_of(alloc: Global, operands: &[Operand], key: Key) -> Result<Option<Word>, AllocError>
+    ensures { IfOk result (λ name. name ≡ value_of operands.now key) }
+{
+    match value_of(operands, key) {
+        None => Ok(None),
+        Some(value) => Ok(Some(Word::new(String::from_str(alloc, value)?))),
+    }
+}
+
+// Whether a limit is given, but no token.
+fn lacks_token(operands: &[Operand]) -> bool
+    ensures { result ≡ lacks_token operands.now }
+{
+    let is_limited = is_given(operands, Key::Nodes) || is_given(operands, Key::Worlds);
+    is_limited && !is_given(operands, Key::Token)
+}
+
+// Whether two keys are given and have one value.
+fn is_same_value(operands: &[Operand], key: Key, other: Key) -> bool
+    ensures { result ≡ is_same_value (value_of operands.now key) (value_of operands.now other) }
+{
+    match (value_of(operands, key), value_of(operands, other)) {
+        (Some(value), Some(other)) => value == other,
+        _ => false,
+    }
+}
+
+// Whether two of the file names are one.
+fn has_same_name(operands: &[Operand]) -> bool
+    ensures { result ≡ has_same_name operands.now }
+{
+    is_same_value(operands, Key::In, Key::Token)
+        || is_same_value(operands, Key::In, Key::Resume)
+        || is_same_value(operands, Key::Token, Key::Resume)
 }
 
 // A further word after the operands before it.
@@ -229,7 +305,14 @@ fn make_request(
                 sibling: is_on(operands, Key::Sibling),
                 coverage: is_on(operands, Key::Coverage),
             };
-            Ok(Request::Align { input, switches })
+            Ok(Request::Align {
+                input,
+                switches,
+                nodes: limit_of(operands, Key::Nodes),
+                worlds: limit_of(operands, Key::Worlds),
+                token: name_of(alloc, operands, Key::Token)?,
+                resume: name_of(alloc, operands, Key::Resume)?,
+            })
         }
     }
 }
@@ -248,6 +331,12 @@ pub fn read_words(alloc: Global, words: &[String]) -> Result<Request, WordsFault
     let operands = read_operands(alloc, command, further)?;
     if command.is_lacking(&operands) {
         return Err(WordsFault::Usage(UsageKind::MissingKey));
+    }
+    if lacks_token(&operands) {
+        return Err(WordsFault::Usage(UsageKind::BudgetWithoutToken));
+    }
+    if has_same_name(&operands) {
+        return Err(WordsFault::Usage(UsageKind::SameName));
     }
     Ok(make_request(alloc, command, &operands)?)
 }

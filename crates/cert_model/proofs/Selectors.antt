@@ -20,14 +20,11 @@ use Rattle.world_model.proofs.PointSets.{Forces, In-all_regions}
 use Rattle.constraint_set.specs.Readers.{is_sum, is_sum_at, sum_places, all_sums, rule_at}
 use Rattle.constraint_set.proofs.Sums.{sum_found, places_counted}
 use Rattle.cert_model.specs.Clauses.{is_so, first_sum_selector}
-use Rattle.cert_model.specs.Forced.{region_number, region_selectors, sum_selectors, selectors_of}
+use Rattle.cert_model.specs.Forced.{region_number, pair_selectors, region_selectors, sum_selectors, selectors_of}
 
--- the selectors of one pair
+-- whether a region is forced empty
 abbrev empty_test : Regions → Region → Bool
 empty_test words region = same_word (word_at words region) Empty
-
-abbrev pair_selectors : ℕ → Regions → List ℕ
-pair_selectors first words = map (λ region. is_so (first + region_number region)) (filter (empty_test words) all_regions)
 
 -- the selector of a region that is forced empty is there
 pub region_selected : (q : Problem) (ps : List (ℕ × ℕ)) (first k : ℕ) (region : Region) → k < length ps → Forces (allowed q (get_or ps k (0, 0))) region false →

@@ -23,12 +23,16 @@ region_number RightOnly = 2
 abbrev pub region_with : ℕ → Region
 region_with part = if part == 0 then LeftOnly else (if part == 1 then Both else RightOnly)
 
--- the selectors of the regions that are forced empty, from the first selector on
+-- the selectors of a pair's regions that are forced empty, where the first of its three has this variable
+abbrev pub pair_selectors : ℕ → Regions → List ℕ
+pair_selectors first regions =
+    map (λ region. is_so (first + region_number region)) (filter (λ region. same_word (word_at regions region) Empty) all_regions)
+
+-- those of all pairs, from the first selector on
 abbrev pub region_selectors : ℕ → List ((ℕ × ℕ) × Regions) → List ℕ
 region_selectors first [] = []
 region_selectors first (entry ∷ rest) =
-    map (λ region. is_so (first + region_number region)) (filter (λ region. same_word (word_at entry.1 region) Empty) all_regions) ++
-    region_selectors (first + 3) rest
+    pair_selectors first entry.1 ++ region_selectors (first + 3) rest
 
 -- the selectors of the sums that are kept, from the first selector on
 abbrev pub sum_selectors : List Bool → ℕ → List ℕ → List ℕ

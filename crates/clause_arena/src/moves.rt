@@ -43,6 +43,14 @@ impl Moves {
         Ok(())
     }
 
+    /// Forgets the pairs, and keeps the room.
+    pub fn clear(&mut self)
+        ensures pairs { self.new.pairs ≡ [] }
+        ensures spare { self.new.spare ≡ self.old.spare }
+    {
+        empty(&mut self.table);
+    }
+
     /// The new Ref of an old one, if there is a pair.
     pub fn moved(&self, old: Ref) -> Option<Ref>
         ensures { result ≡ new_ref self.now.pairs old }

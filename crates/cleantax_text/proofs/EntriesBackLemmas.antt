@@ -1,8 +1,8 @@
 -- The printed articulations of a problem are read again.
-use Rattle.std.proofs.Common.{◌≡◌, ◌≢◌, ◌+◌, ◌<◌, ◌≤◌, ◌==◌, ℕ, suc, zero, Bool, true, false, not, List, [], ◌∷◌, ◌++◌, Option, None, Some, Result, Ok, Err, All, AllPairs, length, map, take, get_or, position, refl, sym, ap, subst, ◌∙◌, inl, inr, arith, append_assoc}
-use Rattle.std.specs.Prelude.{option_map, option_and_then, sum_by, codes, bytes_eq, nat_lt, nat_le, ◌&&◌, ◌||◌, flat_map, if◌then◌else◌, filter}
+use Rattle.std.proofs.Common.{◌≡◌, ◌≢◌, ◌+◌, ◌<◌, ◌≤◌, ◌==◌, ℕ, Bool, true, false, not, List, [], ◌∷◌, ◌++◌, Some, Ok, All, AllPairs, length, map, get_or, position, refl, sym, ap, subst, ◌∙◌, inl, inr, arith, append_assoc}
+use Rattle.std.specs.Prelude.{option_map, option_and_then, codes, bytes_eq, nat_lt, ◌&&◌, flat_map, if◌then◌else◌, filter}
 use Rattle.std.specs.List.{list_all, list_any, AllByRecursion}
-use Rattle.std.proofs.lemmas.Bool.{and_parts, and_from, or_from, ltb-true, lt-ltb, lt-leb, eqb-false, eq-eqb, cases_order, not-true, true≢false, false_from_ne_true}
+use Rattle.std.proofs.lemmas.Bool.{and_parts, and_from, or_from, ltb-true, lt-leb, eqb-false, cases_order, not-true, false_from_ne_true}
 use Rattle.std.proofs.lemmas.List.{append-nil, length-append, length_push, length-map}
 use Rattle.std.proofs.lemmas.List.Folds.{list_all-append}
 use Rattle.std.proofs.lemmas.Slice.Eq.{bytes_eq-Decides}
@@ -17,16 +17,14 @@ use Rattle.world_model.specs.declared.Switches.{Switches}
 use Rattle.constraint_set.specs.Build.{size_of}
 use Rattle.constraint_set.specs.Facts.{all_different, is_said}
 use Rattle.constraint_set.proofs.Laying.{Placed, placed}
-use Rattle.cleantax_text.specs.declared.TextKind.{TextKind}
 use Rattle.cleantax_text.specs.declared.TextKind.TheVariants.{BadName, EmptyBraces, UnknownRelation, UnknownConcept, SameTaxonomy, ArticulationOutside, PartTwice, TooManyArticulations}
-use Rattle.cleantax_text.specs.Tokens.{tokens_after}
 use Rattle.cleantax_text.specs.Words.{reference_of, references_of, set_of_words}
-use Rattle.cleantax_text.specs.Forms.{PairEntry, SumEntry, form_of}
-use Rattle.cleantax_text.specs.Canonical.{concept_text, name_of, spaced, word_of, set_text, articulation_text}
+use Rattle.constraint_set.specs.Readers.{name_of}
+use Rattle.cleantax_text.specs.Canonical.{concept_text, spaced, word_of, set_text}
 use Rattle.cleantax_text.specs.Pieces.{line_of}
-use Rattle.cleantax_text.specs.Reading.{InArticulations, Reading, fail_if, need, in_articulations, concepts_before, concept_number, concept_numbers, pair_of, with_articulation, has_repeat, after_pair, after_sum, after_form}
-use Rattle.cleantax_text.proofs.NamedLemmas.{is_word_byte, IsClean, IsConceptName, IsTaxonomyName}
-use Rattle.cleantax_text.proofs.ScanLemmas.{IsPrinted, printed_append, printed_low, printed_name, IsWord, some_name, Reads, reads_nothing, reads_more, reads_line}
+use Rattle.cleantax_text.specs.Reading.{InArticulations, Reading, fail_if, need, in_articulations, concepts_before, concept_number, concept_numbers, pair_of, with_articulation, after_pair, after_sum, after_form}
+use Rattle.cleantax_text.proofs.NamedLemmas.{is_word_byte, IsConceptName, IsTaxonomyName}
+use Rattle.cleantax_text.proofs.ScanLemmas.{IsPrinted, printed_append, printed_low, printed_name, IsWord, Reads, reads_nothing, reads_more, reads_line}
 use Rattle.cleantax_text.proofs.RegrowLemmas.{own_position}
 use Rattle.cleantax_text.proofs.RowsBackLemmas.{taxonomy_is_name}
 use Rattle.cleantax_text.proofs.LaidLemmas.{base, forest_at, name_at, whole, counted, owner_is}
@@ -54,10 +52,10 @@ pair_taken r left relation right a b set i j place la lb some s ni nj apart =
 
 sum_taken : (r : Reading) (text : List ℕ) (parts : List (List ℕ)) (a : List ℕ × List ℕ) (bs : List (List ℕ × List ℕ)) (i : ℕ) (js : List ℕ) → in_articulations r.place ≡ true
     → reference_of text ≡ Some a → references_of parts ≡ Some bs → concept_number r a ≡ Some i → concept_numbers r bs ≡ Some js
-    → list_any (λ b. bytes_eq a.0 b.0) bs ≡ false → has_repeat js ≡ false → after_sum r text parts ≡ with_articulation r (Sum i js)
+    → list_any (λ b. bytes_eq a.0 b.0) bs ≡ false → all_different js ≡ true → after_sum r text parts ≡ with_articulation r (Sum i js)
 sum_taken r text parts a bs i js place la lb ni nj apart once =
     let last = λ (i : ℕ) (js : List ℕ). with_articulation r (Sum i js) in
-    let with_js = λ (a : List ℕ × List ℕ) (bs : List (List ℕ × List ℕ)) (i : ℕ) (js : List ℕ). fail_if (list_any (λ b. bytes_eq a.0 b.0) bs) SameTaxonomy (fail_if (has_repeat js) PartTwice (last i js)) in
+    let with_js = λ (a : List ℕ × List ℕ) (bs : List (List ℕ × List ℕ)) (i : ℕ) (js : List ℕ). fail_if (list_any (λ b. bytes_eq a.0 b.0) bs) SameTaxonomy (fail_if (not (all_different js)) PartTwice (last i js)) in
     let with_i = λ (a : List ℕ × List ℕ) (bs : List (List ℕ × List ℕ)) (i : ℕ). need (concept_numbers r bs) UnknownConcept (with_js a bs i) in
     let with_bs = λ (a : List ℕ × List ℕ) (bs : List (List ℕ × List ℕ)). need (concept_number r a) UnknownConcept (with_i a bs) in
     let with_a = λ (a : List ℕ × List ℕ). need (references_of parts) BadName (with_bs a) in
@@ -66,17 +64,11 @@ sum_taken r text parts a bs i js place la lb ni nj apart once =
     ∙ ap (λ o. need o BadName (with_bs a)) lb
     ∙ ap (λ o. need o UnknownConcept (with_i a bs)) ni
     ∙ ap (λ o. need o UnknownConcept (with_js a bs i)) nj
-    ∙ ap (λ t. fail_if t SameTaxonomy (fail_if (has_repeat js) PartTwice (last i js))) apart
-    ∙ ap (λ t. fail_if t PartTwice (last i js)) once
+    ∙ ap (λ t. fail_if t SameTaxonomy (fail_if (not (all_different js)) PartTwice (last i js))) apart
+    ∙ ap (λ t. fail_if (not t) PartTwice (last i js)) once
 
 one_more : (r : Reading) (a : Articulation) → length r.articulations < 4096 → with_articulation r a ≡ Ok (record r { articulations = r.articulations ++ a ∷ [] })
 one_more r a few = ap (λ b. fail_if b TooManyArticulations (Ok (record r { articulations = r.articulations ++ a ∷ [] }))) (lt-leb 4096 (length r.articulations) few)
-
-no_repeat : (xs : List ℕ) → all_different xs ≡ true → has_repeat xs ≡ false
-no_repeat [] e = refl
-no_repeat (x ∷ xs) e =
-    let parts = and_parts (not (list_any (λ y. x == y) xs)) (all_different xs) e in
-    or_from (list_any (λ y. x == y) xs) (has_repeat xs) (not-true (list_any (λ y. x == y) xs) parts.0) (no_repeat xs parts.1)
 
 all_append : (p : ℕ → Bool) (xs ys : List ℕ) → list_all p xs ≡ true → list_all p ys ≡ true → list_all p (xs ++ ys) ≡ true
 all_append p xs ys e f = list_all-append p xs ys ∙ and_from (list_all p xs) (list_all p ys) e f
@@ -260,7 +252,7 @@ module _ (ids : List (List ℕ)) (fs : List Trees) (arts : List Articulation) (s
       let now = among (done ++ Sum w parts ∷ []) in
       let taken : after_sum (among done) text words ≡ Ok now =
       sum_taken (among done) text words (ref w) (map ref parts) w parts refl (ref_read w in_w) (parts_read w parts a.1) (ref_number done w in_w) (parts_known done w parts a.1)
-      (parts_apart w in_w parts a.1) (no_repeat parts said)
+      (parts_apart w in_w parts a.1) said
       ∙ one_more (among done) (Sum w parts) few in
       let n : length words ≡ length parts = length-map {B = List ℕ} parts (concept_text it) in
       let read : Reads (among done) (sum_line text words ++ 10 ∷ []) now =

@@ -1,9 +1,9 @@
 -- The printed line of an articulation has the form of an entry with its words.
-use Rattle.std.proofs.Common.{◌≡◌, ◌≢◌, ◌+◌, ◌<◌, ◌≤◌, ◌==◌, ℕ, suc, zero, Bool, true, false, not, List, [], ◌∷◌, ◌++◌, Option, None, Some, length, map, take, drop, get_or, refl, sym, ap, subst, ◌∙◌, arith, append_assoc}
-use Rattle.std.specs.Prelude.{option_map, option_and_then, codes, bytes_eq, ◌&&◌, ◌||◌, if◌then◌else◌, filter, nat_le}
+use Rattle.std.proofs.Common.{◌≡◌, ◌+◌, ◌<◌, ◌==◌, ℕ, Bool, true, false, not, List, [], ◌∷◌, ◌++◌, None, Some, length, map, take, drop, refl, sym, ap, ◌∙◌, arith, append_assoc}
+use Rattle.std.specs.Prelude.{option_map, option_and_then, codes, bytes_eq, ◌&&◌, if◌then◌else◌, filter}
 use Rattle.std.specs.List.{list_any, AllByRecursion, position_or_len, before_first, after_first}
 use Rattle.std.proofs.lemmas.Bool.{and_parts, and_from, or_parts, or_right, ne_eqb, not-true, true≢false}
-use Rattle.std.proofs.lemmas.List.{append-nil, length-append, length_push, take_at, drop_at}
+use Rattle.std.proofs.lemmas.List.{append-nil, length_push, take_at, drop_at}
 use Rattle.std.proofs.lemmas.List.Folds.{list_any-append}
 use Rattle.rcc5_core.specs.declared.Rel.{Rel}
 use Rattle.rcc5_core.specs.declared.Rel.TheVariants.{Equals, Includes, IncludedIn, Overlaps, Disjoint}
@@ -12,7 +12,7 @@ use Rattle.rcc5_core.specs.Relation.{all_rels}
 use Rattle.rcc5_core.specs.RelationSet.{has, adding, no_rels, is_empty_set}
 use Rattle.cleantax_text.specs.Tokens.{Token, Bracket, Word, tokens_after}
 use Rattle.cleantax_text.specs.Words.{is_dot, is_name, is_taxonomy_name, reference_of, relation_of_word, set_of_words}
-use Rattle.cleantax_text.specs.Forms.{Form, PairEntry, SumEntry, form_of, words_to, sum_form, right_form, braces_form, entry_form, bracket_form}
+use Rattle.cleantax_text.specs.Forms.{PairEntry, SumEntry, form_of, words_to, sum_form, right_form, braces_form, entry_form, bracket_form}
 use Rattle.cleantax_text.specs.Canonical.{spaced, word_of, words_text, set_text}
 use Rattle.cleantax_text.proofs.ScanLemmas.{IsPrinted, printed_append, printed_low, printed_spaced, IsWord, EndsWord, scan_word, scan_spaced, spaced_ends, words_before}
 

@@ -1,11 +1,11 @@
 -- What the reader keeps, from line to line.
-use Rattle.std.proofs.Common.{◌≡◌, ◌≢◌, ◌+◌, ◌-◌, ◌<◌, ◌≤◌, ◌==◌, ℕ, suc, zero, Bool, true, false, not, ◌||◌, List, [], ◌∷◌, ◌++◌, Option, None, Some, Result, Ok, Err, OnOk, length, map, take, get_or, set, replicate, position, refl, sym, ap, subst, ◌∙◌, arith, inl, inr}
+use Rattle.std.proofs.Common.{◌≡◌, ◌≢◌, ◌+◌, ◌-◌, ◌<◌, ◌≤◌, ◌==◌, ℕ, suc, Bool, true, false, not, ◌||◌, List, [], ◌∷◌, ◌++◌, Option, None, Some, Result, Ok, Err, OnOk, length, take, get_or, set, replicate, refl, sym, ap, subst, ◌∙◌, arith, inl, inr}
 use Rattle.std.specs.Prelude.{option_map, option_and_then, sum_by, bytes_eq, nat_lt, nat_le, ◌&&◌, if◌then◌else◌}
-use Rattle.std.specs.List.{list_all, list_any, All}
-use Rattle.std.proofs.lemmas.Bool.{and_parts, or_parts, lt-ltb, ltb-true, le-ltb, le-leb, cases_lt, eq-eqb, eqb-true, true≢false, ne_eqb}
+use Rattle.std.specs.List.{list_all, list_any}
+use Rattle.std.proofs.lemmas.Bool.{or_parts, not-false, lt-ltb, le-ltb, le-leb, cases_lt, eq-eqb, true≢false, ne_eqb}
 use Rattle.std.proofs.lemmas.List.{append-nil, length_push, length-set, take_all}
 use Rattle.std.proofs.lemmas.Grind.{take-set_at}
-use Rattle.std.proofs.lemmas.List.Sums.{sum_by-cons, sum_by-append}
+use Rattle.std.proofs.lemmas.List.Sums.{sum_by-append}
 use Rattle.std.proofs.lemmas.List.Elements.{All-nil, All-push, All-set, All-get_or}
 use Rattle.std.proofs.lemmas.List.Folds.{list_all-append}
 use Rattle.std.proofs.lemmas.List.Quantifiers.{position-Some}
@@ -13,7 +13,6 @@ use Rattle.std.proofs.lemmas.Slice.Eq.{bytes_eq-Decides}
 use Rattle.rcc5_core.specs.declared.Rel.{Rel}
 use Rattle.rcc5_core.specs.declared.Rel.TheVariants.{Equals, Includes, IncludedIn, Overlaps, Disjoint}
 use Rattle.rcc5_core.specs.declared.RelSet.{RelSet}
-use Rattle.rcc5_core.specs.Relation.{all_rels, same_rel}
 use Rattle.rcc5_core.specs.RelationSet.{has, adding, converses, is_empty_set}
 use Rattle.taxon_tree.specs.Trees.{Trees, no_trees, IsForest}
 use Rattle.taxon_tree.specs.Row.{add_row}
@@ -29,7 +28,7 @@ use Rattle.world_model.specs.declared.Switches.{Switches}
 use Rattle.cleantax_text.specs.declared.TextKind.{TextKind}
 use Rattle.cleantax_text.specs.Words.{is_name, is_taxonomy_name, reference_of, references_of, relation_of_word, set_of_words}
 use Rattle.cleantax_text.specs.Forms.{Form, Blank, TaxonomyLine, ArticulationLine, RowLine, PairEntry, SumEntry, NoForm, form_of}
-use Rattle.cleantax_text.specs.Reading.{Reading, InArticulations, nothing_read, fail_if, need, in_taxonomy, in_articulations, with_taxonomy, concepts_before, last_number, last_forest, with_forest, after_row, concept_number, concept_numbers, pair_of, with_articulation, has_repeat, after_pair, after_sum, after_form, after_line}
+use Rattle.cleantax_text.specs.Reading.{Reading, InArticulations, nothing_read, fail_if, need, in_taxonomy, in_articulations, with_taxonomy, concepts_before, last_number, last_forest, with_forest, after_row, concept_number, concept_numbers, pair_of, with_articulation, after_pair, after_sum, after_form, after_line}
 use Rattle.cleantax_text.specs.Tokens.{tokens_of}
 use Rattle.cleantax_text.specs.Views.{IsWell}
 use Rattle.cleantax_text.specs.Kept.{of_owners, IsKept}
@@ -225,12 +224,6 @@ kept_pair r left relation right next k e =
     (pair_said i.0 j.0 s.0 (set_said relation s.0 some.0 s.1))
     other.1
 
-different : (xs : List ℕ) → has_repeat xs ≡ false → all_different xs ≡ true
-different [] e = refl
-different (x ∷ xs) e =
-    let parts = or_parts (list_any (λ y. x == y) xs) (has_repeat xs) e in
-    all2 _ _ (ap not parts.0) (different xs parts.1)
-
 numbers_length : (r : Reading) (bs : List (List ℕ × List ℕ)) (js : List ℕ) → concept_numbers r bs ≡ Some js → length js ≡ length bs
 numbers_length r [] js e = let is : [] ≡ js = cc in ap length (sym is)
 numbers_length r (b ∷ bs) js e = by (numbers_length r bs) (concept_number r b) (concept_numbers r bs) refl e
@@ -283,13 +276,13 @@ kept_sum r whole parts next two k e =
     let i = need-Ok (concept_number r a.0) _ _ next bs.2 in
     let js = need-Ok (concept_numbers r bs.0) _ _ next i.2 in
     let others = fail_if-Ok (list_any (λ b. bytes_eq a.0.0 b.0) bs.0) _ _ next js.2 in
-    let once = fail_if-Ok (has_repeat js.0) _ _ next others.1 in
+    let once = fail_if-Ok (not (all_different js.0)) _ _ next others.1 in
     let f = number_found r a.0 i.0 k.named i.1 in
     let m = numbers_length r bs.0 js.0 js.1 in
     let n = references_length parts bs.0 bs.1 in
     kept_articulation r (Sum i.0 js.0) next k
     (all3 _ _ _ (lt-ltb i.0 _ f.within) (lt-ltb 1 (length js.0) (omega arith)) (parts_fit r a.0.0 i.0 bs.0 js.0 k.named f js.1 others.0))
-    (different js.0 once.0)
+    (not-false (all_different js.0) once.0)
     once.1
 
 kept_taxonomy_line : (r : Reading) (id : List ℕ) (next : Reading) → IsKept r → after_form r (TaxonomyLine id) ≡ Ok next → IsKept next

@@ -1,5 +1,5 @@
 -- The printed taxonomies of a problem are those of its forests.
-use Rattle.std.proofs.Common.{◌≡◌, ◌≢◌, ◌+◌, ◌-◌, ◌<◌, ◌≤◌, ◌==◌, ◌⊎◌, ℕ, suc, zero, Bool, true, false, List, [], ◌∷◌, ◌++◌, All, AllPairs, length, map, take, get_or, refl, sym, ap, subst, ◌∙◌, inl, inr, arith, append_assoc}
+use Rattle.std.proofs.Common.{◌≡◌, ◌≢◌, ◌+◌, ◌-◌, ◌<◌, ◌≤◌, ◌==◌, ◌⊎◌, ℕ, suc, zero, true, false, List, [], ◌∷◌, ◌++◌, All, AllPairs, length, map, take, get_or, refl, sym, ap, subst, ◌∙◌, inl, inr, arith, append_assoc}
 use Rattle.std.specs.Prelude.{sum_by, codes, bytes_eq, flat_map, if◌then◌else◌}
 use Rattle.std.specs.List.{list_any, range_with_len}
 use Rattle.std.proofs.lemmas.Bool.{eq-eqb, ne_eqb, false_from_ne_true}
@@ -12,17 +12,18 @@ use Rattle.taxon_tree.specs.Trees.{Trees, no_trees, children_of as forest_childr
 use Rattle.world_model.specs.Problem.{Problem, concept_count, owner_of, children_of}
 use Rattle.world_model.specs.declared.Articulation.{Articulation}
 use Rattle.world_model.specs.declared.Switches.{Switches}
-use Rattle.constraint_set.specs.Build.{size_of, owners_from, children_from, problem_of}
+use Rattle.constraint_set.specs.Build.{size_of, children_from, problem_of}
 use Rattle.constraint_set.proofs.Lists.{range_split}
 use Rattle.constraint_set.proofs.Laying.{Placed, placed}
-use Rattle.cleantax_text.specs.Canonical.{name_of, spaced, taxonomy_text}
-use Rattle.cleantax_text.specs.Pieces.{heading, family, headings, families, taxonomy_pieces, taxonomies_text}
-use Rattle.cleantax_text.specs.Reading.{Place, Before, InTaxonomy, Reading, nothing_read, with_taxonomy}
+use Rattle.constraint_set.specs.Readers.{name_of}
+use Rattle.cleantax_text.specs.Canonical.{spaced, taxonomy_text}
+use Rattle.cleantax_text.specs.Pieces.{heading, family, headings, families, taxonomies_text}
+use Rattle.cleantax_text.specs.Reading.{Place, Before, InTaxonomy, Reading, nothing_read}
 use Rattle.cleantax_text.proofs.NamedLemmas.{IsConceptName, IsTaxonomyName}
 use Rattle.cleantax_text.proofs.OwnerLemmas.{owner_at, length-owners_from}
 use Rattle.cleantax_text.proofs.PieceLemmas.{pieces_next, taxonomy_is}
 use Rattle.cleantax_text.proofs.ScanLemmas.{Reads, reads_nothing, reads_more}
-use Rattle.cleantax_text.proofs.RowsBackLemmas.{row_line, growing, name_of as forest_name, head_line, kids_line, heads, kids_lines, reads_forest, id_line, reads_id}
+use Rattle.cleantax_text.proofs.RowsBackLemmas.{row_line, growing, head_line, kids_line, heads, kids_lines, reads_forest, id_line, reads_id}
 
 -- pieces of numbers
 same_pieces : (f g : ℕ → List ℕ) (a b n : ℕ) → ((i : ℕ) → i < n → f (a + i) ≡ g (b + i)) → flat_map f (range_with_len a n) ≡ flat_map g (range_with_len b n)

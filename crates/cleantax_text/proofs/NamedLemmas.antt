@@ -1,8 +1,8 @@
 -- Which names a text gives: words without blanks, brackets and hashes, of UTF-8.
-use Rattle.std.proofs.Common.{◌≡◌, ◌≢◌, ◌+◌, ◌-◌, ◌<◌, ◌≤◌, ◌==◌, ◌||◌, ℕ, suc, Bool, true, false, not, List, [], ◌∷◌, ◌++◌, Option, None, Some, Result, Ok, Err, length, get_or, set, All, AllPairs, refl, sym, ap, subst, ◌∙◌, inl, inr, arith, append_assoc, IsUtf8}
+use Rattle.std.proofs.Common.{◌≡◌, ◌≢◌, ◌+◌, ◌-◌, ◌<◌, ◌==◌, ◌||◌, ℕ, Bool, true, false, not, List, [], ◌∷◌, ◌++◌, Option, None, Some, Result, Ok, Err, length, get_or, All, AllPairs, refl, sym, ap, subst, ◌∙◌, inl, inr, arith, append_assoc, IsUtf8}
 use Rattle.std.specs.Prelude.{option_map, if◌then◌else◌, nat_le, bytes_eq, codes, ◌&&◌}
 use Rattle.std.specs.List.{list_all, list_any, AllByRecursion, position_or_len, before_first}
-use Rattle.std.proofs.lemmas.Bool.{and_parts, and_from, or_cases, eqb-true, cases_lt, le-leb, true≢false, not_from_false}
+use Rattle.std.proofs.lemmas.Bool.{and_parts, and_from, or_cases, eqb-true, true≢false}
 use Rattle.std.proofs.lemmas.List.{append-nil}
 use Rattle.std.proofs.lemmas.List.Sums.{list_all-from_AllPass, prefix_len_passes}
 use Rattle.std.proofs.lemmas.List.Folds.{list_all-append, list_any_at}
@@ -21,7 +21,8 @@ use Rattle.cleantax_text.specs.Words.{is_name, is_taxonomy_name, reference_of, r
 use Rattle.cleantax_text.specs.Forms.{Form, Blank, TaxonomyLine, ArticulationLine, RowLine, PairEntry, SumEntry, NoForm, words_to, taxonomy_form, row_form, sum_form, braces_form, right_form, entry_form, bracket_form, form_of}
 use Rattle.cleantax_text.specs.Views.{ends_word}
 use Rattle.cleantax_text.specs.Kept.{IsKept}
-use Rattle.cleantax_text.specs.Reading.{Reading, InArticulations, nothing_read, fail_if, in_taxonomy, in_articulations, concept_number, concept_numbers, has_repeat, with_taxonomy, concepts_before, last_number, last_forest, with_forest, with_articulation, pair_of, after_row, after_pair, after_sum, after_form, after_line, after_lines, and_then}
+use Rattle.constraint_set.specs.Facts.{all_different}
+use Rattle.cleantax_text.specs.Reading.{Reading, InArticulations, nothing_read, fail_if, in_taxonomy, in_articulations, concept_number, concept_numbers, with_taxonomy, concepts_before, last_number, last_forest, with_forest, with_articulation, pair_of, after_row, after_pair, after_sum, after_form, after_line, after_lines, and_then}
 use Rattle.cleantax_text.proofs.SizeLemmas.{and_then-Ok}
 use Rattle.cleantax_text.proofs.KeptLemmas.{fail_if-Ok, need-Ok, with_forest-Ok, not_true, kept_line, kept_nothing}
 use Rattle.cleantax_text.proofs.CutLemmas.{before_cut, after_cut, bare_utf8}
@@ -294,7 +295,7 @@ named_sum r whole parts next k e =
     let i = need-Ok (concept_number r a.0) _ _ next bs.2 in
     let js = need-Ok (concept_numbers r bs.0) _ _ next i.2 in
     let others = fail_if-Ok (list_any (λ b. bytes_eq a.0.0 b.0) bs.0) _ _ next js.2 in
-    let once = fail_if-Ok (has_repeat js.0) _ _ next others.1 in
+    let once = fail_if-Ok (not (all_different js.0)) _ _ next others.1 in
     named_articulation r (Sum i.0 js.0) next k once.1
 
 named_form : (r : Reading) (form : Form) (next : Reading) → FormHolds IsClean form → IsKept r → IsNamed r → after_form r form ≡ Ok next → IsNamed next

@@ -1,19 +1,20 @@
 -- A canonical text, piece by piece.
-use Rattle.std.proofs.Common.{◌≡◌, ◌+◌, ◌<◌, ◌==◌, ℕ, suc, zero, Bool, true, false, not, List, [], ◌∷◌, ◌++◌, Option, Some, None, length, map, filter, take, get_or, refl, sym, ap, ◌∙◌, arith, append_assoc}
+use Rattle.std.proofs.Common.{◌≡◌, ◌+◌, ◌<◌, ◌==◌, ℕ, suc, zero, Bool, true, false, List, [], ◌∷◌, ◌++◌, Some, length, map, filter, take, get_or, refl, sym, ap, ◌∙◌, arith, append_assoc}
 use Rattle.std.specs.Prelude.{flat_map, if◌then◌else◌, codes, nat_lt, All, IsTrue, slice_get, slice_index_or, ◌&&◌}
 use Rattle.std.specs.List.{range_with_len, list_all}
-use Rattle.std.proofs.lemmas.Bool.{and_parts, ltb-true, eqb-true}
+use Rattle.std.proofs.lemmas.Bool.{and_parts, ltb-true}
 use Rattle.std.proofs.lemmas.List.Sums.{AllPass-from_list_all}
 use Rattle.std.proofs.lemmas.List.{append-nil, take_more}
-use Rattle.std.proofs.lemmas.List.Elements.{All-weaker, All-get_or}
+use Rattle.std.proofs.lemmas.List.Elements.{All-weaker}
 use Rattle.std.proofs.lemmas.Grind.{flat_map-append}
 use Rattle.std.proofs.lemmas.Option.{slice_get_within, get_or_from_slice_get}
-use Rattle.world_model.specs.Problem.{Problem, owner_of, children_of, concepts, concept_count, is_problem, is_full, is_concept, is_articulation, is_about_pair, is_cross}
+use Rattle.world_model.specs.Problem.{Problem, owner_of, children_of, concepts, concept_count, is_concept, is_articulation, is_cross}
 use Rattle.world_model.specs.declared.Articulation.{Articulation}
 use Rattle.world_model.specs.declared.Articulation.TheVariants.{Pair, Sum}
 use Rattle.rcc5_core.specs.declared.RelSet.{RelSet}
-use Rattle.cleantax_text.specs.Canonical.{name_of, row_text, spaced, concepts_in, parents_in, taxonomy_text}
-use Rattle.cleantax_text.specs.Pieces.{heading, family, headings, families, taxonomy_pieces}
+use Rattle.constraint_set.specs.Readers.{name_of}
+use Rattle.cleantax_text.specs.Canonical.{row_text, concepts_in, parents_in, taxonomy_text}
+use Rattle.cleantax_text.specs.Pieces.{family, headings, families, taxonomy_pieces}
 
 -- a list of pieces that are left out where a test fails
 flat_map_tested : (test : ℕ → Bool) (f : ℕ → List ℕ) (xs : List ℕ) → flat_map f (filter test xs) ≡ flat_map (λ x. if test x then f x else []) xs
@@ -59,59 +60,14 @@ pieces_next f n =
 
 pub ruleset piece_rules = (headings_are, families_are)
 
--- spaced pieces of a list, one more
-spaced-append : (xs ys : List (List ℕ)) → spaced (xs ++ ys) ≡ spaced xs ++ spaced ys
-spaced-append xs ys = flat_map-append (λ piece. 32 ∷ piece) xs ys
-
 map-append : {X : Type 0} (f : X → List ℕ) (xs ys : List X) → map f (xs ++ ys) ≡ map f xs ++ map f ys
 map-append f [] ys = refl
 map-append f (x ∷ xs) ys = ap (λ r. f x ∷ r) (map-append f xs ys)
-
-pub spaced_next : {X : Type 0} (f : X → List ℕ) (xs : List X) (k : ℕ) (d : X) → k < length xs
-    → spaced (map f (take (k + 1) xs)) ≡ spaced (map f (take k xs)) ++ 32 ∷ f (get_or xs k d)
-spaced_next f xs k d lt =
-    ap (λ ys. spaced (map f ys)) (take_more xs k d lt)
-    ∙ ap spaced (map-append f (take k xs) (get_or xs k d ∷ []))
-    ∙ spaced-append (map f (take k xs)) (f (get_or xs k d) ∷ [])
-    ∙ ap (λ r. spaced (map f (take k xs)) ++ 32 ∷ r) (append-nil (f (get_or xs k d)))
-
--- the loops over spaced pieces
-pub spaced_put : {X : Type 0} (f : X → List ℕ) (init out one two : List ℕ) (xs : List X) (k : ℕ) (d : X) → k < length xs → out ≡ init ++ spaced (map f (take k xs)) → one ≡ out ++ 32 ∷ []
-    → two ≡ one ++ f (get_or xs k d) → two ≡ init ++ spaced (map f (take (k + 1) xs))
-spaced_put f init out one two xs k d lt was space word =
-    word
-    ∙ ap (λ o. o ++ f (get_or xs k d)) (space ∙ ap (λ o. o ++ 32 ∷ []) was ∙ append_assoc init (spaced (map f (take k xs))) (32 ∷ []))
-    ∙ append_assoc init (spaced (map f (take k xs)) ++ 32 ∷ []) (f (get_or xs k d))
-    ∙ ap (λ r. init ++ r) (append_assoc (spaced (map f (take k xs))) (32 ∷ []) (f (get_or xs k d)) ∙ sym (spaced_next f xs k d lt))
 
 -- the loops over concepts
 pub pieces_put : (f : ℕ → List ℕ) (init out new : List ℕ) (n : ℕ) → out ≡ init ++ flat_map f (range_with_len 0 n) → new ≡ out ++ f n → new ≡ init ++ flat_map f (range_with_len 0 (n + 1))
 pieces_put f init out new n was more =
     more ∙ ap (λ o. o ++ f n) was ∙ append_assoc init (flat_map f (range_with_len 0 n)) (f n) ∙ ap (λ r. init ++ r) (sym (pieces_next f n))
-
--- a problem's children and owners are in range
-pub children_fit : (p : Problem) → IsTrue (is_problem p) → (c : ℕ) → c < concept_count p → All (λ x. x < concept_count p) (children_of p c)
-children_fit p h c lt =
-    let a = and_parts _ (list_all (is_about_pair p) p.narrowings) h in
-    let b = and_parts _ (list_all (is_articulation p) p.articulations) a.0 in
-    let k = and_parts _ (length p.kept == length p.articulations) b.0 in
-    let kids = and_parts _ (list_all (list_all (is_concept p)) p.children) k.0 in
-    let own = and_parts _ (list_all (λ owner. nat_lt owner (length p.taxonomies)) p.owners) kids.0 in
-    let full = and_parts _ (is_full p p.children) own.0 in
-    let n = eqb-true (length p.children) (concept_count p) full.1 in
-    All-weaker (λ x. is_concept p x ≡ true) (λ x. x < concept_count p) (λ x e. ltb-true x (concept_count p) e) (children_of p c)
-    (AllPass-from_list_all (is_concept p) (children_of p c)
-    (All-get_or (λ xs. list_all (is_concept p) xs ≡ true) p.children c [] (omega arith) (AllPass-from_list_all (list_all (is_concept p)) p.children kids.1)))
-
-pub owner_fits : (p : Problem) → IsTrue (is_problem p) → (c : ℕ) → c < concept_count p → owner_of p c < length p.taxonomies
-owner_fits p h c lt =
-    let a = and_parts _ (list_all (is_about_pair p) p.narrowings) h in
-    let b = and_parts _ (list_all (is_articulation p) p.articulations) a.0 in
-    let k = and_parts _ (length p.kept == length p.articulations) b.0 in
-    let kids = and_parts _ (list_all (list_all (is_concept p)) p.children) k.0 in
-    let own = and_parts _ (list_all (λ owner. nat_lt owner (length p.taxonomies)) p.owners) kids.0 in
-    ltb-true (owner_of p c) (length p.taxonomies)
-    (All-get_or (λ x. nat_lt x (length p.taxonomies) ≡ true) p.owners c 0 lt (AllPass-from_list_all (λ x. nat_lt x (length p.taxonomies)) p.owners own.1))
 
 pub taxonomy_is : (p : Problem) (which : ℕ) → taxonomy_pieces p which ≡ taxonomy_text p which
 taxonomy_is p which =

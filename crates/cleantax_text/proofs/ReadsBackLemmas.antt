@@ -1,9 +1,8 @@
 -- The canonical text of a problem that a text says is a text of this problem.
-use Rattle.std.proofs.Common.{◌≡◌, ◌+◌, ◌<◌, ◌≤◌, ℕ, suc, Bool, true, false, List, [], ◌∷◌, ◌++◌, Result, Ok, Err, length, take, refl, sym, ap, subst, ◌∙◌, arith, IsUtf8}
-use Rattle.std.specs.Prelude.{sum_by, codes, nat_eq, nat_lt, count_by, flat_map, if◌then◌else◌}
-use Rattle.std.specs.List.{list_all, starts_with}
+use Rattle.std.proofs.Common.{◌≡◌, ◌+◌, ◌≤◌, ℕ, Bool, true, false, List, [], ◌∷◌, ◌++◌, Result, Ok, Err, length, take, refl, sym, ap, subst, ◌∙◌, arith, IsUtf8}
+use Rattle.std.specs.Prelude.{codes, nat_lt, count_by, flat_map, if◌then◌else◌}
 use Rattle.std.specs.Str.Lossy.{utf8_valid_len}
-use Rattle.std.proofs.lemmas.Bool.{ltb-false, le-ltb, lt-ltb}
+use Rattle.std.proofs.lemmas.Bool.{le-ltb}
 use Rattle.std.proofs.lemmas.List.{append-nil}
 use Rattle.std.proofs.lemmas.Str.{utf8_valid_len-IsUtf8}
 use Rattle.world_model.specs.Problem.{Problem}
@@ -11,8 +10,8 @@ use Rattle.world_model.specs.declared.Switches.{Switches}
 use Rattle.constraint_set.specs.Build.{problem_of}
 use Rattle.cleantax_text.specs.declared.TextKind.{TextKind}
 use Rattle.cleantax_text.specs.declared.TextKind.TheVariants.{NotUtf8, TooLong, TaxonomyCount}
-use Rattle.cleantax_text.specs.Tokens.{is_line_end, mark, without_mark, lines_of}
-use Rattle.cleantax_text.specs.Canonical.{taxonomy_text, canonical_text}
+use Rattle.cleantax_text.specs.Tokens.{is_line_end, without_mark, lines_of}
+use Rattle.cleantax_text.specs.Canonical.{canonical_text}
 use Rattle.cleantax_text.specs.Pieces.{taxonomies_text, line_of}
 use Rattle.cleantax_text.specs.Reading.{Place, InArticulations, Reading, nothing_read, after_lines, at_end, text_result, IsProblemText}
 use Rattle.cleantax_text.specs.ReadsBack.{ReadsBack}
@@ -20,7 +19,7 @@ use Rattle.cleantax_text.proofs.CutLemmas.{whole_utf8, unmarked_utf8, lines_utf8
 use Rattle.cleantax_text.proofs.NamedLemmas.{IsGiven, given_text}
 use Rattle.cleantax_text.proofs.ScanLemmas.{printed_low, Reads, reads_more, reads_line}
 use Rattle.cleantax_text.proofs.LaidLemmas.{taxonomies_read}
-use Rattle.cleantax_text.proofs.EntriesBackLemmas.{among, entries}
+use Rattle.cleantax_text.proofs.EntriesBackLemmas.{entries}
 
 -- what the lines of a text gave that says a problem
 record Gave (switches : Switches) (p : Problem) : Type 0 where

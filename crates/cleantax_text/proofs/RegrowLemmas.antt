@@ -1,23 +1,21 @@
 -- A forest grows again from a row for each concept and a row for each concept with children.
-use Rattle.std.proofs.Common.{◌≡◌, ◌≢◌, ◌+◌, ◌<◌, ◌≤◌, ◌^◌, ◌==◌, ◌||◌, ◌⊎◌, ℕ, suc, zero, Bool, true, false, List, [], ◌∷◌, ◌++◌, Option, None, Some, Result, Ok, Err, All, AllPairs, Contains, length, map, take, get_or, position, refl, sym, ap, subst, ◌∙◌, inl, inr, arith}
-use Rattle.std.specs.Prelude.{cond, is_some}
+use Rattle.std.proofs.Common.{◌≡◌, ◌≢◌, ◌+◌, ◌<◌, ◌≤◌, ◌==◌, ℕ, false, List, [], ◌∷◌, ◌++◌, Option, None, Some, Ok, AllPairs, Contains, length, map, take, get_or, position, refl, sym, ap, subst, ◌∙◌, inl, inr, arith}
+use Rattle.std.specs.Prelude.{cond}
 use Rattle.std.specs.Str.{bytes_eq}
 use Rattle.std.specs.List.{position_or_len}
 use Rattle.std.proofs.lemmas.Bool.{cases_order, cases_eq, lt-ltb, le-ltb, ne_eqb, or_from, false_from_ne_true}
 use Rattle.std.proofs.lemmas.Slice.Eq.{bytes_eq-Decides}
-use Rattle.std.proofs.lemmas.List.{append-nil, append_assoc, length-append, length-take-le, length_push, get_or-take, get_or_append_left, get_or_at, get_or_default, take_more, take_all, ext_get_or}
+use Rattle.std.proofs.lemmas.List.{append-nil, append_assoc, length-append, length-take-le, get_or-take, get_or_append_left, get_or_at, take_more, take_all, ext_get_or}
 use Rattle.std.proofs.lemmas.List.Elements.{Contains-append_left}
 use Rattle.std.proofs.lemmas.List.Sums.{position_or_len_is}
 use Rattle.taxon_tree.specs.Trees.{Trees, no_trees, parent_of, children_of, number_of, IsAncestor, IsForest}
 use Rattle.taxon_tree.specs.Trees.IsAncestor.{parent, further}
 use Rattle.taxon_tree.specs.Ancestry.{is_ancestor}
-use Rattle.taxon_tree.specs.Row.{and_then, with_root, with_child, place_of, with_name, with_link, add_child, add_children, add_row}
+use Rattle.taxon_tree.specs.Row.{and_then, with_root, with_child, place_of, with_link, add_child, add_children, add_row}
 use Rattle.taxon_tree.proofs.ListLemmas.{same_trees}
 use Rattle.taxon_tree.proofs.AncestryLemmas.{Decides-is_ancestor, IsAncestor-kept}
 use Rattle.taxon_tree.proofs.ForestLemmas.{children_of-with_root, children_of-with_child_same, children_of-with_child_other, IsForest-with_root, IsForest-with_child, IsForest-no_trees}
 use Rattle.taxon_tree.proofs.RowLemmas.{place_of-found, with_name-found, with_name-new, with_link-root}
-use Rattle.taxon_tree.specs.declared.ForestFault.{ForestFault}
-use Rattle.taxon_tree.specs.declared.ForestFault.TheVariants.{Cycle}
 
 -- a name has its own place where no name stands twice
 pub own_position : (names : List (List ℕ)) (k : ℕ) → AllPairs (λ x y. x ≢ y) names → k < length names → position (bytes_eq (get_or names k [])) names ≡ Some k

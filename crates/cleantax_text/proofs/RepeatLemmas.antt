@@ -1,11 +1,12 @@
 -- The numbers of concepts, one after the other, and whether one stands twice.
-use Rattle.std.proofs.Common.{◌≡◌, ◌+◌, ◌<◌, suc, ◌==◌, ℕ, Bool, true, false, not, ◌||◌, List, [], ◌∷◌, ◌++◌, Option, None, Some, length, map, take, drop, get_or, refl, sym, ap, ◌∙◌, arith, inl, inr, append_assoc}
+use Rattle.std.proofs.Common.{◌≡◌, ◌+◌, ◌<◌, suc, ◌==◌, ℕ, Bool, true, false, not, ◌||◌, List, [], ◌∷◌, ◌++◌, Option, None, Some, length, take, drop, get_or, refl, sym, ap, ◌∙◌, arith, inl, inr, append_assoc}
 use Rattle.std.specs.Prelude.{option_map, option_and_then, if◌then◌else◌}
 use Rattle.std.specs.List.{list_any}
-use Rattle.std.proofs.lemmas.Bool.{or_parts, or_left, or_right, eqb-true, eq-eqb, true≢false, cases_Bool, ne_eqb, eqb-false}
+use Rattle.std.proofs.lemmas.Bool.{and_parts, not-true, or_parts, or_right, eqb-true, eq-eqb, true≢false, cases_Bool, ne_eqb, eqb-false}
 use Rattle.std.proofs.lemmas.List.{take_more, take-append-drop}
 use Rattle.std.proofs.Math.Seq.{drop-cons}
-use Rattle.cleantax_text.specs.Reading.{Reading, concept_number, concept_numbers, has_repeat}
+use Rattle.constraint_set.specs.Facts.{all_different}
+use Rattle.cleantax_text.specs.Reading.{Reading, concept_number, concept_numbers}
 use Rattle.cleantax_text.specs.declared.words.Reference.{Reference}
 use Rattle.cleantax_text.specs.Views.{reference_meant, references_meant, onto_numbers}
 
@@ -21,39 +22,42 @@ list_any_first p (z ∷ zs) x ys e = or_right (p z) (list_any p (zs ++ x ∷ ys)
 other_way : (x y : ℕ) → (x == y) ≡ false → (y == x) ≡ false
 other_way x y e = ne_eqb y x (λ same. eqb-false x y e (sym same))
 
-pub repeat_new : (xs : List ℕ) (x : ℕ) → has_repeat xs ≡ false → list_any (λ y. x == y) xs ≡ false → has_repeat (xs ++ x ∷ []) ≡ false
-repeat_new [] x e f = refl
-repeat_new (y ∷ ys) x e f =
-    let parts = or_parts (list_any (λ z. y == z) ys) (has_repeat ys) e in
+pub different_new : (xs : List ℕ) (x : ℕ) → all_different xs ≡ true → list_any (λ y. x == y) xs ≡ false → all_different (xs ++ x ∷ []) ≡ true
+different_new [] x e f = refl
+different_new (y ∷ ys) x e f =
+    let parts = and_parts (not (list_any (λ z. y == z) ys)) (all_different ys) e in
     let new = or_parts (x == y) (list_any (λ z. x == z) ys) f in
-    rw (list_any_last (λ z. y == z) ys x parts.0 (other_way x y new.0)) (repeat_new ys x parts.1 new.1)
+    rw (list_any_last (λ z. y == z) ys x (not-true (list_any (λ z. y == z) ys) parts.0) (other_way x y new.0)) (different_new ys x parts.1 new.1)
 
-pub repeat_known : (xs : List ℕ) (x : ℕ) (ys : List ℕ) → list_any (λ y. x == y) xs ≡ true → has_repeat (xs ++ x ∷ ys) ≡ true
-repeat_known [] x ys e = absurd (true≢false (sym e))
-repeat_known (z ∷ zs) x ys e = elim (cases_Bool (x == z)) [
-  | inl same ↦ or_left (list_any (λ w. z == w) (zs ++ x ∷ ys)) (has_repeat (zs ++ x ∷ ys)) (list_any_first (λ w. z == w) zs x ys (eq-eqb z x (sym (eqb-true x z same))))
-  | inr other ↦ or_right (list_any (λ w. z == w) (zs ++ x ∷ ys)) (has_repeat (zs ++ x ∷ ys)) (repeat_known zs x ys (sym (ap (λ b. b || list_any (λ y. x == y) zs) other) ∙ e))
+-- a number that is there already
+pub different_known : (xs : List ℕ) (x : ℕ) (ys : List ℕ) → list_any (λ y. x == y) xs ≡ true → all_different (xs ++ x ∷ ys) ≡ false
+different_known [] x ys e = absurd (true≢false (sym e))
+different_known (z ∷ zs) x ys e = elim (cases_Bool (x == z)) [
+  | inl same ↦ rw (list_any_first (λ w. z == w) zs x ys (eq-eqb z x (sym (eqb-true x z same)))) refl
+  | inr other ↦
+      let later = different_known zs x ys (sym (ap (λ b. b || list_any (λ y. x == y) zs) other) ∙ e) in
+      elim (cases_Bool (list_any (λ w. z == w) (zs ++ x ∷ ys))) [ inl again ↦ rw again refl | inr new ↦ rw new later ]
 ]
 
 apart_at : (numbers : List ℕ) (k : ℕ) → k < length numbers → take k numbers ++ get_or numbers k 0 ∷ drop (suc k) numbers ≡ numbers
 apart_at numbers k lt = ap (λ rest. take k numbers ++ rest) (sym (drop-cons numbers k 0 lt)) ∙ take-append-drop k numbers
 
 -- the loop over numbers meets one that it has seen
-pub repeat_found : (keys numbers : List ℕ) (k : ℕ) → keys ≡ take k numbers → k < length numbers → list_any (λ y. get_or numbers k 0 == y) keys ≡ true → true ≡ has_repeat numbers
-repeat_found keys numbers k is lt e =
-    sym (ap has_repeat (sym (apart_at numbers k lt))
-    ∙ repeat_known (take k numbers) (get_or numbers k 0) (drop (suc k) numbers) (ap (list_any (λ y. get_or numbers k 0 == y)) (sym is) ∙ e))
+pub different_found : (keys numbers : List ℕ) (k : ℕ) → keys ≡ take k numbers → k < length numbers → list_any (λ y. get_or numbers k 0 == y) keys ≡ true → false ≡ all_different numbers
+different_found keys numbers k is lt e =
+    sym (ap all_different (sym (apart_at numbers k lt))
+    ∙ different_known (take k numbers) (get_or numbers k 0) (drop (suc k) numbers) (ap (list_any (λ y. get_or numbers k 0 == y)) (sym is) ∙ e))
 
 -- the loop over numbers meets a new one
-pub repeat_more : (keys new numbers : List ℕ) (k : ℕ) → keys ≡ take k numbers → has_repeat (take k numbers) ≡ false → k < length numbers
+pub different_more : (keys new numbers : List ℕ) (k : ℕ) → keys ≡ take k numbers → all_different (take k numbers) ≡ true → k < length numbers
     → list_any (λ y. get_or numbers k 0 == y) keys ≡ false → new ≡ (if list_any (λ y. get_or numbers k 0 == y) keys then keys else keys ++ get_or numbers k 0 ∷ [])
-    → record { keys : new ≡ take (k + 1) numbers; once : has_repeat (take (k + 1) numbers) ≡ false }
-repeat_more keys new numbers k is once lt e now =
+    → record { keys : new ≡ take (k + 1) numbers; once : all_different (take (k + 1) numbers) ≡ true }
+different_more keys new numbers k is once lt e now =
     let t = take_more numbers k 0 lt in
     let grown : new ≡ keys ++ get_or numbers k 0 ∷ [] = now ∙ ap (λ b. if b then keys else keys ++ get_or numbers k 0 ∷ []) e in
     record {
       keys = grown ∙ ap (λ ks. ks ++ get_or numbers k 0 ∷ []) is ∙ sym t;
-      once = ap has_repeat t ∙ repeat_new (take k numbers) (get_or numbers k 0) once (ap (list_any (λ y. get_or numbers k 0 == y)) (sym is) ∙ e);
+      once = ap all_different t ∙ different_new (take k numbers) (get_or numbers k 0) once (ap (list_any (λ y. get_or numbers k 0 == y)) (sym is) ∙ e);
     }
 
 -- the loop over references

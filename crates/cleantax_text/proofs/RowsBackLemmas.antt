@@ -1,25 +1,21 @@
 -- The printed lines of a taxonomy give its forest.
-use Rattle.std.proofs.Common.{◌≡◌, ◌≢◌, ◌+◌, ◌-◌, ◌<◌, ◌≤◌, ◌^◌, ◌==◌, ℕ, suc, zero, Bool, true, false, not, List, [], ◌∷◌, ◌++◌, Option, None, Some, Result, Ok, Err, All, AllPairs, length, map, take, get_or, set, refl, sym, ap, subst, ◌∙◌, inl, inr, arith, append_assoc, IsUtf8}
-use Rattle.std.specs.Prelude.{sum_by, codes, bytes_eq, nat_le, ◌&&◌, flat_map, if◌then◌else◌}
+use Rattle.std.proofs.Common.{◌≡◌, ◌+◌, ◌-◌, ◌<◌, ◌≤◌, ◌==◌, ℕ, suc, zero, true, false, not, List, [], ◌∷◌, ◌++◌, Ok, All, length, map, get_or, set, refl, sym, ap, subst, ◌∙◌, arith, append_assoc}
+use Rattle.std.specs.Prelude.{sum_by, codes, bytes_eq, nat_le, flat_map, if◌then◌else◌}
 use Rattle.std.specs.List.{list_all, list_any, AllByRecursion, range_with_len}
-use Rattle.std.proofs.lemmas.Bool.{and_parts, and_from, lt-leb, ne_eqb, not_from_true, false_from_ne_true}
-use Rattle.std.proofs.lemmas.List.{append-nil, length_push, get_or_at, set_at, take_at, take_more, get_or-take, length-take-le}
-use Rattle.std.proofs.lemmas.List.Folds.{list_any_none}
+use Rattle.std.proofs.lemmas.Bool.{and_parts, and_from, lt-leb, ne_eqb}
+use Rattle.std.proofs.lemmas.List.{append-nil, length_push, get_or_at, set_at, take_at}
 use Rattle.std.proofs.lemmas.List.Elements.{recursion_from_All}
-use Rattle.std.proofs.lemmas.Slice.Eq.{bytes_eq-Decides}
-use Rattle.taxon_tree.specs.Trees.{Trees, no_trees, children_of, IsForest}
+use Rattle.taxon_tree.specs.Trees.{Trees, no_trees, name_of, children_of, IsForest}
 use Rattle.taxon_tree.specs.Row.{add_row}
 use Rattle.constraint_set.specs.Build.{size_of}
-use Rattle.world_model.specs.declared.Articulation.{Articulation}
-use Rattle.cleantax_text.specs.declared.TextKind.{TextKind}
-use Rattle.cleantax_text.specs.declared.TextKind.TheVariants.{BadName, RowOutsideTaxonomy, TaxonomyTwice, TaxonomyCount}
-use Rattle.cleantax_text.specs.Tokens.{Token, Bracket, Word, tokens_after}
+use Rattle.cleantax_text.specs.declared.TextKind.TheVariants.{BadName, TaxonomyTwice, TaxonomyCount}
+use Rattle.cleantax_text.specs.Tokens.{Bracket, Word, tokens_after}
 use Rattle.cleantax_text.specs.Words.{is_name, is_taxonomy_name}
-use Rattle.cleantax_text.specs.Forms.{TaxonomyLine, RowLine, form_of, row_form}
+use Rattle.cleantax_text.specs.Forms.{RowLine, form_of, row_form}
 use Rattle.cleantax_text.specs.Canonical.{spaced}
-use Rattle.cleantax_text.specs.Reading.{Place, InTaxonomy, Reading, fail_if, with_taxonomy, concepts_before, last_number, last_forest, with_forest, after_row, after_form}
-use Rattle.cleantax_text.proofs.NamedLemmas.{IsClean, IsConceptName, IsTaxonomyName}
-use Rattle.cleantax_text.proofs.ScanLemmas.{IsPrinted, printed_append, printed_low, printed_name, printed_spaced, Reads, reads_nothing, reads_more, reads_line, IsWord, EndsWord, scan_word, scan_spaced, spaced_ends, words_before, word_of_name}
+use Rattle.cleantax_text.specs.Reading.{InTaxonomy, Reading, fail_if, with_taxonomy, concepts_before, last_number, last_forest, with_forest, after_form}
+use Rattle.cleantax_text.proofs.NamedLemmas.{IsConceptName, IsTaxonomyName}
+use Rattle.cleantax_text.proofs.ScanLemmas.{IsPrinted, printed_append, printed_low, printed_name, printed_spaced, Reads, reads_nothing, reads_more, reads_line, IsWord, scan_word, scan_spaced, spaced_ends, words_before, word_of_name}
 use Rattle.cleantax_text.proofs.RegrowLemmas.{HasNames, names_none, names_more, HasRow, row_more, rows_none, rows_next, rows_all}
 use Rattle.cleantax_text.proofs.PieceLemmas.{pieces_next}
 
@@ -86,9 +82,6 @@ module _ (ids : List (List ℕ)) (before : List Trees) where
       (ap (after_form (growing g)) (row_read name kids n ks) ∙ row_grows g next name kids n ks e)
 
 -- the lines of a forest: for each concept, and for each with children
-abbrev pub name_of : Trees → ℕ → List ℕ
-name_of f k = get_or f.names k []
-
 abbrev pub head_line : Trees → ℕ → List ℕ
 head_line f k = row_line (name_of f k) [] ++ 10 ∷ []
 

@@ -1,23 +1,22 @@
 -- A printed line, and its tokens.
-use Rattle.std.proofs.Common.{◌≡◌, ◌+◌, ◌<◌, ◌≤◌, ◌==◌, ◌||◌, ℕ, suc, Bool, true, false, not, List, [], ◌∷◌, ◌++◌, Option, None, Some, Result, Ok, Err, length, map, take, get_or, refl, sym, ap, subst, ◌∙◌, inl, inr, arith, append_assoc, IsUtf8}
+use Rattle.std.proofs.Common.{◌≡◌, ◌+◌, ◌<◌, ◌≤◌, ◌==◌, ◌||◌, ℕ, Bool, true, false, not, List, [], ◌∷◌, ◌++◌, Some, Ok, length, map, refl, sym, ap, ◌∙◌, arith, append_assoc, IsUtf8}
 use Rattle.std.specs.Prelude.{option_map, nat_le, ◌&&◌, ◌||◌}
 use Rattle.std.specs.List.{list_all, AllByRecursion, position_or_len, before_first}
-use Rattle.std.proofs.lemmas.Bool.{and_parts, and_from, eqb-true, ne_eqb, leb-true, cases_lt, ltb-true, not-true, true≢false}
+use Rattle.std.proofs.lemmas.Bool.{and_parts, and_from, ne_eqb, leb-true, not-true, true≢false}
 use Rattle.std.proofs.lemmas.List.{append-nil, take_all}
 use Rattle.std.proofs.lemmas.List.Folds.{list_all-append}
 use Rattle.std.proofs.lemmas.List.Splits.{slice_split_at}
-use Rattle.std.proofs.lemmas.List.Sums.{AllPass-from_list_all, prefix_len_is}
-use Rattle.std.proofs.lemmas.Str.{IsUtf8-nil, IsUtf8-append, IsUtf8-from_is_utf8, IsUtf8-from_ascii}
+use Rattle.std.proofs.lemmas.List.Sums.{AllPass-from_list_all}
+use Rattle.std.proofs.lemmas.Str.{IsUtf8-nil, IsUtf8-append, IsUtf8-from_ascii}
 use Rattle.std.proofs.lemmas.Str.Ascii.{IsAscii-from_all}
-use Rattle.std.proofs.lemmas.List.Elements.{All-from_recursion, All-weaker}
-use Rattle.cleantax_text.specs.declared.TextKind.{TextKind}
-use Rattle.cleantax_text.specs.Tokens.{Token, Bracket, Word, ended, is_line_end, is_hash, is_blank, is_bracket, lines_of, without_return, bare, tokens_after, tokens_of}
+use Rattle.std.proofs.lemmas.List.Elements.{All-weaker}
+use Rattle.cleantax_text.specs.Tokens.{Bracket, Word, is_line_end, is_hash, is_blank, is_bracket, lines_of, without_return, bare, tokens_after}
 use Rattle.cleantax_text.specs.Words.{is_name_byte, is_name}
 use Rattle.cleantax_text.specs.Forms.{form_of, words_to}
 use Rattle.cleantax_text.specs.Views.{ends_word}
 use Rattle.cleantax_text.specs.Canonical.{spaced}
-use Rattle.cleantax_text.specs.Reading.{Reading, after_form, after_line, after_lines, and_then}
-use Rattle.cleantax_text.proofs.NamedLemmas.{is_plain, is_word_byte, IsClean, IsConceptName}
+use Rattle.cleantax_text.specs.Reading.{Reading, after_form, after_lines, and_then}
+use Rattle.cleantax_text.proofs.NamedLemmas.{is_plain, is_word_byte, IsClean}
 
 -- a byte that may stand in a printed line: no control byte and no hash
 abbrev pub is_printed : ℕ → Bool
@@ -42,9 +41,6 @@ low_utf8 xs e = IsUtf8-from_ascii xs (IsAscii-from_all xs (All-weaker (λ b. is_
 
 pub printed_low : (xs : List ℕ) → list_all is_printed xs ≡ true → list_all is_low xs ≡ true → IsPrinted xs
 printed_low xs e f = record { bytes = e; utf8 = low_utf8 xs f }
-
-printed_byte : (a b c : Bool) → a ≡ true → b ≡ true → (a && b) ≡ true
-printed_byte a b c e f = rw (e, f) refl
 
 named_bytes : (xs : List ℕ) → list_all is_name_byte xs ≡ true → list_all is_word_byte xs ≡ true → list_all is_printed xs ≡ true
 named_bytes [] e f = refl

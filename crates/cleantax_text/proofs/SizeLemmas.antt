@@ -1,8 +1,8 @@
 -- How many concepts a row leaves.
-use Rattle.std.proofs.Common.{◌≡◌, ◌+◌, ◌<◌, ◌≤◌, ℕ, List, [], ◌∷◌, ◌++◌, length, Result, Ok, Err, refl, sym, ap, ◌∙◌, arith, inl, inr, subst}
+use Rattle.std.proofs.Common.{◌≡◌, ◌+◌, ◌≤◌, ℕ, List, [], ◌∷◌, length, Result, Ok, Err, refl, ap, ◌∙◌, arith, inl, inr, subst}
 use Rattle.std.proofs.lemmas.List.{length_push}
 use Rattle.taxon_tree.specs.Trees.{Trees}
-use Rattle.taxon_tree.specs.Row.{and_then, with_name, with_link, with_root, with_child, place_of, add_child, add_children, add_row}
+use Rattle.taxon_tree.specs.Row.{and_then, with_name, with_link, place_of, add_child, add_children, add_row}
 use Rattle.taxon_tree.specs.declared.ForestFault.{ForestFault}
 use Rattle.taxon_tree.proofs.RowLemmas.{with_name-Ok, with_link-Ok}
 

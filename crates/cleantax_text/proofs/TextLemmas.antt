@@ -1,6 +1,6 @@
 -- A whole text, line by line.
-use Rattle.std.proofs.Common.{◌≡◌, ◌+◌, ◌<◌, ℕ, Bool, true, false, List, [], ◌∷◌, length, Option, Some, None, Result, Ok, Err, IfSome, IfNone, refl, sym, ap, ◌∙◌, arith}
-use Rattle.std.specs.Prelude.{if◌then◌else◌, nat_lt}
+use Rattle.std.proofs.Common.{◌≡◌, ◌+◌, ℕ, Bool, true, false, List, [], ◌∷◌, length, Option, Some, None, Result, Ok, Err, IfSome, IfNone, refl, ap, ◌∙◌}
+use Rattle.std.specs.Prelude.{nat_lt}
 use Rattle.std.proofs.lemmas.Str.{utf8_valid_len-IsUtf8}
 use Rattle.std.specs.Borrow.{Bor}
 use Rattle.std.specs.Str.Lossy.{utf8_valid_len}
@@ -9,7 +9,7 @@ use Rattle.constraint_set.specs.Build.{problem_of}
 use Rattle.cleantax_text.specs.declared.TextKind.{TextKind}
 use Rattle.cleantax_text.specs.Tokens.{lines_of, without_mark}
 use Rattle.cleantax_text.specs.Reading.{Reading, nothing_read, after_line, after_lines, and_then, at_end, text_result}
-use Rattle.cleantax_text.specs.Whole.{marked_reading, with_two, text_reading, built, lines_left, length_left}
+use Rattle.cleantax_text.specs.Whole.{with_two, text_reading, built, lines_left}
 
 -- the first line and what is left
 pub lines_cut : (text line : List ℕ) (rest : Option (Bor (List ℕ))) → IfSome rest (λ r. lines_of text ≡ line ∷ lines_of r.now) → IfNone rest (lines_of text ≡ line ∷ []) → lines_of text ≡ line ∷ lines_left rest

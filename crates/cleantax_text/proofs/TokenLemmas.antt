@@ -1,9 +1,9 @@
 -- The first token of a line.
-use Rattle.std.proofs.Common.{◌≡◌, ◌+◌, ◌<◌, ◌≤◌, ◌==◌, ℕ, suc, Bool, true, false, not, ◌||◌, List, [], ◌∷◌, ◌++◌, length, take, drop, get_or, refl, sym, ap, ◌∙◌, arith, append_assoc}
-use Rattle.std.proofs.lemmas.List.{append-nil, length-drop}
+use Rattle.std.proofs.Common.{◌≡◌, ◌<◌, ◌≤◌, ℕ, suc, Bool, true, false, not, List, [], ◌∷◌, ◌++◌, length, take, drop, refl, sym, ap, ◌∙◌, arith, append_assoc}
+use Rattle.std.proofs.lemmas.List.{append-nil}
 use Rattle.std.specs.List.{position_or_len}
 use Rattle.std.proofs.lemmas.List.Sums.{prefix_len-le-length}
-use Rattle.cleantax_text.specs.Tokens.{Token, Bracket, Word, ended, is_blank, is_bracket, tokens_after, tokens_of}
+use Rattle.cleantax_text.specs.Tokens.{Bracket, Word, ended, is_blank, is_bracket, tokens_after}
 use Rattle.cleantax_text.specs.Views.{ends_word, is_no_blank, StartsToken}
 
 -- a word is cut where it ends

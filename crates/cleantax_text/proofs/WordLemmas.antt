@@ -1,5 +1,5 @@
 -- References, and the set of the relations that words stand for.
-use Rattle.std.proofs.Common.{◌≡◌, ◌+◌, ◌-◌, ◌<◌, ◌≤◌, take, drop, get_or, ◌==◌, ℕ, suc, Bool, true, false, not, ◌||◌, List, [], ◌∷◌, ◌++◌, Option, None, Some, length, map, refl, sym, ap, ◌∙◌, arith, append_assoc}
+use Rattle.std.proofs.Common.{◌≡◌, ◌+◌, ◌-◌, ◌<◌, ◌≤◌, take, drop, get_or, ℕ, Bool, true, false, ◌||◌, List, [], ◌∷◌, ◌++◌, Option, None, Some, length, refl, sym, ap, ◌∙◌, arith, append_assoc}
 use Rattle.std.specs.Prelude.{option_map, option_and_then, bytes_eq, nat_le, ◌&&◌}
 use Rattle.std.specs.Borrow.{Bor}
 use Rattle.std.proofs.lemmas.List.{append-nil, take_all}
@@ -12,7 +12,6 @@ use Rattle.rcc5_core.specs.RelationSet.{no_rels, adding}
 use Rattle.cleantax_text.specs.declared.words.Reference.{Reference}
 use Rattle.cleantax_text.specs.Words.{is_dot, is_name, is_name_byte, reference_of, references_of, relation_of_word, set_of_words}
 use Rattle.cleantax_text.specs.Views.{words_meant, reference_meant, references_meant, onto_references, set_onto}
-use Rattle.cleantax_text.proofs.FormLemmas.{words_meant_push}
 
 -- a word of a length that no name has
 pub name_short : (word : List ℕ) → (nat_le 1 (length word) && nat_le (length word) 128) ≡ false → is_name word ≡ false

@@ -1,5 +1,5 @@
 -- The canonical text of a problem.
-use Rattle.std.specs.Prelude.{ℕ, ◌==◌, List, [], ◌∷◌, ◌++◌, length, map, filter, flat_map, slice_index_or, true, false, if◌then◌else◌, codes}
+use Rattle.std.specs.Prelude.{ℕ, ◌==◌, List, [], ◌∷◌, ◌++◌, length, map, filter, flat_map, true, false, if◌then◌else◌, codes}
 use Rattle.std.specs.List.{range_with_len}
 use Rattle.rcc5_core.specs.declared.Rel.{Rel}
 use Rattle.rcc5_core.specs.declared.Rel.TheVariants.{Equals, Includes, IncludedIn, Overlaps, Disjoint}
@@ -9,18 +9,15 @@ use Rattle.rcc5_core.specs.RelationSet.{has}
 use Rattle.world_model.specs.declared.Articulation.{Articulation}
 use Rattle.world_model.specs.declared.Articulation.TheVariants.{Pair, Sum}
 use Rattle.world_model.specs.Problem.{Problem, concepts, owner_of, children_of}
+use Rattle.constraint_set.specs.Readers.{taxonomy_of, name_of}
 
 -- pieces with a space before each
 abbrev pub spaced : List (List ℕ) → List ℕ
 spaced pieces = flat_map (λ piece. 32 ∷ piece) pieces
 
--- the name of a concept
-abbrev pub name_of : Problem → ℕ → List ℕ
-name_of p c = slice_index_or p.names c []
-
 -- ID.NAME
 abbrev pub concept_text : Problem → ℕ → List ℕ
-concept_text p c = slice_index_or p.taxonomies (owner_of p c) [] ++ 46 ∷ name_of p c
+concept_text p c = taxonomy_of p (owner_of p c) ++ 46 ∷ name_of p c
 
 -- the word that is printed for a relation
 abbrev pub word_of : Rel → List ℕ
@@ -62,7 +59,7 @@ parents_in p which = filter (λ c. if length (children_of p c) == 0 then false e
 -- a taxonomy: its line, a line for each concept, and a row for each concept with children
 abbrev pub taxonomy_text : Problem → ℕ → List ℕ
 taxonomy_text p which =
-    codes "taxonomy " ++ slice_index_or p.taxonomies which [] ++ codes "\n" ++
+    codes "taxonomy " ++ taxonomy_of p which ++ codes "\n" ++
     flat_map (λ c. codes "(" ++ name_of p c ++ codes ")\n") (concepts_in p which) ++
     flat_map (row_text p) (parents_in p which)
 

@@ -1,7 +1,7 @@
 -- Small texts, and what they say.
-use Rattle.std.specs.Prelude.{◌≡◌, ℕ, true, List, [], ◌∷◌, ◌++◌, Result, Ok, Err, refl, codes}
+use Rattle.std.specs.Prelude.{◌≡◌, ℕ, true, List, Err, refl, codes}
 use Rattle.world_model.specs.declared.Switches.{Switches}
-use Rattle.cleantax_text.specs.declared.TextKind.TheVariants.{NotUtf8, BadLine, UnknownRelation, UnknownConcept, TaxonomyCount, TwoParents, ChildTwice, Cycle, SameTaxonomy, PartTwice}
+use Rattle.cleantax_text.specs.declared.TextKind.TheVariants.{BadLine, UnknownRelation, TaxonomyCount, TwoParents, ChildTwice, Cycle, SameTaxonomy, PartTwice}
 use Rattle.taxon_tree.specs.Row.{with_name, with_link}
 use Rattle.taxon_tree.specs.Ancestry.{is_ancestor, decided}
 use Rattle.cleantax_text.specs.declared.TextKind.{TextKind}

@@ -1,5 +1,5 @@
 -- What the reader's state means, and what it keeps from line to line.
-use Rattle.std.specs.Prelude.{◌≡◌, ◌<◌, ◌≤◌, ◌-◌, ◌∷◌, ◌++◌, Result, ℕ, Bool, true, false, List, [], length, map, All, IsTrue, sum_by}
+use Rattle.std.specs.Prelude.{◌≡◌, ◌<◌, ◌≤◌, ◌-◌, ◌∷◌, ◌++◌, Result, ℕ, true, false, List, [], length, map, All, IsTrue, sum_by}
 use Rattle.std.specs.List.{list_all}
 use Rattle.taxon_tree.specs.Trees.{Trees, IsForest}
 use Rattle.taxon_tree.specs.Row.{add_row}

@@ -3,7 +3,8 @@ use Rattle.std.specs.Prelude.{ℕ, ◌==◌, List, [], ◌++◌, length, flat_ma
 use Rattle.std.specs.List.{range_with_len}
 use Rattle.world_model.specs.Problem.{Problem, owner_of, children_of, concept_count}
 use Rattle.world_model.specs.declared.Articulation.{Articulation}
-use Rattle.cleantax_text.specs.Canonical.{concept_text, name_of, row_text, taxonomy_text, articulation_text}
+use Rattle.constraint_set.specs.Readers.{name_of}
+use Rattle.cleantax_text.specs.Canonical.{concept_text, row_text, taxonomy_text, articulation_text}
 
 -- the line of a concept in this taxonomy, and nothing for one that isn't in it
 abbrev pub heading : Problem → ℕ → ℕ → List ℕ

@@ -1,5 +1,5 @@
 -- What a text says: a problem, or its first fault with its line.
-use Rattle.std.specs.Prelude.{◌≡◌, ℕ, ◌+◌, ◌-◌, ◌==◌, nat_lt, nat_le, Bool, true, false, not, ◌||◌, List, [], ◌∷◌, ◌++◌, length, map, take, sum_by, count_by, position, slice_set, slice_index_or, Option, Some, None, option_map, option_and_then, Result, Ok, Err, if◌then◌else◌, bytes_eq}
+use Rattle.std.specs.Prelude.{◌≡◌, ℕ, ◌+◌, ◌-◌, ◌==◌, nat_lt, nat_le, Bool, true, false, not, List, [], ◌∷◌, ◌++◌, length, take, sum_by, count_by, position, slice_set, slice_index_or, Option, Some, None, option_map, option_and_then, Result, Ok, Err, if◌then◌else◌, bytes_eq}
 use Rattle.std.specs.List.{list_all, list_any}
 use Rattle.std.specs.Str.Lossy.{utf8_valid_len}
 use Rattle.rcc5_core.specs.declared.RelSet.{RelSet}
@@ -13,6 +13,7 @@ use Rattle.world_model.specs.declared.Articulation.{Articulation}
 use Rattle.world_model.specs.declared.Articulation.TheVariants.{Pair, Sum}
 use Rattle.world_model.specs.declared.Switches.{Switches}
 use Rattle.constraint_set.specs.Build.{size_of, problem_of}
+use Rattle.constraint_set.specs.Facts.{all_different}
 use Rattle.cleantax_text.specs.declared.TextKind.{TextKind}
 use Rattle.cleantax_text.specs.declared.TextKind.TheVariants.{NotUtf8, BadLine, BadName, UnknownRelation, EmptyBraces, RowOutsideTaxonomy, ArticulationOutside, TaxonomyTwice, TaxonomyCount, UnknownConcept, SameTaxonomy, TwoParents, ChildTwice, Cycle, TooManyConcepts, TooManyArticulations, TooLong, NoMemory, PartTwice}
 use Rattle.cleantax_text.specs.Tokens.{without_mark, is_line_end, lines_of, tokens_of}
@@ -112,11 +113,6 @@ with_articulation r articulation =
     fail_if (nat_le 4096 (length r.articulations)) TooManyArticulations
     (Ok (record r { articulations = r.articulations ++ articulation ∷ [] }))
 
--- whether a number stands twice in a list
-abbrev pub has_repeat : List ℕ → Bool
-has_repeat [] = false
-has_repeat (x ∷ xs) = list_any (λ y. x == y) xs || has_repeat xs
-
 -- an entry on two concepts
 abbrev pub after_pair : Reading → List ℕ → List (List ℕ) → List ℕ → Result Reading TextKind
 after_pair r left relation right =
@@ -139,7 +135,7 @@ after_sum r whole parts =
     need (concept_number r a) UnknownConcept (λ i.
     need (concept_numbers r bs) UnknownConcept (λ js.
     fail_if (list_any (λ b. bytes_eq a.0 b.0) bs) SameTaxonomy
-    (fail_if (has_repeat js) PartTwice
+    (fail_if (not (all_different js)) PartTwice
     (with_articulation r (Sum i js))))))))
 
 -- what a line makes of what was read before, or its first fault

@@ -1,5 +1,5 @@
 -- A text as lines, and a line as tokens.
-use Rattle.std.specs.Prelude.{ℕ, ◌==◌, Bool, true, false, ◌||◌, List, [], ◌∷◌, ◌++◌, drop, if◌then◌else◌, nat_eq, codes}
+use Rattle.std.specs.Prelude.{ℕ, ◌==◌, Bool, ◌||◌, List, [], ◌∷◌, ◌++◌, drop, if◌then◌else◌, nat_eq, codes}
 use Rattle.std.specs.List.{list_any, slice_split, before_first, starts_with}
 
 -- the bytes EF BB BF, which may stand before a text

@@ -9,6 +9,7 @@ ghost use Rattle.cleantax_text.specs.declared.TextKind.TheVariants.{NoMemory};
 
 mod forms;
 mod lines;
+mod naming;
 mod print;
 mod reader;
 mod text;
@@ -16,6 +17,7 @@ mod tokens;
 mod words;
 
 pub use crate::print::{articulation_text, concept_text, print_problem};
+pub use crate::text::MAX_TEXT_LEN;
 use constraint_set::Problem;
 use std::alloc::{AllocError, Global};
 use thiserror::Error;

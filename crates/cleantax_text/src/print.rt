@@ -6,7 +6,8 @@ ghost use Rattle.world_model.specs.Problem.{concept_count, owner_of, children_of
 ghost use Rattle.world_model.specs.declared.Articulation.{Articulation};
 ghost use Rattle.world_model.specs.declared.Articulation.TheVariants.{Sum};
 ghost use Rattle.constraint_set.specs.Facts.{IsAsRead};
-ghost use Rattle.cleantax_text.specs.Canonical.{concept_text, name_of, word_of, words_text, set_text, spaced, articulation_text, row_text, taxonomy_text, canonical_text};
+ghost use Rattle.constraint_set.specs.Readers.{name_of};
+ghost use Rattle.cleantax_text.specs.Canonical.{concept_text, word_of, words_text, set_text, spaced, articulation_text, row_text, taxonomy_text, canonical_text};
 ghost use Rattle.cleantax_text.specs.ReadsBack.{ReadsBack};
 ghost use Rattle.cleantax_text.specs.Pieces.{heading, headings, family, families, taxonomy_pieces, taxonomies_text, pair_text, line_of};
 
@@ -27,7 +28,7 @@ fn owner_within(problem: &Problem, concept: u32) -> u32
     ensures owner { result ≡ owner_of problem.now concept }
     ensures within { result < length problem.now.taxonomies }
 {
-    let _count = problem.taxonomy_count();
+    problem.facts();
     problem.owner(concept)
 }
 
@@ -36,7 +37,7 @@ fn children_within(problem: &Problem, concept: u32) -> &[u32]
     ensures children { result.now ≡ children_of problem.now concept }
     ensures within { All (λ c. c < concept_count problem.now) result.now }
 {
-    let _count = problem.taxonomy_count();
+    problem.facts();
     problem.children(concept)
 }
 

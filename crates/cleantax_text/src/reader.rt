@@ -1,23 +1,23 @@
 //! What the lines of a text give, one after the other.
 ghost use Rattle.std.specs.Prelude.{◌≡◌, ◌≢◌, ◌<◌, ◌≤◌, true, length, map, sum_by, position, bytes_eq, slice_index_or, slice_set, Ok, Err, OnOk, IfOk, IfErr, IfSome, option_map};
-ghost use Rattle.std.specs.List.{list_any, list_all};
+ghost use Rattle.std.specs.List.{list_any};
 ghost use Rattle.taxon_tree.specs.Row.{add_row};
 ghost use Rattle.taxon_tree.specs.declared.ForestFault.TheVariants as forest;
 ghost use Rattle.cleantax_text.specs.declared.TextKind.TheVariants.{NoMemory};
 ghost use Rattle.constraint_set.specs.Build.{size_of};
 ghost use Rattle.taxon_tree.specs.Trees.{no_trees, number_of};
-ghost use Rattle.cleantax_text.specs.Words.{is_name};
 ghost use Rattle.cleantax_text.specs.Forms.{TaxonomyLine};
-ghost use Rattle.cleantax_text.specs.Reading.{nothing_read, in_taxonomy, in_articulations, with_taxonomy, concepts_before, concept_number, kind_of, with_forest, after_row, concept_numbers, has_repeat, pair_of, with_articulation, after_pair, after_sum, after_form, after_line};
+ghost use Rattle.cleantax_text.specs.Reading.{nothing_read, in_taxonomy, in_articulations, with_taxonomy, concepts_before, concept_number, kind_of, with_forest, after_row, concept_numbers, pair_of, with_articulation, after_pair, after_sum, after_form, after_line};
 ghost use Rattle.cleantax_text.specs.Views.{words_meant, reference_meant, references_meant, form_meant, IsWell};
 ghost use Rattle.cleantax_text.specs.Kept.{meant, IsKept, row_of, with_one_more, among_articulations};
 
 use crate::TextKind;
 use crate::forms::{Form, form_of};
+use crate::naming::{are_different, are_names, copies, is_among, is_taxonomy_among, place_of};
 use crate::words::{
-    Reference, is_name, is_same, is_taxonomy_name, reference_of, references_of, set_of_words,
+    Reference, is_same, is_taxonomy_name, reference_of, references_of, set_of_words,
 };
-use indexmap::IndexSet;
+use constraint_set::{MAX_ARTICULATIONS, MAX_CONCEPTS, MAX_TAXONOMIES};
 use rcc5_core::RelSet;
 use std::alloc::{AllocError, Global};
 use taxon_tree::{Forest, ForestFault};
@@ -43,7 +43,7 @@ pub(crate) struct Reader {
 
 // How many concepts these forests have.
 fn count_concepts(forests: &[Forest]) -> u32
-    requires { sum_by size_of forests.now ≤ 1024 }
+    requires { sum_by size_of forests.now ≤ MAX_CONCEPTS }
     ensures { result ≡ sum_by size_of forests.now }
 {
     let mut count = 0;
@@ -51,49 +51,6 @@ fn count_concepts(forests: &[Forest]) -> u32
         count += forest.len();
     }
     count
-}
-
-#[tactic(auto, using(crate::proofs::WordLemmas::list_all_words))]
-fn are_names(words: &[&[u8]]) -> bool
-    ensures { result ≡ list_all is_name (words_meant words.now) }
-{
-    all_are_names(words)
-}
-
-fn all_are_names(words: &[&[u8]]) -> bool
-    ensures { result ≡ list_all (λ word. is_name word.now) words.now }
-{
-    words.iter().all(|word| is_name(word))
-}
-
-// The names as they are kept.
-fn copies(alloc: Global, words: &[&[u8]]) -> Result<Vec<Vec<u8>>, AllocError>
-    ensures { IfOk result (λ names. map (λ v. v.items) names.items ≡ words_meant words.now) }
-{
-    let mut names = Vec::new(alloc);
-    let mut rest = words;
-    while let [word, after @ ..] = rest {
-        names.push(Vec::from_slice(alloc, word)?)?;
-        rest = after;
-    }
-    Ok(names)
-}
-
-// The place of a name among others.
-fn place_of(names: &[Vec<u8>], name: &[u8]) -> Option<usize>
-    ensures place { result ≡ position (bytes_eq name.now) (map (λ v. v.items) names.now) }
-    ensures within { IfSome result (λ at. at < length names.now) }
-{
-    first_same(names, name)
-}
-
-fn first_same(names: &[Vec<u8>], name: &[u8]) -> Option<usize>
-    ensures place { result ≡ position (λ known. bytes_eq name.now known.items) names.now }
-    ensures within { IfSome result (λ at. at < length names.now) }
-{
-    names
-        .iter()
-        .position(|known| is_same(name, known.as_slice()))
 }
 
 impl Reader {
@@ -131,7 +88,7 @@ impl Reader {
     fn concept_number(&self, reference: Reference<'_>) -> Option<u32>
         requires { IsKept (meant self.now) }
         ensures number { result ≡ concept_number (meant self.now) (reference_meant reference.entry) }
-        ensures within { IfSome result (λ c. c < 1024) }
+        ensures within { IfSome result (λ c. c < MAX_CONCEPTS) }
     {
         let which = self.find_id(reference.taxonomy)?;
         let concept = self.find_in(which, reference.concept)?;
@@ -185,7 +142,7 @@ impl Reader {
         if self.has_id(id) {
             return Err(TextKind::TaxonomyTwice);
         }
-        if self.ids.len() >= 8 {
+        if self.ids.len() >= MAX_TAXONOMIES {
             return Err(TextKind::TaxonomyCount);
         }
         Ok(self.add_taxonomy(id)?)
@@ -200,7 +157,7 @@ impl Reader {
         ensures fault { IfErr result (λ k. k ≢ NoMemory → with_forest (meant self.old) (row_of (meant self.old) (map (λ v. v.items) names.now)) ≡ Err k) }
     {
         let last = self.forests.len() - 1;
-        let limit = 1024 - self.concepts_before(last);
+        let limit = MAX_CONCEPTS - self.concepts_before(last);
         add_row_at(self.forests.as_mut_slice(), last, names, limit)?;
         Ok(())
     }
@@ -261,7 +218,7 @@ impl Reader {
         ensures ok { OnOk result (with_articulation (meant self.old) articulation ≡ Ok (meant self.new)) }
         ensures fault { IfErr result (λ k. k ≢ NoMemory → with_articulation (meant self.old) articulation ≡ Err k) }
     {
-        if self.articulations.len() >= 4096 {
+        if self.articulations.len() >= MAX_ARTICULATIONS {
             return Err(TextKind::TooManyArticulations);
         }
         Ok(self.push_articulation(articulation)?)
@@ -310,7 +267,7 @@ impl Reader {
         if is_taxonomy_among(a.taxonomy, bs.as_slice()) {
             return Err(TextKind::SameTaxonomy);
         }
-        if has_repeat(self.alloc, js.as_slice())? {
+        if !are_different(self.alloc, js.as_slice())? {
             return Err(TextKind::PartTwice);
         }
         Ok(Articulation::Sum {
@@ -370,44 +327,6 @@ impl Reader {
         let form = form_of(self.alloc, line)?;
         self.take_form(form)
     }
-}
-
-fn is_among(names: &[Vec<u8>], name: &[u8]) -> bool
-    ensures { result ≡ list_any (bytes_eq name.now) (map (λ v. v.items) names.now) }
-{
-    has_same(names, name)
-}
-
-fn has_same(names: &[Vec<u8>], name: &[u8]) -> bool
-    ensures { result ≡ list_any (λ known. bytes_eq name.now known.items) names.now }
-{
-    names.iter().any(|known| is_same(name, known.as_slice()))
-}
-
-// Whether one of the references is to this taxonomy.
-fn is_taxonomy_among(taxonomy: &[u8], references: &[Reference<'_>]) -> bool
-    ensures { result ≡ list_any (λ b. bytes_eq taxonomy.now b.0) (references_meant references.now) }
-{
-    has_taxonomy(taxonomy, references)
-}
-
-fn has_taxonomy(taxonomy: &[u8], references: &[Reference<'_>]) -> bool
-    ensures { result ≡ list_any (λ b. bytes_eq taxonomy.now b.taxonomy.now) references.now }
-{
-    references.iter().any(|b| is_same(taxonomy, b.taxonomy))
-}
-
-// Whether a number stands twice.
-fn has_repeat(alloc: Global, numbers: &[u32]) -> Result<bool, AllocError>
-    ensures { IfOk result (λ b. b ≡ has_repeat numbers.now) }
-{
-    let mut seen = IndexSet::new(alloc);
-    for number in numbers {
-        if !seen.insert(*number)? {
-            return Ok(true);
-        }
-    }
-    Ok(false)
 }
 
 // The articulation of two concepts, turned round where the left one has the greater number.

@@ -17,6 +17,9 @@ use std::alloc::{AllocError, Global};
 use std::str;
 use world_model::Switches;
 
+/// A text has no more bytes than these.
+pub const MAX_TEXT_LEN: usize = 1_048_576;
+
 // How many bytes from the first on are UTF-8.
 #[tactic(auto, using(crate::proofs::TextLemmas::utf8_rules))]
 fn valid_len(bytes: &[u8]) -> usize
@@ -62,7 +65,7 @@ fn take_numbered(reader: &mut Reader, number: u32, line: &[u8]) -> Result<(), Te
 // What the lines of a text give.
 #[tactic(auto, using(crate::proofs::TextLemmas::loop_rules))]
 fn read_lines(alloc: Global, text: &[u8]) -> Result<Reader, TextFault>
-    requires { length text.now ≤ 1048576 }
+    requires { length text.now ≤ MAX_TEXT_LEN }
     ensures ok { IfOk result (λ r. after_lines 1 nothing_read (lines_of text.now) ≡ Ok (meant r)) }
     ensures fault { IfErr result (λ f. f.kind ≢ NoMemory → after_lines 1 nothing_read (lines_of text.now) ≡ Err (f.line, f.kind)) }
     ensures kept { IfOk result (λ r. IsKept (meant r)) }
@@ -81,7 +84,7 @@ fn read_lines(alloc: Global, text: &[u8]) -> Result<Reader, TextFault>
 
 // What a text gives that isn't too long.
 fn read_marked(alloc: Global, bytes: &[u8]) -> Result<Reader, TextFault>
-    requires { length bytes.now ≤ 1048576 }
+    requires { length bytes.now ≤ MAX_TEXT_LEN }
     ensures ok { IfOk result (λ r. marked_reading bytes.now ≡ Ok (meant r)) }
     ensures fault { IfErr result (λ f. f.kind ≢ NoMemory → marked_reading bytes.now ≡ Err (f.line, f.kind)) }
     ensures kept { IfOk result (λ r. IsKept (meant r)) }
@@ -103,7 +106,7 @@ pub(crate) fn read_text(alloc: Global, bytes: &[u8]) -> Result<Reader, TextFault
     ensures kept { IfOk result (λ r. IsKept (meant r)) }
     ensures two { IfOk result (λ r. 2 ≤ length (meant r).ids) }
 {
-    if bytes.len() > 1_048_576 {
+    if bytes.len() > MAX_TEXT_LEN {
         return Err(TextFault {
             line: 0,
             kind: TextKind::TooLong,

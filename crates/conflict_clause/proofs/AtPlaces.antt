@@ -1,13 +1,13 @@
 -- What a trail says of the places of its literals.
-use Rattle.std.proofs.Common.{◌≡◌, ◌≢◌, ◌∙◌, ◌⊎◌, ℕ, zero, suc, ◌+◌, ◌-◌, ◌<◌, ◌≤◌, ◌==◌, Bool, true, false, cond, List, [], ◌∷◌, length, get_or, take, Option, Some, None, refl, sym, ap, subst, arith, inl, inr, length-take, get_or-take}
-use Rattle.std.specs.Prelude.{is_none, count_by, ◌&&◌}
-use Rattle.std.specs.List.{Contains, list_any, list_all, position_from}
-use Rattle.std.proofs.lemmas.Bool.{cases_eq, cases_lt, false≢true}
+use Rattle.std.proofs.Common.{◌≡◌, ◌∙◌, ℕ, zero, suc, ◌+◌, ◌-◌, ◌<◌, ◌≤◌, ◌==◌, Bool, true, cond, List, [], ◌∷◌, length, take, Option, Some, None, refl, sym, ap, subst, arith, inl, inr, length-take, get_or-take}
+use Rattle.std.specs.Prelude.{is_none, ◌&&◌}
+use Rattle.std.specs.List.{Contains, position_from}
+use Rattle.std.proofs.lemmas.Bool.{cases_lt}
 use Rattle.std.proofs.lemmas.List.{take_all}
 use Rattle.std.proofs.lemmas.List.Sums.{count_by_more_no, count_by_more_yes}
 use borrow.Author.Tests.{eqb-true, eq-eqb, ne_eqb}
 use Rattle.lits_core.specs.Literals.{negation_of, variable_of}
-use Rattle.lits_core.proofs.LiteralLemmas.{variable_of-negation, negation-negation}
+use Rattle.lits_core.proofs.LiteralLemmas.{variable_of-negation}
 use Rattle.watch_arena.specs.declared.places.Place.{Place}
 use Rattle.watch_arena.specs.Places.{place_at, no_place, place_of, reason_of, is_false, is_false_clause, is_assumed, level_of}
 use Rattle.watch_arena.specs.Trails.{TrailState, IsTrail}

@@ -1,21 +1,20 @@
 -- Where a search begins, and what it has shown at its end.
-use Rattle.std.proofs.Common.{◌≡◌, ◌≢◌, ◌∙◌, ◌⊎◌, ℕ, ◌+◌, ◌<◌, ◌≤◌, Bool, true, false, List, [], ◌∷◌, ◌++◌, length, get_or, reverse, Option, Some, None, refl, sym, ap, subst, arith, inl, inr}
+use Rattle.std.proofs.Common.{◌≡◌, ◌∙◌, ℕ, ◌+◌, ◌<◌, ◌≤◌, true, List, [], ◌∷◌, length, get_or, reverse, Option, Some, None, refl, sym, ap, subst, arith, inl, inr}
 use Rattle.std.specs.Prelude.{MatchOption, slice_get}
 use Rattle.std.specs.List.{Contains}
-use Rattle.std.specs.List.Sorted.{IsPermutation}
 use Rattle.std.proofs.lemmas.Bool.{cases_eq}
 use Rattle.std.proofs.lemmas.List.{reverse-reverse}
 use Rattle.std.proofs.lemmas.List.Sorted.{IsPermutation-reverse, IsPermutation-sym, Contains-permutation}
 use Rattle.lits_core.specs.Literals.{negation_of, variable_of}
-use Rattle.lits_core.specs.Derivation.{State, has_lit, hints_fault}
+use Rattle.lits_core.specs.Derivation.{has_lit, hints_fault}
 use Rattle.lits_core.proofs.LiteralLemmas.{variable_of-negation, negation-negation}
-use Rattle.clause_arena.specs.Records.{Record, record_at}
+use Rattle.clause_arena.specs.Records.{record_at}
 use Rattle.watch_arena.specs.Places.{place_at, is_false, is_false_clause}
 use Rattle.watch_arena.specs.Trails.{TrailState, IsTrail, IsConflict, AreInRange}
 use Rattle.watch_arena.proofs.ByIndex.{and_from, list_all_from}
 use Rattle.watch_arena.proofs.Watching.{contains_at}
 use Rattle.conflict_clause.specs.declared.notes.Notes.{Notes}
-use Rattle.conflict_clause.specs.Taught.{HoldsRecords, IsLiveId, IsTaught, IsLearnt, IsClosing, level_in, is_decided}
+use Rattle.conflict_clause.specs.Taught.{IsLiveId, IsTaught, IsLearnt, IsClosing, level_in}
 use Rattle.conflict_clause.specs.Search.{IsLooking, IsLower, Meets, Covers, IsSearch, IsAssumedFrom, Finds, IsArranged, is_met}
 use Rattle.conflict_clause.proofs.AtPlaces.{false_at, false_below, false_from, each_false, level_in-place, false_in_range, level-later, level-most, is_decided-at}
 use Rattle.conflict_clause.proofs.Hinted.{has_lit-Contains, has_lit-first, has_lit-rest, hints-false}

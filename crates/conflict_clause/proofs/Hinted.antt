@@ -1,9 +1,9 @@
 -- What comes of a hint whose clause has no open literals, or one.
-use Rattle.std.proofs.Common.{◌≡◌, ◌≢◌, ◌∙◌, ◌⊎◌, ℕ, Bool, true, false, not, cond, eqb, List, [], ◌∷◌, Option, Some, None, refl, sym, ap, subst, inl, inr, ⊎_elim}
+use Rattle.std.proofs.Common.{◌≡◌, ◌∙◌, ◌⊎◌, ℕ, true, false, not, eqb, List, [], ◌∷◌, Option, Some, None, refl, sym, ap, inl, inr}
 use Rattle.std.specs.Prelude.{MatchOption}
-use Rattle.std.specs.List.{Contains, list_any, list_all}
-use Rattle.std.proofs.lemmas.Bool.{cases_Bool, and_from, or_cases, or_left, or_right, false≢true, true≢false, eqb-true, eq-eqb}
-use Rattle.lits_core.specs.Derivation.{State, live_clause, has_lit, open_lits, hint_fault, named_fault, hints_fault, SameLits}
+use Rattle.std.specs.List.{Contains, list_all}
+use Rattle.std.proofs.lemmas.Bool.{cases_Bool, and_from, or_left, or_right, false≢true, true≢false, eqb-true, eq-eqb}
+use Rattle.lits_core.specs.Derivation.{State, live_clause, has_lit, open_lits, hint_of, hint_fault, named_fault, hints_fault, SameLits}
 use Rattle.lits_core.specs.declared.LineFault.{LineFault}
 use Rattle.lits_core.proofs.LiteralSets.{from_filter}
 use Rattle.lits_core.specs.Literals.{negation_of}
@@ -41,14 +41,14 @@ open-in falses clause m i =
     (parts.0, elim (cases_Bool (has_lit falses m)) [ inl on ↦ absurd (false≢true (ap not (sym on) ∙ parts.1)) | inr off ↦ off ])
 
 -- open literals that are all one literal, where the further hints have no fault after it
-one_open : (opens : List ℕ) (lit : ℕ) (further : ℕ → Option LineFault) → ((m : ℕ) → has_lit opens m ≡ true → m ≡ lit) → further lit ≡ None → hint_fault opens further ≡ None
+one_open : (opens : List ℕ) (lit : ℕ) (further : ℕ → Option LineFault) → ((m : ℕ) → has_lit opens m ≡ true → m ≡ lit) → further lit ≡ None → hint_fault (hint_of opens) further ≡ None
 one_open [] lit further h f = refl
 one_open (l ∷ opens) lit further h f =
     let first : l ≡ lit = h l (has_lit-first l opens) in
     let all : list_all (λ x. eqb x l) opens ≡ true = all_one l opens (λ m i. h m (has_lit-rest l opens m i) ∙ sym first) in
     rw all (ap further first ∙ f)
 
-no_open : (opens : List ℕ) (further : ℕ → Option LineFault) → ((m : ℕ) → has_lit opens m ≡ true → ⊥) → hint_fault opens further ≡ None
+no_open : (opens : List ℕ) (further : ℕ → Option LineFault) → ((m : ℕ) → has_lit opens m ≡ true → ⊥) → hint_fault (hint_of opens) further ≡ None
 no_open [] further h = refl
 no_open (l ∷ opens) further h = absurd (h l (has_lit-first l opens))
 

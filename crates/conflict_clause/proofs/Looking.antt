@@ -1,5 +1,5 @@
 -- What meeting literals keeps.
-use Rattle.std.proofs.Common.{◌≡◌, ◌≢◌, ◌∙◌, ◌⊎◌, ℕ, ◌+◌, ◌<◌, ◌≤◌, Bool, true, false, List, [], ◌∷◌, ◌++◌, length, get_or, set, min, Option, Some, refl, sym, ap, subst, arith, inl, inr}
+use Rattle.std.proofs.Common.{◌≡◌, ◌≢◌, ◌∙◌, ◌⊎◌, ℕ, ◌<◌, ◌≤◌, Bool, true, false, List, [], ◌∷◌, ◌++◌, length, get_or, set, min, Some, sym, ap, subst, arith, inl, inr}
 use Rattle.std.specs.List.{All, Contains}
 use Rattle.std.proofs.lemmas.Bool.{cases_Bool, cases_eq, cases_lt}
 use Rattle.std.proofs.lemmas.List.{get_or-set_other}
@@ -10,7 +10,7 @@ use Rattle.clause_arena.specs.Records.{Record, record_at}
 use Rattle.watch_arena.specs.Places.{place_at, is_false}
 use Rattle.watch_arena.specs.Trails.{TrailState, IsTrail}
 use Rattle.conflict_clause.specs.declared.notes.Notes.{Notes}
-use Rattle.conflict_clause.specs.Search.{IsNoted, IsClear, IsLooking, IsLower, Meets, is_met}
+use Rattle.conflict_clause.specs.Search.{IsNoted, IsClear, IsLooking, Meets, is_met}
 use Rattle.conflict_clause.proofs.AtPlaces.{place-once, false_below, false_from}
 
 -- the same variables are noted

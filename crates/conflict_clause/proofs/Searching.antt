@@ -1,21 +1,21 @@
 -- What looking at a place keeps.
-use Rattle.std.proofs.Common.{◌≡◌, ◌≢◌, ◌∙◌, ◌⊎◌, ℕ, ◌+◌, ◌<◌, ◌≤◌, Bool, true, false, List, [], ◌∷◌, ◌++◌, length, get_or, take, reverse, Option, Some, None, refl, sym, ap, subst, arith, inl, inr}
+use Rattle.std.proofs.Common.{◌≡◌, ◌∙◌, ℕ, ◌+◌, ◌<◌, ◌≤◌, Bool, true, false, List, [], ◌∷◌, ◌++◌, length, get_or, reverse, Some, None, refl, sym, ap, subst, arith, inl, inr}
 use Rattle.std.specs.List.{Contains}
-use Rattle.std.proofs.lemmas.Bool.{cases_eq, cases_lt, true≢false}
+use Rattle.std.proofs.lemmas.Bool.{cases_eq, true≢false}
 use Rattle.std.proofs.lemmas.List.{reverse-append}
 use Rattle.std.proofs.lemmas.List.Elements.{Contains-append_left, Contains-push, Contains-push_cases}
 use Rattle.lits_core.specs.Literals.{negation_of, variable_of}
-use Rattle.lits_core.specs.Derivation.{State, has_lit, hints_fault}
+use Rattle.lits_core.specs.Derivation.{has_lit, hints_fault}
 use Rattle.lits_core.proofs.LiteralLemmas.{variable_of-negation, negation-negation}
 use Rattle.clause_arena.specs.Records.{Record, record_at}
 use Rattle.watch_arena.specs.Places.{place_at}
 use Rattle.watch_arena.specs.Trails.{TrailState, IsTrail}
 use Rattle.conflict_clause.specs.declared.notes.Notes.{Notes}
-use Rattle.conflict_clause.specs.Taught.{HoldsRecords, IsLiveId}
-use Rattle.conflict_clause.specs.Search.{IsNoted, IsLooking, IsLower, Meets, Covers, IsSearch, IsAssumedFrom, Finds, is_met}
+use Rattle.conflict_clause.specs.Taught.{IsLiveId}
+use Rattle.conflict_clause.specs.Search.{IsLooking, Meets, Covers, IsSearch, Finds, is_met}
 use Rattle.conflict_clause.proofs.AtPlaces.{false_below}
 use Rattle.conflict_clause.proofs.Looking.{IsNoted-same}
-use Rattle.conflict_clause.proofs.Hinted.{has_lit-first, has_lit-rest, hints-false, hints-unit}
+use Rattle.conflict_clause.proofs.Hinted.{has_lit-first, has_lit-rest, hints-unit}
 
 -- one hint more, last one first
 reverse_push : (hints : List ℕ) (hint : ℕ) → reverse (hints ++ hint ∷ []) ≡ hint ∷ reverse hints

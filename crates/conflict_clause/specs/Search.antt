@@ -1,6 +1,6 @@
 -- What a search back through a trail has come to. It goes through the places from the top down, and looks at those whose
 -- variables were met.
-use Rattle.std.specs.Prelude.{◌≡◌, ℕ, ◌+◌, ◌<◌, ◌≤◌, ◌⊎◌, Bool, true, false, List, [], ◌∷◌, length, reverse, slice_index_or, Option, None, MatchOption, slice_get, Contains, All, IsPermutation, IsTrue}
+use Rattle.std.specs.Prelude.{◌≡◌, ℕ, ◌<◌, ◌≤◌, ◌⊎◌, Bool, true, false, List, ◌∷◌, length, reverse, slice_index_or, None, MatchOption, slice_get, Contains, All, IsPermutation, IsTrue}
 use Rattle.lits_core.specs.Literals.{negation_of, variable_of}
 use Rattle.lits_core.specs.Derivation.{State, has_lit, hints_fault}
 use Rattle.watch_arena.specs.Places.{place_at, is_false}

@@ -85,16 +85,6 @@ says_from_narrows p old new pair c at only narrows = record { after = λ stateme
         same_pair : (q : ℕ × ℕ) (l r : ℕ) → q.0 ≡ l → q.1 ≡ r → q ≡ (l, r)
         same_pair q l r e f = ap (λ x. (x, q.1)) e ∙ ap (λ y. (l, y)) f
 
--- nothing is said at first
-pub no_sets : (p : Problem) (sets : List (ℕ × RelSet)) → sets ≡ [] → AreSets p [] sets
-no_sets p sets none = record { each = λ k within. ap (λ s. set_at s k) none }
-
--- one more narrowing
-pub more_narrowings : (p : Problem) (narrowings : List Constraint) (i : ℕ) (old new : List (ℕ × RelSet)) (c d : Constraint) → i < length narrowings →
-    c ≡ get_or narrowings i d → AreSets p (take i narrowings) old → Says p old new (c ∷ []) → AreSets p (take (i + 1) narrowings) new
-more_narrowings p narrowings i old new c d within is sets says =
-    subst (λ cs. AreSets p cs new) (ap (λ x. take i narrowings ++ x ∷ []) is ∙ sym (take_more narrowings i d within)) (says.after (take i narrowings) sets)
-
 kept_push : (flags : List Bool) (arts : List Articulation) (b : Bool) (a : Articulation) → length flags ≡ length arts →
     kept_statements (flags ++ b ∷ []) (arts ++ a ∷ []) ≡ kept_statements flags arts ++ said_if b a
 kept_push [] [] true a e = one (as_constraint a)
@@ -135,17 +125,6 @@ pub both_said : (p : Problem) (stated narrowings : List Constraint) (kept_sets n
     AreSets p stated kept_sets → AreSets p narrowings narrowed_sets → both_of (set_at kept_sets k) (set_at narrowed_sets k) ≡ said_of (pair_at p k) (stated ++ narrowings)
 both_said p stated narrowings kept_sets narrowed_sets k within a b =
     ap (λ s. both_of s (set_at narrowed_sets k)) (a.each k within) ∙ ap (both_of (said_of (pair_at p k) stated)) (b.each k within) ∙ sym (said_of-append (pair_at p k) stated narrowings)
-
--- all narrowings are about pairs, with one more
-pub about_push : (p : Problem) (narrowings : List Constraint) (c : Constraint) → list_all (is_about_pair p) narrowings ≡ true → is_about_pair p c ≡ true → list_all (is_about_pair p) (narrowings ++ c ∷ []) ≡ true
-about_push p [] c h k = and_from (is_about_pair p c) true k refl
-about_push p (n ∷ narrowings) c h k =
-    let parts = and_parts (is_about_pair p n) (list_all (is_about_pair p) narrowings) h in
-    and_from (is_about_pair p n) (list_all (is_about_pair p) (narrowings ++ c ∷ [])) parts.0 (about_push p narrowings c parts.1 k)
-
-pub about_more : (p : Problem) (narrowings longer : List Constraint) (c : Constraint) → list_all (is_about_pair p) narrowings ≡ true → is_about_pair p c ≡ true →
-    longer ≡ narrowings ++ c ∷ [] → list_all (is_about_pair p) longer ≡ true
-about_more p narrowings longer c h k e = ap (list_all (is_about_pair p)) e ∙ about_push p narrowings c h k
 
 -- as many true flags as articulations
 pub true_flags : (arts : List Articulation) (n : ℕ) (flags : List Bool) → flags ≡ replicate n true → n ≡ length arts → flags ≡ map (λ _. true) arts

@@ -5,6 +5,7 @@ ghost use Rattle.taxon_tree.specs.Trees.{IsForest};
 ghost use Rattle.constraint_set.specs.Build.{size_of};
 ghost use Rattle.constraint_set.specs.Gather.{nothing_gathered, with_concept, with_forest};
 
+use crate::limits::MAX_CONCEPTS;
 use std::alloc::{AllocError, Global};
 use std::marker::Model;
 use taxon_tree::Forest;
@@ -46,7 +47,7 @@ impl Gathered {
         which: u32,
         forest: &Forest,
     ) -> Result<(), AllocError>
-        requires { length self.old.owners + size_of forest.now ≤ 1024 }
+        requires { length self.old.owners + size_of forest.now ≤ MAX_CONCEPTS }
         ensures ok { OnOk result (self.new ≡ with_forest self.old which forest.now) }
         ensures forest { IsForest forest.now }
     {
@@ -68,7 +69,7 @@ impl Gathered {
     ) -> Result<(), AllocError>
         requires forest { IsForest forest.now }
         requires within { concept < size_of forest.now }
-        requires few { before + size_of forest.now ≤ 1024 }
+        requires few { before + size_of forest.now ≤ MAX_CONCEPTS }
         ensures { OnOk result (self.new ≡ with_concept self.old before which forest.now concept) }
     {
         let name = Vec::from_slice(alloc, forest.name(concept))?;

@@ -4,6 +4,7 @@ ghost use Rattle.world_model.specs.Problem.{pair_count, cross_pairs};
 ghost use Rattle.world_model.specs.Node.{pair_at};
 ghost use Rattle.constraint_set.specs.Numbers.{with_owners, AscendingOwners, IsBlockEnd, AreBlockEnds, AreStarts, row, cross_row, inside_row, rows};
 
+use crate::limits::MAX_CONCEPTS;
 use std::alloc::{AllocError, Global};
 use std::marker::Model;
 
@@ -31,7 +32,7 @@ impl Model for Numbering {
 
 impl Numbering {
     pub(crate) fn new(alloc: Global, owners: Vec<u32>) -> Result<Numbering, AllocError>
-        requires few { length owners.items ≤ 1024 }
+        requires few { length owners.items ≤ MAX_CONCEPTS }
         requires ascending { AscendingOwners owners.items }
         ensures { IfOk result (λ s. s ≡ owners.items) }
     {
@@ -52,7 +53,7 @@ impl Numbering {
 
     pub(crate) fn concept_count(&self) -> u32
         ensures count { result ≡ length self.now }
-        ensures few { result ≤ 1024 }
+        ensures few { result ≤ MAX_CONCEPTS }
     {
         self.owners.len() as u32
     }
@@ -102,7 +103,7 @@ impl Numbering {
 
 // The end of each concept's taxonomy: the first concept after it that is of another one.
 fn block_ends(alloc: Global, owners: &[u32]) -> Result<Vec<u32>, AllocError>
-    requires few { length owners.now ≤ 1024 }
+    requires few { length owners.now ≤ MAX_CONCEPTS }
     requires ascending { AscendingOwners owners.now }
     ensures { IfOk result (λ ends. AreBlockEnds owners.now ends.items) }
 {
@@ -115,7 +116,7 @@ fn block_ends(alloc: Global, owners: &[u32]) -> Result<Vec<u32>, AllocError>
 
 // The first concept after this one that is of another taxonomy.
 fn block_end(owners: &[u32], concept: usize) -> u32
-    requires few { length owners.now ≤ 1024 }
+    requires few { length owners.now ≤ MAX_CONCEPTS }
     requires ascending { AscendingOwners owners.now }
     requires within { concept < length owners.now }
     ensures { IsBlockEnd owners.now concept result }
@@ -134,9 +135,9 @@ fn add_row(
     from: u32,
     to: u32,
 ) -> Result<(), AllocError>
-    requires concept { concept < 1024 }
+    requires concept { concept < MAX_CONCEPTS }
     requires order { from ≤ to }
-    requires to { to ≤ 1024 }
+    requires to { to ≤ MAX_CONCEPTS }
     ensures { OnOk result (numbered.new.items ≡ numbered.old.items ++ row concept from to) }
 {
     for other in from..to {
@@ -151,12 +152,12 @@ fn add_cross_rows(
     numbered: &mut Vec<(u16, u16)>,
     ends: &[u32],
 ) -> Result<Vec<u32>, AllocError>
-    requires few { length ends.now ≤ 1024 }
+    requires few { length ends.now ≤ MAX_CONCEPTS }
     requires within { (c : ℕ) → c < length ends.now → slice_index ends.now c ≤ length ends.now }
     requires short { length numbered.old.items ≤ 2 ^ 20 }
     ensures numbered { OnOk result (numbered.new.items ≡ numbered.old.items ++ rows (cross_row ends.now) (length ends.now)) }
     ensures starts { IfOk result (λ starts. AreStarts (cross_row ends.now) (length numbered.old.items) (length ends.now) starts.items) }
-    ensures grown { OnOk result (length numbered.new.items ≤ length numbered.old.items + 1024 * length ends.now) }
+    ensures grown { OnOk result (length numbered.new.items ≤ length numbered.old.items + MAX_CONCEPTS * length ends.now) }
 {
     let count = ends.len();
     let mut starts = Vec::with_capacity(alloc, count)?;
@@ -173,7 +174,7 @@ fn add_inside_rows(
     numbered: &mut Vec<(u16, u16)>,
     ends: &[u32],
 ) -> Result<Vec<u32>, AllocError>
-    requires few { length ends.now ≤ 1024 }
+    requires few { length ends.now ≤ MAX_CONCEPTS }
     requires after { (c : ℕ) → c < length ends.now → c < slice_index ends.now c }
     requires within { (c : ℕ) → c < length ends.now → slice_index ends.now c ≤ length ends.now }
     requires short { length numbered.old.items ≤ 2 ^ 20 }

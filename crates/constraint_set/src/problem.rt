@@ -10,6 +10,7 @@ ghost use Rattle.constraint_set.specs.Facts.{all_fit, is_said, IsBuilt};
 ghost use Rattle.constraint_set.specs.Readers.{taxonomy_of, name_of, is_sum_at, sum_places, all_sums, rule_at};
 ghost use Rattle.constraint_set.specs.Shape.{SameShape, OneShapeShares};
 
+use crate::limits::{MAX_ARTICULATIONS, MAX_CONCEPTS, MAX_TAXONOMIES};
 use crate::shape::Shape;
 use crate::statements::{Kept, Narrowed, Narrowing};
 use rcc5_core::RelSet;
@@ -57,10 +58,10 @@ impl Problem {
         switches: Switches,
     ) -> Result<Problem, AllocError>
         requires two { 2 ≤ length forests.items }
-        requires eight { length forests.items ≤ 8 }
+        requires eight { length forests.items ≤ MAX_TAXONOMIES }
         requires named { length ids.items ≡ length forests.items }
-        requires concepts { sum_by size_of forests.items ≤ 1024 }
-        requires few { length articulations.items ≤ 4096 }
+        requires concepts { sum_by size_of forests.items ≤ MAX_CONCEPTS }
+        requires few { length articulations.items ≤ MAX_ARTICULATIONS }
 
         // Numbers in range; a pair's left below its right, across taxonomies; a sum of two or more parts, none of the whole's taxonomy.
         requires fit { IsTrue (all_fit forests.items articulations.items switches) }
@@ -79,11 +80,19 @@ impl Problem {
         })
     }
 
+    /// What holds of every problem. A call does nothing: it tells the prover.
+    pub fn facts(&self)
+        ensures { IsBuilt self.now }
+    {
+        self.shape.facts();
+    }
+
     /// How many taxonomies there are. Its contract says too what holds of every problem.
     pub fn taxonomy_count(&self) -> u32
         ensures count { result ≡ length self.now.taxonomies }
         ensures built { IsBuilt self.now }
     {
+        self.facts();
         self.shape.taxonomy_count()
     }
 
@@ -249,6 +258,20 @@ impl Problem {
         ensures { result ≡ allowed self.now (pair_at self.now pair) }
     {
         self.kept.sets.at(pair).meet(self.narrowed.sets.at(pair))
+    }
+
+    /// A second problem that is equal to this one, and shares all of it.
+    pub fn copy(&self) -> Result<Problem, AllocError>
+        ensures { IfOk result (λ copy. copy ≡ self.now) }
+    {
+        let shape = self.shape.clone()?;
+        let kept = self.kept.clone()?;
+        let narrowed = self.narrowed.clone()?;
+        Ok(Problem {
+            shape,
+            kept,
+            narrowed,
+        })
     }
 
     /// The problem with other flags: just the articulations whose flag is true are kept.

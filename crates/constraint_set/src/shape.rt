@@ -11,6 +11,7 @@ ghost use Rattle.constraint_set.specs.Gather.{gathered};
 ghost use Rattle.constraint_set.specs.Shape.{shape_of};
 
 use crate::gather::Gathered;
+use crate::limits::{MAX_ARTICULATIONS, MAX_CONCEPTS};
 use crate::numbering::Numbering;
 use std::alloc::{AllocError, Global};
 use std::marker::Model;
@@ -75,9 +76,14 @@ impl Shape {
         })
     }
 
-    pub(crate) fn taxonomy_count(&self) -> u32
-        ensures count { result ≡ length self.now.taxonomies }
+    pub(crate) fn facts(&self)
         ensures made { (forests : List Trees) × IsMadeOf self.now forests }
+    {
+        let _ = &self.taxonomies;
+    }
+
+    pub(crate) fn taxonomy_count(&self) -> u32
+        ensures { result ≡ length self.now.taxonomies }
     {
         self.taxonomies.len() as u32
     }
@@ -102,7 +108,7 @@ impl Shape {
 
     pub(crate) fn articulation_count(&self) -> u32
         ensures count { result ≡ length self.now.articulations }
-        ensures few { result ≤ 4096 }
+        ensures few { result ≤ MAX_ARTICULATIONS }
     {
         self.articulations.len() as u32
     }
@@ -193,7 +199,7 @@ impl Shape {
 // The concepts of all forests.
 fn gather(alloc: Global, forests: &[Forest]) -> Result<Gathered, AllocError>
     requires eight { length forests.now ≤ 8 }
-    requires few { sum_by size_of forests.now ≤ 1024 }
+    requires few { sum_by size_of forests.now ≤ MAX_CONCEPTS }
     ensures concepts { IfOk result (λ g. g ≡ gathered forests.now) }
     ensures forests { OnOk result (All IsForest forests.now) }
 {
@@ -213,7 +219,7 @@ fn is_sum(articulation: &Articulation) -> bool
 
 // The places of the sums among articulations, in order.
 fn sum_indices(alloc: Global, articulations: &[Articulation]) -> Result<Vec<u32>, AllocError>
-    requires { length articulations.now ≤ 4096 }
+    requires { length articulations.now ≤ MAX_ARTICULATIONS }
     ensures { IfOk result (λ sums. sums.items ≡ filter (is_sum_at articulations.now) (range_with_len 0 (length articulations.now))) }
 {
     let mut sums = Vec::new(alloc);

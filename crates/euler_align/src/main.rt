@@ -44,7 +44,7 @@ fn words(rt: &HostRuntime) -> Result<Vec<String>, NoWords> {
 
 // Tells people, on standard error, what a fault of theirs means: after a usage fault the words that
 // there are, and after a refused text where it is wrong and what to do about it.
-fn explain(rt: &impl Eprint, alloc: Global, words: &[String], status: Status) -> io::Result<()> {
+fn explain(rt: &impl Eprint, alloc: Global, words: &[String], status: &Status) -> io::Result<()> {
     match status {
         Status::Usage(kind) => {
             let help = usage_help(alloc)?;
@@ -54,10 +54,11 @@ fn explain(rt: &impl Eprint, alloc: Global, words: &[String], status: Status) ->
             let Ok(request) = read_words(alloc, words) else {
                 return Ok(());
             };
-            let place = fault_place(alloc, request.input(), line)?;
-            let sentence = text_help(kind);
+            let place = fault_place(alloc, request.input(), *line)?;
+            let sentence = text_help(*kind);
             eprintln!(rt; "{place}{sentence}")
         }
+        Status::RefusedToken(kind) => eprintln!(rt; "{kind}"),
         _ => Ok(()),
     }
 }
@@ -72,6 +73,6 @@ fn main(rt: HostRuntime) -> ExitCode {
     let mut out = StdoutSink::new(&rt);
     let status = run(alloc, &words, &mut store, &mut out);
     // How the run ended doesn't hang on whether this could be written.
-    let _ = explain(&rt, alloc, &words, status);
+    let _ = explain(&rt, alloc, &words, &status);
     ExitCode::from(status.code())
 }

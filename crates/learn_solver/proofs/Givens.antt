@@ -13,7 +13,7 @@ use Rattle.learn_solver.specs.Solving.{SolverState, AddsGiven, IsSolver}
 use Rattle.learn_solver.specs.States.{state_of, idle_of}
 use Rattle.learn_solver.specs.Learners.{seen, IsSound, AreRecords, AreNoted}
 use Rattle.learn_solver.proofs.SameStates.{SameState-records}
-use Rattle.learn_solver.proofs.RecordLemmas.{AreRecords-same, AreRecords-given, AreNoted-same, AreNoted-given, given-all, state-given}
+use Rattle.learn_solver.proofs.RecordLemmas.{AreRecords-same, AreUpTo-same, AreUpTo-more, AreRecords-given, AreNoted-same, AreNoted-given, given-all, state-given}
 use Rattle.learn_solver.proofs.Idle.{idle_of-none, distinct-state, state-from_one, idle-derived, idle-distinct}
 
 -- what is so of a solver whose parts are sound
@@ -54,21 +54,22 @@ unfolding state_of
 given-count records given le = simp (length-map, length-take) (omega arith)
 
 -- one more given clause, among sound parts
-pub IsSound-given : (old new : Learner) (lits : List ℕ) (id : ℕ) → IsSound old → (state_of old.trail.records old.given).derived ≡ [] → id ≡ length old.trail.records + 1 → Adds old.trail new.trail lits id → new.given ≡ length new.trail.records → new.variables ≡ old.variables → new.analyzer ≡ old.analyzer → length new.order ≡ length old.order → ((v : ℕ) → get_or old.order v false ≡ true → get_or new.order v false ≡ true) → ((lit : ℕ) → Contains lits lit → is_negative lit ≡ false → get_or new.order (variable_of lit) false ≡ true) → IsSound new
-IsSound-given old new lits id s none fresh adds given variables analyzer order kept noted =
+pub IsSound-given : (old new : Learner) (lits : List ℕ) (id : ℕ) → IsSound old → (state_of old.trail.records old.given).derived ≡ [] → id ≡ old.given + 1 → old.last ≤ new.last → id ≤ new.last → Adds old.trail new.trail lits id → new.given ≡ length new.trail.records → new.variables ≡ old.variables → new.analyzer ≡ old.analyzer → length new.order ≡ length old.order → ((v : ℕ) → get_or old.order v false ≡ true → get_or new.order v false ≡ true) → ((lit : ℕ) → Contains lits lit → is_negative lit ≡ false → get_or new.order (variable_of lit) false ≡ true) → IsSound new
+IsSound-given old new lits id s none fresh last_le id_le adds given variables analyzer order kept noted =
     let most = given-all old.trail.records old.given none in
     let enough = s.records.enough in
     let count = adds.records.count in
     let size : length (old.trail.records ++ new_record id lits ∷ []) ≡ length old.trail.records + 1 = length_push old.trail.records (new_record id lits) in
     let more : new.given ≡ old.given + 1 = omega arith in
     let all : length old.trail.records ≡ old.given = omega arith in
-    let records = AreRecords-same (old.trail.records ++ new_record id lits ∷ []) new.trail.records (old.given + 1) (AreRecords-given old.trail.records old.given id lits s.records all fresh) adds.records in
+    let records = AreRecords-same (old.trail.records ++ new_record id lits ∷ []) new.trail.records (old.given + 1) (AreRecords-given old.trail.records old.given id lits s.records all (omega arith)) adds.records in
     let flags = AreNoted-same (old.trail.records ++ new_record id lits ∷ []) new.trail.records (old.given + 1) new.order (AreNoted-given old.trail.records old.given id lits old.order new.order s.noted all kept noted) adds.records in
     record {
       variables = variables ∙ s.variables ∙ sym adds.variables;
       analyzer = analyzer ∙ s.analyzer ∙ sym adds.variables;
       order = order ∙ s.order ∙ sym adds.variables;
       records = subst (λ (n : ℕ). AreRecords new.trail.records n) (sym more) records;
+      last = AreUpTo-same (old.trail.records ++ new_record id lits ∷ []) new.trail.records new.last (AreUpTo-more old.trail.records old.last new.last id lits s.last last_le id_le) adds.records;
       noted = subst (λ (n : ℕ). AreNoted new.trail.records n new.order) (sym more) flags;
     }
 

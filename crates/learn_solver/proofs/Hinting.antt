@@ -1,47 +1,38 @@
 -- What a hint's clause does, literal by literal, and what hints come to one after the other.
-use Rattle.std.proofs.Common.{◌≡◌, ◌≢◌, ◌∙◌, ℕ, ◌+◌, ◌<◌, ◌≤◌, Bool, true, false, ◌||◌, eqb, if◌then◌else◌, List, [], ◌∷◌, ◌++◌, length, get_or, take, drop, Option, Some, None, inl, inr, refl, sym, ap, subst, arith}
+use Rattle.std.proofs.Common.{◌≡◌, ◌≢◌, ◌∙◌, ℕ, ◌+◌, ◌<◌, ◌≤◌, Bool, true, false, ◌||◌, eqb, List, [], ◌∷◌, ◌++◌, length, get_or, take, drop, Option, Some, None, inl, inr, refl, sym, ap, subst, arith}
 use Rattle.std.specs.Prelude.{MatchOption}
-use Rattle.std.specs.List.{list_all}
 use Rattle.std.proofs.Math.Bool.{or_comm, or-false}
-use Rattle.std.proofs.lemmas.Bool.{cases_Bool, cases_lt, eq-eqb, ne_eqb}
+use Rattle.std.proofs.lemmas.Bool.{cases_lt, eq-eqb, ne_eqb}
 use Rattle.std.proofs.lemmas.List.{at_drop_more, drop_all, take_more, take-append-drop, append-nil, append_assoc, get_or-take, length-take-le}
 use Rattle.std.proofs.lemmas.List.Folds.{list_any-append}
 use Rattle.lits_core.specs.Literals.{negation_of}
-use Rattle.lits_core.specs.Derivation.{State, live_clause, has_lit, open_lits, hint_fault, named_fault, hints_fault, SameLits}
+use Rattle.lits_core.specs.Derivation.{State, live_clause, has_lit, open_lits, hint_of, hint_fault, named_fault, hints_fault, SameLits}
+use Rattle.lits_core.specs.declared.Hint.{Hint}
+use Rattle.lits_core.specs.declared.Hint.TheVariants.{Falsified, Implies, NotUnit}
+use Rattle.lits_core.specs.declared.Line.{Line}
+use Rattle.lits_core.specs.declared.Line.TheVariants.{Derive}
 use Rattle.lits_core.specs.declared.LineFault.{LineFault}
 use Rattle.lits_core.specs.declared.LineFault.TheVariants.{UnknownHint, HintNotUnit, NoConflict}
 use Rattle.lits_core.proofs.LiteralSets.{same-open, same-hint, same-hints, same-self}
-use Rattle.clause_arena.specs.Records.{Record, record_at}
-use Rattle.watch_arena.specs.Trails.{TrailState, AreInRange}
-use Rattle.watch_arena.proofs.Watching.{index_of}
+use Rattle.clause_arena.specs.Records.{Record, record_at, new_record}
+use Rattle.watch_arena.specs.Trails.{TrailState, AreInRange, Adds}
+use Rattle.watch_arena.proofs.Watching.{index_of, record_at-new}
 use Rattle.conflict_clause.specs.Taught.{HoldsRecords, IsLiveId, IsTaught}
 use Rattle.learn_solver.specs.declared.learner.Learner.{Learner}
-use Rattle.learn_solver.specs.declared.showing.Hint.{Hint}
-use Rattle.learn_solver.specs.declared.showing.Hint.TheVariants.{Falsified, Implies, NotUnit}
-use Rattle.learn_solver.specs.States.{state_of}
+use Rattle.learn_solver.specs.Solving.{SolverState}
+use Rattle.learn_solver.specs.Hints.{Suffice, AddsLine}
+use Rattle.learn_solver.specs.States.{state_of, idle_of}
 use Rattle.learn_solver.specs.Learners.{seen, IsSound, AreRecords, IsPut}
-use Rattle.learn_solver.specs.Hints.{fault_of}
 use Rattle.learn_solver.proofs.SameStates.{SameLits-permuted}
-use Rattle.learn_solver.proofs.RecordLemmas.{live-at, HoldsRecords-state}
-
--- what a clause does by its open literals
-abbrev pub hint_by : List ℕ → Hint
-hint_by [] = Falsified
-hint_by (lit ∷ lits) = if list_all (λ l. eqb l lit) lits then Implies lit else NotUnit
+use Rattle.learn_solver.proofs.RecordLemmas.{live-at, HoldsRecords-state, fresh-free}
 
 -- what the further literals of a clause come to, after the first open one so far
 abbrev pub hint_after : Option ℕ → List ℕ → Hint
-hint_after None lits = hint_by lits
-hint_after (Some first) lits = hint_by (first ∷ lits)
+hint_after None lits = hint_of lits
+hint_after (Some first) lits = hint_of (first ∷ lits)
 
 abbrev pub hint_from : List ℕ → Option ℕ → List ℕ → Hint
 hint_from falses first lits = hint_after first (open_lits falses lits)
-
--- what comes of a hint, by what its clause does
-fault-by : (open_ones : List ℕ) (further : ℕ → Option LineFault) → hint_fault open_ones further ≡ fault_of (hint_by open_ones) further
-fault-by [] further = refl
-fault-by (lit ∷ lits) further =
-    elim (cases_Bool (list_all (λ l. eqb l lit) lits)) [ inl one ↦ rw one refl | inr two ↦ rw two refl ]
 
 -- a literal that is held false counts for nothing
 held-next : (falses : List ℕ) (first : Option ℕ) (l : ℕ) (ls : List ℕ) → has_lit falses l ≡ true → hint_from falses first (l ∷ ls) ≡ hint_from falses first ls
@@ -92,12 +83,8 @@ pub from-end : (falses lits : List ℕ) (place : ℕ) (was first : Option ℕ) (
 from-end falses lits place was first whole le before comes =
     sym comes ∙ ap (λ (o : Option ℕ). hint_from falses o (drop place lits)) before ∙ ap (hint_from falses first) (drop_all place lits le)
 
--- so it is with all literals of a clause
-pub fault-told : (falses lits : List ℕ) (hint : Hint) → hint_from falses None lits ≡ hint → (further : ℕ → Option LineFault) → hint_fault (open_lits falses lits) further ≡ fault_of hint further
-fault-told falses lits hint is further = fault-by (open_lits falses lits) further ∙ ap (λ (h : Hint). fault_of h further) is
-
 -- a hint that names a clause with the same literals
-same-named : (named : Option (List ℕ)) (lits falses : List ℕ) (further : ℕ → Option LineFault) → MatchOption named ⊥ (λ c. SameLits c lits) → named_fault named falses further ≡ hint_fault (open_lits falses lits) further
+same-named : (named : Option (List ℕ)) (lits falses : List ℕ) (further : ℕ → Option LineFault) → MatchOption named ⊥ (λ c. SameLits c lits) → named_fault named falses further ≡ hint_fault (hint_of (open_lits falses lits)) further
 same-named None lits falses further same = absurd same
 same-named (Some c) lits falses further same =
     same-hint (open_lits falses c) (open_lits falses lits) further further (same-open falses falses c lits (λ lit. refl) same) (λ lit. refl)
@@ -112,6 +99,7 @@ same-pushed lits lit other =
 -- the first hints name live records, and what all come to is what the others do with more literals held false
 pub record HasCome (records : List Record) (lits hints falses : List ℕ) (place : ℕ) : Type 0 where
   pub left : (state : State) → HoldsRecords state records → (rest : List ℕ) → hints_fault state (take place hints ++ rest) lits ≡ hints_fault state rest falses
+  pub early : (state : State) → HoldsRecords state records → (k : ℕ) → k ≤ place → hints_fault state (take k hints) lits ≢ None
   pub named : (k : ℕ) → k < place → IsLiveId records (get_or hints k 0)
 
 -- a hint names a live record, whose clause does this
@@ -119,19 +107,18 @@ pub record Does (records : List Record) (hints falses : List ℕ) (place at : �
   pub within : place < length hints
   pub live : (record_at records at).live ≡ true
   pub named : (record_at records at).id ≡ get_or hints place 0
-  pub told : (further : ℕ → Option LineFault) → hint_fault (open_lits falses (record_at records at).lits) further ≡ fault_of hint further
+  pub told : hint_of (open_lits falses (record_at records at).lits) ≡ hint
 
-pub Does-found : (records : List Record) (given : ℕ) (hints slice falses : List ℕ) (place at : ℕ) (was hint : Hint) → AreRecords records given → place < length hints → at < length records → (record_at records at).id ≡ get_or hints place 0 → slice ≡ falses → ((further : ℕ → Option LineFault) → hint_fault (open_lits slice (record_at records at).lits) further ≡ fault_of was further) → was ≡ hint → Does records hints falses place at hint
+pub Does-found : (records : List Record) (given : ℕ) (hints slice falses : List ℕ) (place at : ℕ) (was hint : Hint) → AreRecords records given → place < length hints → at < length records → (record_at records at).id ≡ get_or hints place 0 → slice ≡ falses → was ≡ hint_of (open_lits slice (record_at records at).lits) → was ≡ hint → Does records hints falses place at hint
 Does-found records given hints slice falses place at was hint r lt within named same told is = record {
   within = lt;
   live = r.live at within;
   named = named;
-  told = λ further.
-      ap (λ (fs : List ℕ). hint_fault (open_lits fs (record_at records at).lits) further) (sym same) ∙ told further ∙ ap (λ (h : Hint). fault_of h further) is;
+  told = ap (λ (fs : List ℕ). hint_of (open_lits fs (record_at records at).lits)) (sym same) ∙ sym told ∙ is;
 }
 
 -- one hint further
-one-on : (records : List Record) (lits hints falses : List ℕ) (place at : ℕ) (hint : Hint) → HasCome records lits hints falses place → Does records hints falses place at hint → (state : State) → HoldsRecords state records → (rest : List ℕ) → hints_fault state (take (place + 1) hints ++ rest) lits ≡ fault_of hint (λ lit. hints_fault state rest (negation_of lit ∷ falses))
+one-on : (records : List Record) (lits hints falses : List ℕ) (place at : ℕ) (hint : Hint) → HasCome records lits hints falses place → Does records hints falses place at hint → (state : State) → HoldsRecords state records → (rest : List ℕ) → hints_fault state (take (place + 1) hints ++ rest) lits ≡ hint_fault hint (λ lit. hints_fault state rest (negation_of lit ∷ falses))
 one-on records lits hints falses place at hint come does state holds rest =
     let further : ℕ → Option LineFault = λ lit. hints_fault state rest (negation_of lit ∷ falses) in
     ap (λ (hs : List ℕ). hints_fault state (hs ++ rest) lits) (take_more hints place 0 does.within)
@@ -139,12 +126,22 @@ one-on records lits hints falses place at hint come does state holds rest =
     ∙ come.left state holds (get_or hints place 0 ∷ rest)
     ∙ ap (λ (id : ℕ). hints_fault state (id ∷ rest) falses) (sym does.named)
     ∙ same-named (live_clause state (record_at records at).id) (record_at records at).lits falses further (holds.each at does.live)
-    ∙ does.told further
+    ∙ ap (λ (h : Hint). hint_fault h further) does.told
+
+-- no hints show nothing
+none-left : (state : State) (falses : List ℕ) → hints_fault state [] falses ≢ None
+none-left state falses e = let clash : Some NoConflict ≡ None = e in cc
+
+-- so hints that leave literals held false have not shown the clause yet
+not-yet : (records : List Record) (lits hints falses : List ℕ) (place : ℕ) → ((state : State) → HoldsRecords state records → (rest : List ℕ) → hints_fault state (take place hints ++ rest) lits ≡ hints_fault state rest falses) → (state : State) → HoldsRecords state records → (k : ℕ) → place ≡ k → hints_fault state (take k hints) lits ≢ None
+not-yet records lits hints falses place left state holds k same e =
+    none-left state falses (sym (left state holds []) ∙ ap (λ (hs : List ℕ). hints_fault state hs lits) (append-nil (take place hints)) ∙ ap (λ (j : ℕ). hints_fault state (take j hints) lits) same ∙ e)
 
 -- at the start
 pub HasCome-start : (records : List Record) (lits hints falses : List ℕ) → falses ≡ lits → HasCome records lits hints falses 0
 HasCome-start records lits hints falses same = record {
   left = λ state holds rest. ap (hints_fault state rest) (sym same);
+  early = λ state holds k le. (let first : 0 ≡ k = omega arith in not-yet records lits hints falses 0 (λ st h rest. ap (hints_fault st rest) (sym same)) state holds k first);
   named = λ k lt. absurd (omega arith);
 }
 
@@ -159,12 +156,20 @@ named-next records hints falses place at k hint named does lt =
     ]
 
 -- after a hint whose clause implies a literal
+left-next : (records : List Record) (lits hints falses next : List ℕ) (place at lit : ℕ) → HasCome records lits hints falses place → Does records hints falses place at (Implies lit) → next ≡ falses ++ negation_of lit ∷ [] → (state : State) → HoldsRecords state records → (rest : List ℕ) → hints_fault state (take (place + 1) hints ++ rest) lits ≡ hints_fault state rest next
+left-next records lits hints falses next place at lit come does pushed state holds rest =
+    one-on records lits hints falses place at (Implies lit) come does state holds rest
+    ∙ same-hints state state rest (negation_of lit ∷ falses) (falses ++ negation_of lit ∷ []) (same-self state) (same-pushed falses (negation_of lit))
+    ∙ ap (hints_fault state rest) (sym pushed)
+
 pub HasCome-next : (records : List Record) (lits hints falses next : List ℕ) (place at lit : ℕ) → HasCome records lits hints falses place → Does records hints falses place at (Implies lit) → next ≡ falses ++ negation_of lit ∷ [] → HasCome records lits hints next (place + 1)
 HasCome-next records lits hints falses next place at lit come does pushed = record {
-  left = λ state holds rest.
-      one-on records lits hints falses place at (Implies lit) come does state holds rest
-      ∙ same-hints state state rest (negation_of lit ∷ falses) (falses ++ negation_of lit ∷ []) (same-self state) (same-pushed falses (negation_of lit))
-      ∙ ap (hints_fault state rest) (sym pushed);
+  left = left-next records lits hints falses next place at lit come does pushed;
+  early = λ state holds k le.
+      elim (cases_lt k (place + 1)) [
+        | inl before ↦ come.early state holds k (omega arith)
+        | inr late ↦ (let last : place + 1 ≡ k = omega arith in not-yet records lits hints next (place + 1) (left-next records lits hints falses next place at lit come does pushed) state holds k last)
+      ];
   named = λ k lt. named-next records hints falses place at k (Implies lit) come.named does lt;
 }
 
@@ -181,6 +186,16 @@ IsTaught-come t lits hints falses place at come does range = record {
       let lt : index.0 < place + 1 = omega arith in
       subst (IsLiveId t.records) (sym (get_or-take (place + 1) hints index.0 0 lt) ∙ index.2) (named-next t.records hints falses place at index.0 Falsified come.named does lt);
   in_range = range;
+}
+
+-- and no fewer show it
+pub Suffice-come : (records : List Record) (given : ℕ) (lits hints falses : List ℕ) (place at : ℕ) → AreRecords records given → HasCome records lits hints falses place → Does records hints falses place at Falsified → Suffice (state_of records given) lits hints (place + 1)
+Suffice-come records given lits hints falses place at r come does = record {
+  within = (let within = does.within in omega arith);
+  shown =
+      ap (λ (hs : List ℕ). hints_fault (state_of records given) hs lits) (sym (append-nil (take (place + 1) hints)))
+      ∙ one-on records lits hints falses place at Falsified come does (state_of records given) (HoldsRecords-state records given r) [];
+  fewest = λ k lt. come.early (state_of records given) (HoldsRecords-state records given r) k (omega arith);
 }
 
 -- and have no fault, whatever comes after them
@@ -227,3 +242,31 @@ live-put l lits clause at id s put same is =
     let P : Option (List ℕ) → Type 0 = λ o. MatchOption o ⊥ (SameLits lits) in
     let here : P (Some (record_at l.trail.records at).lits) = subst (λ (c : List ℕ). SameLits c (record_at l.trail.records at).lits) same (SameLits-permuted clause (record_at l.trail.records at).lits put.lits_are) in
     subst P (sym found) here
+
+-- the public part by the parts that it is made of
+seen_by : TrailState → ℕ → List Line → SolverState
+seen_by t given waiting = record {
+  variables = t.variables;
+  state = state_of t.records given;
+  waiting = waiting;
+  idle = idle_of t.places t.records given;
+}
+
+-- it stays where these stay
+pub seen-held : (old new : Learner) → new.trail ≡ old.trail → new.given ≡ old.given → new.waiting.items ≡ old.waiting.items → seen new ≡ seen old
+unfolding seen_by
+seen-held old new trail given waiting =
+    ap (λ (t : TrailState). seen_by t new.given new.waiting.items) trail
+    ∙ ap (λ (n : ℕ). seen_by old.trail n new.waiting.items) given
+    ∙ ap (seen_by old.trail old.given) waiting
+
+-- the line of one derived clause more
+pub AddsLine-noted : (old new : Learner) (lits hints : List ℕ) (at id : ℕ) → IsSound old → Adds old.trail new.trail lits id → at ≡ length old.trail.records → id ≡ old.last + 1 → new.waiting.items ≡ old.waiting.items ++ Derive id lits hints ∷ [] → AddsLine (seen old) (seen new) lits hints (record_at new.trail.records at).id
+AddsLine-noted old new lits hints at id s adds first fresh waiting =
+    let there : record_at (old.trail.records ++ new_record id lits ∷ []) at ≡ new_record id lits =
+    ap (record_at (old.trail.records ++ new_record id lits ∷ [])) first ∙ record_at-new old.trail.records (new_record id lits) in
+    let same : id ≡ (record_at new.trail.records at).id = ap (λ (r : Record). r.id) (sym there) ∙ sym (adds.records.each at).id in
+    record {
+      fresh = fresh-free old.trail.records old.given old.last (record_at new.trail.records at).id s.records s.last (omega (arith, same));
+      waits = waiting ∙ ap (λ (i : ℕ). old.waiting.items ++ Derive i lits hints ∷ []) same;
+    }

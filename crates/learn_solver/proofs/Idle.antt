@@ -11,7 +11,7 @@ use Rattle.clause_arena.specs.Records.{Record, record_at, no_record}
 use Rattle.watch_arena.specs.declared.places.Place.{Place}
 use Rattle.learn_solver.specs.States.{state_of, is_reason, idle_from, idle_of}
 use Rattle.learn_solver.specs.Learners.{AreRecords}
-use Rattle.learn_solver.proofs.RecordLemmas.{derived-none, derived-at, given-none, derived-id}
+use Rattle.learn_solver.proofs.RecordLemmas.{derived-none, derived-at, given-none, derived-id, ids-apart}
 
 -- one record after another
 pub idle-step : (places : List Place) (records : List Record) (at : ℕ) → at < length records → idle_from places at (drop at records) ≡ cond (is_reason places at) (idle_from places (at + 1) (drop (at + 1) records)) ((record_at records at).id ∷ idle_from places (at + 1) (drop (at + 1) records))
@@ -62,7 +62,7 @@ contains-first first id ids (zero, lt, e) = inl e
 contains-first first id ids (suc k, lt, e) = inr (k, omega arith, e)
 
 -- each idle id is that of one of the records
-idle-index : (places : List Place) (at : ℕ) (records : List Record) (id : ℕ) → Contains (idle_from places at records) id → (k : ℕ) × (k < length records) × ((record_at records k).id ≡ id)
+pub idle-index : (places : List Place) (at : ℕ) (records : List Record) (id : ℕ) → Contains (idle_from places at records) id → (k : ℕ) × (k < length records) × ((record_at records k).id ≡ id)
 idle-index places at [] id (k, lt, e) = absurd (omega arith)
 idle-index places at (r ∷ records) id has =
     elim (cases_Bool (is_reason places at)) [
@@ -115,18 +115,18 @@ entries-from_one (r ∷ records) zero d h lt = h 0 lt
 entries-from_one (r ∷ records) (suc k) d h lt = entries-from_one records k d (λ j below. h (suc j) (omega arith)) (omega arith)
 
 -- records after the first ones
-record-drop : (records : List Record) (n k : ℕ) → record_at (drop n records) k ≡ record_at records (n + k)
+pub record-drop : (records : List Record) (n k : ℕ) → record_at (drop n records) k ≡ record_at records (n + k)
 record-drop records zero k = ap (record_at records) (let e : k ≡ 0 + k = omega arith in e)
 record-drop [] (suc n) k = refl
 record-drop (r ∷ records) (suc n) k = record-drop records n k ∙ ap (record_at (r ∷ records)) (let e : suc (n + k) ≡ suc n + k = omega arith in e)
 
-drop-within : (records : List Record) (n k : ℕ) → k < length (drop n records) → n + k < length records
+pub drop-within : (records : List Record) (n k : ℕ) → k < length (drop n records) → n + k < length records
 drop-within records n k lt = omega (arith, length-drop n records)
 
 dropped-apart : (records : List Record) (given : ℕ) → AreRecords records given → AreApart (drop given records)
 dropped-apart records given r a b lt within =
     let inside = drop-within records given b within in
-    rw (record-drop records given a, record-drop records given b) (r.apart (given + a) (given + b) (omega arith) inside)
+    rw (record-drop records given a, record-drop records given b) (ids-apart records given (given + a) (given + b) r (omega arith) inside)
 
 -- what is so of a solver
 pub distinct-state : (records : List Record) (given : ℕ) → AreRecords records given → has_distinct_ids (state_of records given) ≡ true
@@ -153,7 +153,7 @@ idle-derived places records given id r has =
     let found = idle-index places given (drop given records) id has in
     let inside = drop-within records given found.0 found.1 in
     let named : (record_at records (given + found.0)).id ≡ id = ap (λ (q : Record). q.id) (sym (record-drop records given found.0)) ∙ found.2 in
-    let is = derived-at records given (given + found.0) (omega arith) inside (λ a from lt. r.apart a (given + found.0) lt inside) in
+    let is = derived-at records given (given + found.0) (omega arith) inside (λ a from lt. ids-apart records given a (given + found.0) r lt inside) in
     let P : Option (List ℕ) → Type 0 = λ o. MatchOption o ⊥ (λ c. Unit {0}) in
     let here : P (Some (record_at records (given + found.0)).lits) = tt in
     subst (λ (i : ℕ). P (derived_clause (map (λ (q : Record). (q.id, q.lits)) (drop given records)) i)) named (subst P (sym is) here)

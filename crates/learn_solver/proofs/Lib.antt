@@ -11,5 +11,8 @@ pub mod Answering
 mod Teaching
 mod Conflicts
 mod Idle
+mod Forgetting
+mod Remaining
+mod Tidied
 mod Givens
 mod Hinting

@@ -14,7 +14,7 @@ use Rattle.learn_solver.specs.Solving.{FromOne}
 use Rattle.learn_solver.specs.States.{state_of}
 use Rattle.learn_solver.specs.Learners.{seen, IsSound, AreRecords, Steps, GoesBack}
 use Rattle.learn_solver.proofs.SameStates.{SameState-records}
-use Rattle.learn_solver.proofs.RecordLemmas.{AreRecords-same, AreNoted-same, AreRecords-pushed, AreNoted-pushed, HoldsRecords-state, fresh-free, state-pushed, live-within}
+use Rattle.learn_solver.proofs.RecordLemmas.{AreRecords-same, AreUpTo-same, AreUpTo-more, AreNoted-same, AreRecords-pushed, AreNoted-pushed, HoldsRecords-state, fresh-free, state-pushed, live-within}
 use Rattle.learn_solver.proofs.Goings.{GoesTo-same, GoesTo-trans}
 
 pub Steps-trans : (one two three : Learner) → Steps one two → Steps two three → Steps one three
@@ -32,6 +32,7 @@ pub record Keeps (old new : Learner) : Type 0 where
   pub analyzer : new.analyzer ≡ old.analyzer
   pub order : new.order ≡ old.order
   pub given : new.given ≡ old.given
+  pub last : new.last ≡ old.last
   pub waiting : new.waiting.items ≡ old.waiting.items
 
 same_state : (records other : List Record) (given more : ℕ) → other ≡ records → more ≡ given → SameState (state_of records given) (state_of other more)
@@ -45,6 +46,7 @@ IsSound-kept old new s k = record {
   analyzer = k.analyzer ∙ s.analyzer ∙ sym k.trail_variables;
   order = ap length k.order ∙ s.order ∙ sym k.trail_variables;
   records = rw (k.records, k.given) s.records;
+  last = rw (k.records, k.last) s.last;
   noted = rw (k.records, k.given, k.order) s.noted;
 }
 
@@ -56,7 +58,7 @@ Steps-kept old new s k = record {
 }
 
 pub Steps-refl : (l : Learner) → IsSound l → Steps l l
-Steps-refl l s = Steps-kept l l s (record { records = refl; trail_variables = refl; variables = refl; analyzer = refl; order = refl; given = refl; waiting = refl })
+Steps-refl l s = Steps-kept l l s (record { records = refl; trail_variables = refl; variables = refl; analyzer = refl; order = refl; given = refl; last = refl; waiting = refl })
 
 -- a clause that live clauses give may be derived
 no_fault : (state : State) (id : ℕ) (lits hints : List ℕ) → live_clause state id ≡ None → hints_fault state hints lits ≡ None → line_fault state (Derive id lits hints) ≡ None
@@ -78,18 +80,18 @@ one_line line zero d h lt = h
 one_line line (suc k) d h lt = absurd (omega arith)
 
 -- one derived clause more, with its line
-pub Steps-noted : (old new : Learner) (id : ℕ) (lits hints : List ℕ) → IsSound old → IsTaught old.trail lits hints → id ≡ length old.trail.records + 1 → Adds old.trail new.trail lits id → new.variables ≡ old.variables → new.analyzer ≡ old.analyzer → new.order ≡ old.order → new.given ≡ old.given → new.waiting.items ≡ old.waiting.items ++ Derive id lits hints ∷ [] → Steps old new
-Steps-noted old new id lits hints s taught fresh adds variables analyzer order given waiting =
+pub Steps-noted : (old new : Learner) (id : ℕ) (lits hints : List ℕ) → IsSound old → IsTaught old.trail lits hints → id ≡ old.last + 1 → new.last ≡ id → Adds old.trail new.trail lits id → new.variables ≡ old.variables → new.analyzer ≡ old.analyzer → new.order ≡ old.order → new.given ≡ old.given → new.waiting.items ≡ old.waiting.items ++ Derive id lits hints ∷ [] → Steps old new
+Steps-noted old new id lits hints s taught fresh last adds variables analyzer order given waiting =
     let records : List Record = old.trail.records in
     let enough = s.records.enough in
     let state : State = state_of old.trail.records old.given in
     let line : Line = Derive id lits hints in
     let shown = taught.shown (state_of old.trail.records old.given) (HoldsRecords-state old.trail.records old.given s.records) in
-    let fault = no_fault (state_of old.trail.records old.given) id lits hints (fresh-free old.trail.records old.given id s.records (omega arith)) shown in
+    let fault = no_fault (state_of old.trail.records old.given) id lits hints (fresh-free old.trail.records old.given old.last id s.records s.last (omega arith)) shown in
     let pushed : state_of (old.trail.records ++ new_record id lits ∷ []) old.given ≡ next_state (state_of old.trail.records old.given) (Derive id lits hints) = state-pushed old.trail.records old.given id lits hints enough in
     let follow : DerivedFollow (state_of (old.trail.records ++ new_record id lits ∷ []) old.given) =
     subst (λ (st : State). DerivedFollow st) (sym pushed) (DerivedFollow-next (state_of old.trail.records old.given) (Derive id lits hints) s.records.follow fault) in
-    let mid = AreRecords-pushed old.trail.records old.given id lits s.records fresh follow in
+    let mid = AreRecords-pushed old.trail.records old.given old.last id lits s.records s.last (omega arith) follow in
     let after : SameState (next_state (state_of old.trail.records old.given) (Derive id lits hints)) (state_of new.trail.records old.given) =
     subst (λ (st : State). SameState st (state_of new.trail.records old.given)) pushed (SameState-records (old.trail.records ++ new_record id lits ∷ []) new.trail.records old.given adds.records) in
     record {
@@ -98,6 +100,7 @@ Steps-noted old new id lits hints s taught fresh adds variables analyzer order g
         analyzer = analyzer ∙ s.analyzer ∙ sym adds.variables;
         order = ap length order ∙ s.order ∙ sym adds.variables;
         records = rw given (AreRecords-same (old.trail.records ++ new_record id lits ∷ []) new.trail.records old.given mid adds.records);
+        last = AreUpTo-same (old.trail.records ++ new_record id lits ∷ []) new.trail.records new.last (AreUpTo-more old.trail.records old.last new.last id lits s.last (omega arith) (omega arith)) adds.records;
         noted = rw (given, order) (AreNoted-same (old.trail.records ++ new_record id lits ∷ []) new.trail.records old.given old.order (AreNoted-pushed old.trail.records (new_record id lits) old.given old.order enough s.noted) adds.records);
       };
       goes = record {
@@ -122,12 +125,13 @@ Steps-back old new level s e = Steps-kept old new s (record {
   analyzer = ap (λ (l : Learner). l.analyzer) e;
   order = ap (λ (l : Learner). l.order) e;
   given = ap (λ (l : Learner). l.given) e;
+  last = ap (λ (l : Learner). l.last) e;
   waiting = ap (λ (l : Learner). l.waiting.items) e;
 })
 
 -- only the trail changes, and of it only places and level
 pub Steps-trail : (old : Learner) (t : TrailState) → IsSound old → t.records ≡ old.trail.records → t.variables ≡ old.trail.variables → Steps old (record old { trail = t })
-Steps-trail old t s records variables = Steps-kept old (record old { trail = t }) s (record { records = records; trail_variables = variables; variables = refl; analyzer = refl; order = refl; given = refl; waiting = refl })
+Steps-trail old t s records variables = Steps-kept old (record old { trail = t }) s (record { records = records; trail_variables = variables; variables = refl; analyzer = refl; order = refl; given = refl; last = refl; waiting = refl })
 
 -- only what is known of the assumptions changes
 pub Steps-passed : (old new : Learner) → IsSound old → new ≡ record old { passed = new.passed } → Steps old new
@@ -138,6 +142,7 @@ Steps-passed old new s e = Steps-kept old new s (record {
   analyzer = ap (λ (l : Learner). l.analyzer) e;
   order = ap (λ (l : Learner). l.order) e;
   given = ap (λ (l : Learner). l.given) e;
+  last = ap (λ (l : Learner). l.last) e;
   waiting = ap (λ (l : Learner). l.waiting.items) e;
 })
 
@@ -149,6 +154,7 @@ Steps-known old new passed guided s e = Steps-kept old new s (record {
   analyzer = ap (λ (l : Learner). l.analyzer) e;
   order = ap (λ (l : Learner). l.order) e;
   given = ap (λ (l : Learner). l.given) e;
+  last = ap (λ (l : Learner). l.last) e;
   waiting = ap (λ (l : Learner). l.waiting.items) e;
 })
 
@@ -161,5 +167,6 @@ Steps-assumed old new t guided s e records variables = Steps-kept old new s (rec
   analyzer = ap (λ (l : Learner). l.analyzer) e;
   order = ap (λ (l : Learner). l.order) e;
   given = ap (λ (l : Learner). l.given) e;
+  last = ap (λ (l : Learner). l.last) e;
   waiting = ap (λ (l : Learner). l.waiting.items) e;
 })

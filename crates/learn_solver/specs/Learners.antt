@@ -1,8 +1,8 @@
 -- The parts of a solver: what is so of them, and what its steps keep.
-use Rattle.std.specs.Prelude.{◌≡◌, ◌≢◌, ℕ, ◌+◌, ◌*◌, ◌<◌, ◌≤◌, ◌⊎◌, Bool, true, false, List, [], ◌∷◌, ◌++◌, length, min, Option, Some, None, Contains, IsPermutation, slice_index_or, if◌then◌else◌, nat_lt, IsTrue}
+use Rattle.std.specs.Prelude.{◌≡◌, ℕ, ◌+◌, ◌*◌, ◌<◌, ◌≤◌, ◌⊎◌, Bool, true, false, List, [], ◌∷◌, ◌++◌, length, min, Option, Some, None, Contains, IsPermutation, slice_index_or, if◌then◌else◌, nat_lt, IsTrue}
 use Rattle.lits_core.specs.Literals.{variable_of, negation_of, is_negative}
 use Rattle.lits_core.specs.Derivation.{DerivedFollow}
-use Rattle.clause_arena.specs.Records.{Record, record_at}
+use Rattle.clause_arena.specs.Records.{Record, record_at, forgotten}
 use Rattle.watch_arena.specs.declared.places.Place.{Place}
 use Rattle.watch_arena.specs.Places.{place_at, is_true, is_assumed}
 use Rattle.watch_arena.specs.Trails.{TrailState, places_up_to}
@@ -11,7 +11,7 @@ use Rattle.learn_solver.specs.declared.learner.Learner.{Learner}
 use Rattle.learn_solver.specs.declared.solver.Answer.{Answer}
 use Rattle.learn_solver.specs.Solving.{SolverState, GoesTo}
 use Rattle.learn_solver.specs.Answers.{IsAnswer}
-use Rattle.learn_solver.specs.States.{state_of, idle_of}
+use Rattle.learn_solver.specs.States.{state_of, idle_of, is_reason}
 use Rattle.learn_solver.specs.Weights.{weight}
 
 -- the public part
@@ -23,21 +23,31 @@ seen l = record {
   idle = idle_of l.trail.places l.trail.records l.given;
 }
 
--- records, of which the first ones are given clauses: all are live, each one's id is its number, no two have one id, and no
--- id is more than there are records
+-- records, of which the first ones are given clauses: all are live, and their ids ascend; those of the given ones are 1, 2
+-- and so on
 pub record AreRecords (records : List Record) (given : ℕ) : Type 0 where
   pub enough : given ≤ length records
   pub live : (at : ℕ) → at < length records → (record_at records at).live ≡ true
-  pub numbered : (at : ℕ) → at < length records → (record_at records at).id ≡ at + 1
-  pub apart : (a b : ℕ) → a < b → b < length records → (record_at records a).id ≢ (record_at records b).id
+  pub numbered : (at : ℕ) → at < given → (record_at records at).id ≡ at + 1
+  pub ascending : (a b : ℕ) → a < b → b < length records → (record_at records a).id < (record_at records b).id
   pub from_one : (at : ℕ) → at < length records → 1 ≤ (record_at records at).id
-  pub most : (at : ℕ) → at < length records → (record_at records at).id ≤ length records
   pub follow : DerivedFollow (state_of records given)
+
+-- no record has an id past this one
+abbrev pub AreUpTo : List Record → ℕ → Type 0
+AreUpTo records last = (at : ℕ) → at < length records → (record_at records at).id ≤ last
 
 -- each variable that a given clause has positively is noted
 abbrev pub AreNoted : List Record → ℕ → List Bool → Type 0
 AreNoted records given noted =
     (at lit : ℕ) → at < given → Contains (record_at records at).lits lit → is_negative lit ≡ false → slice_index_or noted (variable_of lit) false ≡ true
+
+-- the clauses that are idle are live no more, and nothing else is changed
+pub record Forgets (old new : TrailState) (given : ℕ) : Type 0 where
+  pub same : new ≡ record old { records = new.records }
+  pub count : length new.records ≡ length old.records
+  pub kept : (at : ℕ) → at < given ⊎ (is_reason old.places at ≡ true) → record_at new.records at ≡ record_at old.records at
+  pub gone : (at : ℕ) → given ≤ at → at < length old.records → is_reason old.places at ≡ false → record_at new.records at ≡ forgotten (record_at old.records at)
 
 -- what is so of the parts at any time
 pub record IsSound (l : Learner) : Type 0 where
@@ -45,6 +55,7 @@ pub record IsSound (l : Learner) : Type 0 where
   pub analyzer : l.analyzer ≡ l.trail.variables
   pub order : length l.order ≡ l.trail.variables
   pub records : AreRecords l.trail.records l.given
+  pub last : AreUpTo l.trail.records l.last
   pub noted : AreNoted l.trail.records l.given l.order
 
 -- what each step keeps
@@ -111,9 +122,9 @@ pub record KeepsPlaces (old new : TrailState) : Type 0 where
   pub level : new.level ≡ old.level
   pub variables : new.variables ≡ old.variables
 
--- only the trail and the waiting lines change
+-- only the trail, the waiting lines and the last id change
 abbrev pub KeepsRest : Learner → Learner → Type 0
-KeepsRest old new = new ≡ record old { trail = new.trail; waiting = new.waiting }
+KeepsRest old new = new ≡ record old { trail = new.trail; waiting = new.waiting; last = new.last }
 
 -- a step of the search for assumptions has an answer, or goes on with less to do
 abbrev pub Serves : Learner → Learner → List ℕ → Option Answer → Type 0

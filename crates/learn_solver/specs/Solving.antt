@@ -2,8 +2,9 @@
 use Rattle.std.specs.Prelude.{◌≡◌, ℕ, ◌≤◌, Bool, List, [], ◌∷◌, ◌++◌, length, All, AllPairs, ◌≢◌, Contains, MatchOption, IsTrue}
 use Rattle.std.specs.List.{list_all}
 use Rattle.lits_core.specs.declared.Line.{Line}
-use Rattle.lits_core.specs.declared.Line.TheVariants.{Derive, Forget}
+use Rattle.lits_core.specs.declared.Line.TheVariants.{Forget}
 use Rattle.lits_core.specs.Literals.{negation_of, lit_true, meets_all}
+pub use Rattle.lits_core.specs.Derivation.{FromOne}
 use Rattle.lits_core.specs.Derivation.{State, live_clause, derived_clause, state_after, is_valid_derivation, has_distinct_ids, DerivedFollow, SameState}
 
 -- the number of variables, the given clauses and the derived ones with their ids, the lines that wait to be taken, and the
@@ -13,11 +14,6 @@ pub record SolverState : Type 0 where
   pub state : State
   pub waiting : List Line
   pub idle : List ℕ
-
--- the ids in a line are at least 1
-abbrev pub FromOne : Line → Type 0
-FromOne (Derive id lits hints) = (1 ≤ id) × All (λ hint. 1 ≤ hint) hints
-FromOne (Forget ids) = All (λ id. 1 ≤ id) ids
 
 -- lines lead from one state to another: they are valid in turn, and the last state has the same clauses, as sets
 pub record Leads (one : State) (lines : List Line) (other : State) : Type 0 where
@@ -47,6 +43,18 @@ pub record AddsGiven (old new : SolverState) (lits : List ℕ) : Type 0 where
   pub given : SameState (record { given = old.state.given ++ lits ∷ []; derived = old.state.derived }) new.state
   pub waiting : new.waiting ≡ old.waiting
   pub idle : new.idle ≡ old.idle
+
+-- the line that some ids are forgotten by, if there are any
+abbrev pub forgetting : List ℕ → List Line
+forgetting [] = []
+forgetting (id ∷ ids) = Forget (id ∷ ids) ∷ []
+
+-- the idle clauses are forgotten, and the line that says so waits last
+pub record IsTidied (old new : SolverState) : Type 0 where
+  pub variables : new.variables ≡ old.variables
+  pub idle : new.idle ≡ []
+  pub waiting : new.waiting ≡ old.waiting ++ forgetting old.idle
+  pub state : SameState (state_after old.state (forgetting old.idle)) new.state
 
 -- no literal stands beside its negation
 abbrev pub AreConsistent : List ℕ → Type 0

@@ -2,6 +2,7 @@
 ghost use Rattle.std.specs.Prelude.{◌≡◌, ◌+◌, ◌≤◌, ℕ, true, false, [], length, slice_index_or, IfOk, OnOk, OnErr, Contains};
 ghost use Rattle.lits_core.specs.Literals.{variable_of, is_negative};
 ghost use Rattle.lits_core.specs.Derivation.{first_state};
+ghost use Rattle.clause_arena.specs.Records.{record_at};
 ghost use Rattle.watch_arena.specs.Trails.{IsTrail, AreInRange};
 ghost use Rattle.conflict_clause.specs.Taught.{IsTaught};
 
@@ -20,6 +21,8 @@ pub(crate) struct Learner {
     pub(crate) order: Order,
     pub(crate) variables: u32,
     pub(crate) given: usize,
+    // The largest id that was ever given.
+    pub(crate) last: u64,
     pub(crate) waiting: Vec<Line>,
     // How many of the first assumptions are true, and how many of the first levels begin with an assumption.
     pub(crate) passed: usize,
@@ -29,6 +32,7 @@ pub(crate) struct Learner {
 
 impl Learner {
     ghost use Rattle.learn_solver.specs.Solving.{AddsGiven};
+    ghost use Rattle.learn_solver.specs.Hints.{AddsLine};
     ghost use Rattle.learn_solver.specs.Learners.{seen, IsSound, Steps, GoesBack, Guides, IsPut, KeepsPlaces, KeepsRest};
 
     pub(crate) fn new(alloc: Global, variables: u32) -> Result<Learner, AllocError>
@@ -41,6 +45,7 @@ impl Learner {
             order: Order::new(alloc, variables)?,
             variables,
             given: 0,
+            last: 0,
             waiting: Vec::new(alloc),
             passed: 0,
             guided: 0,
@@ -55,17 +60,6 @@ impl Learner {
         self.trail.facts();
     }
 
-    // An id that no record has.
-    fn fresh(&self) -> Result<u64, AllocError>
-        ensures { IfOk result (λ id. id ≡ length self.now.trail.records + 1) }
-    {
-        let count = self.trail.arena().count() as u64;
-        match count.checked_add(1) {
-            Some(id) => Ok(id),
-            None => Err(AllocError),
-        }
-    }
-
     // Adds a given clause and answers its id.
     pub(crate) fn add(&mut self, lits: &[Lit]) -> Result<u64, AllocError>
         requires sound { IsSound self.old }
@@ -77,9 +71,10 @@ impl Learner {
         ensures err { OnErr result (seen self.new ≡ seen self.old) }
     {
         self.go_back(0);
-        let id = self.fresh()?;
+        let id = next_id(self.given as u64)?;
         self.trail.add(lits, id)?;
         self.given = self.trail.arena().count();
+        self.last = self.last.max(id);
         self.note_variables(lits);
         Ok(id)
     }
@@ -144,11 +139,24 @@ impl Learner {
         ensures kept { KeepsPlaces self.old.trail self.new.trail }
         ensures same { KeepsRest self.old self.new }
         ensures put { IfOk result (λ at. IsPut self.new.trail lits at) }
+        ensures line { IfOk result (λ at. AddsLine (seen self.old) (seen self.new) lits hints (record_at self.new.trail.records at).id) }
+        ensures err { OnErr result (seen self.new ≡ seen self.old) }
     {
-        let id = self.fresh()?;
+        let id = next_id(self.last)?;
         self.waiting.reserve(1)?;
         let at = self.trail.add(lits.lits(), id)?;
+        self.last = id;
         self.waiting.push_reserved(Line::Derive { id, lits, hints });
         Ok(at)
+    }
+}
+
+// The id after an id. Ids do not run out before memory does, which is what is answered then.
+fn next_id(id: u64) -> Result<u64, AllocError>
+    ensures { IfOk result (λ next. next ≡ id + 1) }
+{
+    match id.checked_add(1) {
+        Some(next) => Ok(next),
+        None => Err(AllocError),
     }
 }

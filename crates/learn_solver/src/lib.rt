@@ -9,6 +9,7 @@ mod reading;
 mod search;
 mod showing;
 mod solver;
+mod tidying;
 
 pub use solver::{Answer, Solver};
 

@@ -1,5 +1,5 @@
 //! What the search reads of the trail.
-ghost use Rattle.std.specs.Prelude.{◌≡◌, ◌==◌, ◌<◌, ◌≤◌, ◌⊎◌, ℕ, false, not, Some, length, slice_index_or, IfSome, MatchOption, IsTrue, Contains};
+ghost use Rattle.std.specs.Prelude.{◌≡◌, ◌==◌, ◌<◌, ◌≤◌, ◌⊎◌, ◌↔◌, ℕ, false, not, Some, length, slice_index_or, IfSome, MatchOption, IsTrue, Contains};
 ghost use Rattle.std.specs.Option.{option_map_or};
 ghost use Rattle.lits_core.specs.Literals.{variable_of, negation_of};
 ghost use Rattle.lits_core.specs.Derivation.{live_clause};
@@ -119,16 +119,49 @@ impl Learner {
         true
     }
 
+    // Whether the record of a number has an id before this one.
+    fn is_before(&self, number: usize, id: u64) -> bool
+        requires { number < length self.now.trail.records }
+        ensures { IsTrue result ↔ ((record_at self.now.trail.records number).id < id) }
+    {
+        match self.trail.arena().nth(number) {
+            Some(at) => self.trail.arena().id_of(at) < id,
+            None => false,
+        }
+    }
+
+    // The number of the first record whose id is this or a later one, by halving; the number of records where there is none.
+    fn first_from(&self, id: u64) -> usize
+        requires { IsSound self.now }
+        ensures within { result ≤ length self.now.trail.records }
+        ensures before { (at : ℕ) → at < result → (record_at self.now.trail.records at).id < id }
+        ensures from { (at : ℕ) → result ≤ at → at < length self.now.trail.records → id ≤ (record_at self.now.trail.records at).id }
+    {
+        let mut low = 0;
+        let mut high = self.trail.arena().count();
+        while low < high {
+            let middle = low + (high - low) / 2;
+            if self.is_before(middle, id) {
+                low = middle + 1;
+            } else {
+                high = middle;
+            }
+        }
+        low
+    }
+
     // The record of the live clause with an id.
     pub(crate) fn find(&self, id: u64) -> Option<Ref>
         requires { IsSound self.now }
         ensures clause { MatchOption result (live_clause (seen self.now).state id ≡ None) (λ at. (at < length self.now.trail.records) × (live_clause (seen self.now).state id ≡ Some (record_at self.now.trail.records at).lits)) }
         ensures named { IfSome result (λ at. (record_at self.now.trail.records at).id ≡ id) }
     {
-        if id == 0 {
-            return None;
+        let at = self.trail.arena().nth(self.first_from(id))?;
+        if self.trail.arena().id_of(at) == id {
+            Some(at)
+        } else {
+            None
         }
-        self.trail.arena().nth(id as usize - 1)
     }
 
     // Whether a clause is the reason of a literal's variable.
@@ -143,7 +176,7 @@ impl Learner {
     }
 
     // Whether a clause is the reason of a literal, which is one of its own.
-    fn is_reason(&self, at: Ref) -> bool
+    pub(crate) fn is_reason(&self, at: Ref) -> bool
         requires { at < length self.now.trail.records }
         ensures { result ≡ is_reason self.now.trail.places at }
     {

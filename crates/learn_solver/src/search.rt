@@ -100,12 +100,12 @@ impl Learner {
     }
 
     // Unit propagation.
-    fn propagate(&mut self) -> Result<Option<Ref>, AllocError>
+    fn propagate(&mut self) -> Option<Ref>
         requires { IsSound self.old }
         ensures steps { Steps self.old self.new }
         ensures kept { Propagates self.old.trail self.new.trail }
         ensures guides { Guides self.old self.new }
-        ensures found { IfOk result (λ o. MatchOption o (IsPropagated self.new.trail) (λ at. IsConflict self.new.trail at)) }
+        ensures found { MatchOption result (IsPropagated self.new.trail) (λ at. IsConflict self.new.trail at) }
     {
         self.trail.propagate()
     }
@@ -223,7 +223,7 @@ impl Learner {
         ensures steps { Steps self.old self.new }
         ensures served { IfOk result (Serves self.old self.new assumptions.now) }
     {
-        match self.propagate()? {
+        match self.propagate() {
             Some(at) => self.turn(at),
             None => self.extend(assumptions),
         }

@@ -1,30 +1,18 @@
 //! Clauses that are shown by hints from outside: each is checked before it is added.
-ghost use Rattle.std.specs.Prelude.{◌≡◌, ◌≢◌, ◌<◌, ◌≤◌, ℕ, Option, None, length, take, IfOk, IfSome, IfNone, MatchOption};
-ghost use Rattle.lits_core.specs.Derivation.{live_clause, has_lit, open_lits, hint_fault, hints_fault, SameLits};
-ghost use Rattle.lits_core.specs.declared.LineFault.{LineFault};
+ghost use Rattle.std.specs.Prelude.{◌≡◌, ◌≢◌, ◌<◌, ◌≤◌, None, length, take, IfOk, OnErr, IfSome, IfNone, MatchOption};
+ghost use Rattle.lits_core.specs.Derivation.{live_clause, has_lit, open_lits, hint_of, hints_fault, SameLits};
 ghost use Rattle.clause_arena.specs.Records.{record_at};
 ghost use Rattle.watch_arena.specs.Trails.{AreInRange};
 ghost use Rattle.conflict_clause.specs.Taught.{IsTaught};
 
 use crate::learner::Learner;
 use clause_arena::Ref;
-use lits_core::{Clause, Ids, Lit};
+use lits_core::{Clause, Hint, Ids, Lit};
 use std::alloc::AllocError;
-
-// What the clause of a hint does, once some literals are held false.
-#[derive(Clone, Copy, PartialEq, Eq, Debug)]
-pub(crate) enum Hint {
-    // All its literals are held false.
-    Falsified,
-    // All but this one, which so must hold.
-    Implies(Lit),
-    // Two or more are not.
-    NotUnit,
-}
 
 impl Learner {
     ghost use Rattle.learn_solver.specs.Learners.{seen, IsSound, Steps};
-    ghost use Rattle.learn_solver.specs.Hints.{fault_of};
+    ghost use Rattle.learn_solver.specs.Hints.{Suffice, AddsLine, Derives};
 
     // Adds a clause that hints show, with its line, and answers its id; none where they do not show it.
     pub(crate) fn derive(&mut self, lits: &[Lit], hints: &[u64]) -> Result<Option<u64>, AllocError>
@@ -35,6 +23,8 @@ impl Learner {
         ensures shown { IfOk result (λ o. IfSome o (λ _. hints_fault (seen self.old).state hints.now lits.now ≡ None)) }
         ensures fault { IfOk result (λ o. IfNone o (hints_fault (seen self.old).state hints.now lits.now ≢ None)) }
         ensures same { IfOk result (λ o. IfNone o (self.new ≡ self.old)) }
+        ensures line { IfOk result (λ o. IfSome o (Derives (seen self.old) (seen self.new) lits.now hints.now)) }
+        ensures err { OnErr result (seen self.new ≡ seen self.old) }
     {
         match self.shown_by(lits, hints)? {
             Some(count) => {
@@ -51,6 +41,8 @@ impl Learner {
         requires taught { IsTaught self.old.trail lits.now hints.now }
         ensures steps { Steps self.old self.new }
         ensures put { IfOk result (λ id. MatchOption (live_clause (seen self.new).state id) ⊥ (SameLits lits.now)) }
+        ensures line { IfOk result (AddsLine (seen self.old) (seen self.new) lits.now hints.now) }
+        ensures err { OnErr result (seen self.new ≡ seen self.old) }
     {
         let clause = Clause::from_lits(self.alloc, lits)?;
         let ids = Ids::new(Vec::from_slice(self.alloc, hints)?);
@@ -63,6 +55,7 @@ impl Learner {
         requires sound { IsSound self.now }
         requires range { AreInRange lits.now self.now.trail.variables }
         ensures within { IfOk result (λ o. IfSome o (λ count. count ≤ length hints.now)) }
+        ensures enough { IfOk result (λ o. IfSome o (Suffice (seen self.now).state lits.now hints.now)) }
         ensures taught { IfOk result (λ o. IfSome o (λ count. IsTaught self.now.trail lits.now (take count hints.now))) }
         ensures shown { IfOk result (λ o. IfSome o (λ _. hints_fault (seen self.now).state hints.now lits.now ≡ None)) }
         ensures fault { IfOk result (λ o. IfNone o (hints_fault (seen self.now).state hints.now lits.now ≢ None)) }
@@ -84,7 +77,7 @@ impl Learner {
     // What a clause does once some literals are held false.
     fn hint_of(&self, falses: &[Lit], at: Ref) -> Hint
         requires { at < length self.now.trail.records }
-        ensures { (further : ℕ → Option LineFault) → hint_fault (open_lits falses.now (record_at self.now.trail.records at).lits) further ≡ fault_of result further }
+        ensures { result ≡ hint_of (open_lits falses.now (record_at self.now.trail.records at).lits) }
     {
         let mut open = None;
         for place in 0..self.trail.arena().len_of(at) {

@@ -2,7 +2,8 @@
 ghost use Rattle.std.specs.Prelude.{◌≡◌, ◌≢◌, ◌+◌, [], None, length, IfOk, OnOk, OnErr, IfSome, IfNone, MatchOption, MatchResult, ⊤};
 ghost use Rattle.lits_core.specs.Derivation.{State, first_state, live_clause, hints_fault, SameLits};
 ghost use Rattle.watch_arena.specs.Trails.{AreInRange};
-ghost use Rattle.learn_solver.specs.Solving.{SolverState, GoesTo, IsSolver, AddsGiven, AreConsistent, IsModel, IsRefutation};
+ghost use Rattle.learn_solver.specs.Solving.{SolverState, GoesTo, IsSolver, AddsGiven, IsTidied, AreConsistent, IsModel, IsRefutation};
+ghost use Rattle.learn_solver.specs.Hints.{Derives};
 ghost use Rattle.learn_solver.specs.Answers.{IsAnswer};
 
 use crate::learner::Learner;
@@ -78,7 +79,8 @@ impl Solver {
     /// then nothing has changed.
     ///
     /// The hints are ids, taken in turn with the clause's literals held false: each one's clause must be left at most one
-    /// literal, which then holds, until one is left none. Hints after that one are dropped.
+    /// literal, which then holds, until one is left none. Hints after that one are dropped. After want of memory nothing has
+    /// changed either.
     pub fn derive(&mut self, lits: &[Lit], hints: &[u64]) -> Result<Option<u64>, AllocError>
         requires range { AreInRange lits.now self.old.variables }
         ensures kept { GoesTo self.old self.new }
@@ -86,6 +88,8 @@ impl Solver {
         ensures shown { IfOk result (λ o. IfSome o (λ _. hints_fault self.old.state hints.now lits.now ≡ None)) }
         ensures fault { IfOk result (λ o. IfNone o (hints_fault self.old.state hints.now lits.now ≢ None)) }
         ensures same { IfOk result (λ o. IfNone o (self.new ≡ self.old)) }
+        ensures line { IfOk result (λ o. IfSome o (Derives self.old self.new lits.now hints.now)) }
+        ensures err { OnErr result (self.new ≡ self.old) }
     {
         self.learner.derive(lits, hints)
     }
@@ -110,6 +114,17 @@ impl Solver {
         ensures { self.new ≡ record self.old { waiting = [] } }
     {
         self.learner.waiting.clear();
+    }
+
+    /// Forgets the clauses that are idle, with one line for them all.
+    ///
+    /// It takes all its memory first: where that is wanting, nothing has changed.
+    pub fn tidy(&mut self) -> Result<(), AllocError>
+        ensures kept { GoesTo self.old self.new }
+        ensures ok { OnOk result (IsTidied self.old self.new) }
+        ensures err { OnErr result (self.new ≡ self.old) }
+    {
+        self.learner.tidy()
     }
 
     /// How many clauses are idle.

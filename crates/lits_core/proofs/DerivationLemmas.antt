@@ -4,7 +4,7 @@ use Rattle.std.specs.Prelude.{slice_get, is_none, is_some}
 use Rattle.std.specs.List.{list_any, list_all}
 use Rattle.std.proofs.lemmas.Bool.{cases_Bool, and_parts, and_from, or_parts, or_from, or_cases, or_left, or_right, true_from_ne_false, false≢true, eqb-true}
 use Rattle.lits_core.specs.Literals.{negation_of, lit_true, clause_true, meets_all}
-use Rattle.lits_core.specs.Derivation.{State, or_else, given_clause, derived_clause, live_clause, has_lit, open_lits, hint_fault, named_fault, hints_fault, without_id, without_ids, line_fault, next_state, state_after, is_valid_derivation, derived_clauses, DerivedFollow, first_state}
+use Rattle.lits_core.specs.Derivation.{State, or_else, given_clause, derived_clause, live_clause, has_lit, open_lits, hint_of, hint_fault, named_fault, hints_fault, without_id, without_ids, line_fault, next_state, state_after, is_valid_derivation, derived_clauses, DerivedFollow, first_state}
 use Rattle.lits_core.specs.declared.Line.{Line}
 use Rattle.lits_core.specs.declared.Line.TheVariants.{Derive, Forget}
 use Rattle.lits_core.specs.declared.LineFault.{LineFault}
@@ -37,7 +37,7 @@ joined-false : (bits : List Bool) (falses : List ℕ) (lit : ℕ) → lit_true b
 joined-false bits falses lit t f = or_from _ _ (lit_true-negation bits lit ∙ ap not t) f
 
 -- a hint with a true clause never ends the line, where the further hints do not
-hint-no_end : (bits : List Bool) (falses open_ones : List ℕ) (further : ℕ → Option LineFault) → clause_true bits open_ones ≡ true → clause_true bits falses ≡ false → ((lit : ℕ) → clause_true bits (negation_of lit ∷ falses) ≡ false → further lit ≡ None → ⊥) → hint_fault open_ones further ≡ None → ⊥
+hint-no_end : (bits : List Bool) (falses open_ones : List ℕ) (further : ℕ → Option LineFault) → clause_true bits open_ones ≡ true → clause_true bits falses ≡ false → ((lit : ℕ) → clause_true bits (negation_of lit ∷ falses) ≡ false → further lit ≡ None → ⊥) → hint_fault (hint_of open_ones) further ≡ None → ⊥
 hint-no_end bits falses [] further t f next e = false≢true t
 hint-no_end bits falses (lit ∷ lits) further t f next e =
     elim (cases_Bool (list_all (λ l. eqb l lit) lits)) [

@@ -4,7 +4,7 @@ use Rattle.std.specs.Prelude.{is_some, slice_get, filter}
 use Rattle.std.specs.List.{list_any, list_all}
 use Rattle.std.proofs.lemmas.Bool.{cases_Bool, and_parts, and_from, or_cases, or_left, or_right, false≢true, true≢false, eqb-true, eq-eqb}
 use Rattle.lits_core.specs.Literals.{negation_of, lit_true, clause_true}
-use Rattle.lits_core.specs.Derivation.{State, or_else, given_clause, derived_clause, live_clause, has_lit, open_lits, hint_fault, named_fault, hints_fault, without_id, without_ids, forget_fault, line_fault, next_state, SameLits, SameGiven, SameDerived, SameState, SameLine}
+use Rattle.lits_core.specs.Derivation.{State, or_else, given_clause, derived_clause, live_clause, has_lit, open_lits, hint_of, hint_fault, named_fault, hints_fault, without_id, without_ids, forget_fault, line_fault, next_state, SameLits, SameGiven, SameDerived, SameState, SameLine}
 use Rattle.lits_core.specs.declared.Line.{Line}
 use Rattle.lits_core.specs.declared.Line.TheVariants.{Derive, Forget}
 use Rattle.lits_core.specs.declared.LineFault.{LineFault}
@@ -68,7 +68,7 @@ one-in a b xs ys e h =
     (first, from_only b ys (λ other i. only a (a ∷ xs) other all (e other ∙ or_right _ _ i) ∙ sym first))
 
 -- what comes of a hint is the same
-pub same-hint : (a b : List ℕ) (further next : ℕ → Option LineFault) → SameLits a b → ((lit : ℕ) → further lit ≡ next lit) → hint_fault a further ≡ hint_fault b next
+pub same-hint : (a b : List ℕ) (further next : ℕ → Option LineFault) → SameLits a b → ((lit : ℕ) → further lit ≡ next lit) → hint_fault (hint_of a) further ≡ hint_fault (hint_of b) next
 same-hint [] [] further next e h = refl
 same-hint [] (b ∷ ys) further next e h = absurd (false≢true (e b ∙ or_left _ _ (eqb-self b)))
 same-hint (a ∷ xs) [] further next e h = absurd (true≢false (sym (or_left _ _ (eqb-self a)) ∙ e a))

@@ -1,8 +1,10 @@
 -- Derivations by reverse unit propagation with the hints in order. A line derives a clause from live ones, or forgets
 -- derived ones. A clause counts as the set of its literals.
-use Rattle.std.specs.Prelude.{◌≡◌, ℕ, ◌-◌, ◌==◌, Bool, true, ◌&&◌, not, List, [], ◌∷◌, ◌++◌, map, filter, if◌then◌else◌, slice_get, Option, Some, None, is_some, is_none, IsTrue}
+use Rattle.std.specs.Prelude.{◌≡◌, ℕ, ◌-◌, ◌≤◌, ◌==◌, Bool, true, ◌&&◌, not, List, [], ◌∷◌, ◌++◌, map, filter, if◌then◌else◌, slice_get, Option, Some, None, is_some, is_none, All, IsTrue}
 use Rattle.std.specs.List.{list_any, list_all}
 use Rattle.lits_core.specs.Literals.{negation_of, clause_true, meets_all}
+use Rattle.lits_core.specs.declared.Hint.{Hint}
+use Rattle.lits_core.specs.declared.Hint.TheVariants.{Falsified, Implies, NotUnit}
 use Rattle.lits_core.specs.declared.Line.{Line}
 use Rattle.lits_core.specs.declared.Line.TheVariants.{Derive, Forget}
 use Rattle.lits_core.specs.declared.LineFault.{LineFault}
@@ -43,16 +45,23 @@ has_lit lits lit = list_any (λ l. l == lit) lits
 abbrev pub open_lits : List ℕ → List ℕ → List ℕ
 open_lits falses clause = filter (λ l. not (has_lit falses l)) clause
 
--- what comes of a hint, by the open literals of its clause: with none the line is valid; where all are one literal it
--- holds, and the further hints decide; with two the clause is not unit
-abbrev pub hint_fault : List ℕ → (ℕ → Option LineFault) → Option LineFault
-hint_fault [] further = None
-hint_fault (lit ∷ lits) further = if list_all (λ l. l == lit) lits then further lit else Some HintNotUnit
+-- what the clause of a hint does, by its open literals: with none it is falsified; where all are one literal it implies
+-- that one; with two it is not unit
+abbrev pub hint_of : List ℕ → Hint
+hint_of [] = Falsified
+hint_of (lit ∷ lits) = if list_all (λ l. l == lit) lits then Implies lit else NotUnit
 
--- what comes of a hint, by the live clause that it names
+-- the fault that a hint leaves: none with a falsified clause, which makes the line valid; what the further hints leave
+-- once the implied literal holds; and that the clause is not unit
+abbrev pub hint_fault : Hint → (ℕ → Option LineFault) → Option LineFault
+hint_fault Falsified further = None
+hint_fault (Implies lit) further = further lit
+hint_fault NotUnit further = Some HintNotUnit
+
+-- the fault that a hint leaves, by the live clause that it names
 abbrev pub named_fault : Option (List ℕ) → List ℕ → (ℕ → Option LineFault) → Option LineFault
 named_fault None falses further = Some UnknownHint
-named_fault (Some clause) falses further = hint_fault (open_lits falses clause) further
+named_fault (Some clause) falses further = hint_fault (hint_of (open_lits falses clause)) further
 
 -- the fault of the hints in turn, with these literals held false
 abbrev pub hints_fault : State → List ℕ → List ℕ → Option LineFault
@@ -95,6 +104,11 @@ state_after state (line ∷ lines) = state_after (next_state state line) lines
 abbrev pub is_valid_derivation : State → List Line → Bool
 is_valid_derivation state [] = true
 is_valid_derivation state (line ∷ lines) = is_none (line_fault state line) && is_valid_derivation (next_state state line) lines
+
+-- the ids in a line are at least 1
+abbrev pub FromOne : Line → Type 0
+FromOne (Derive id lits hints) = (1 ≤ id) × All (λ hint. 1 ≤ hint) hints
+FromOne (Forget ids) = All (λ id. 1 ≤ id) ids
 
 -- the derived clauses without their ids
 abbrev pub derived_clauses : State → List (List ℕ)

@@ -205,6 +205,17 @@ pub enum Line {
     Forget { ids: Ids },
 }
 
+/// What the clause of a hint does once some literals are held false.
+#[derive(Debug, Clone, Copy, PartialEq, Eq)]
+pub enum Hint {
+    /// All of its literals are held false.
+    Falsified,
+    /// All but this literal are, so it has to hold.
+    Implies(Lit),
+    /// Two literals or more are not.
+    NotUnit,
+}
+
 /// Why a line is refused.
 #[derive(Debug, Clone, Copy, PartialEq, Eq, Error)]
 pub enum LineFault {

@@ -34,7 +34,7 @@ fn follow(trail: &mut Trail, lit: Lit) -> Result<bool, AllocError>
     if trail.place_of(lit.variable()).is_none() {
         trail.assume(lit);
     }
-    Ok(trail.propagate()?.is_none())
+    Ok(trail.propagate().is_none())
 }
 
 // The first variable is true and implies all others: how many are true then.

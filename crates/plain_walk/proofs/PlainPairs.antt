@@ -1,7 +1,8 @@
--- Lists of pairs as they grow, and tests of all pairs.
-use Rattle.std.proofs.Common.{◌≡◌, ℕ, zero, suc, ◌+◌, Bool, true, false, ◌&&◌, ◌||◌, not, cond, List, [], ◌∷◌, ◌++◌, map, append_assoc, append-nil, add-zero, add-one, refl, sym, ap, ◌∙◌, arith}
-use Rattle.std.specs.Prelude.{flat_map, filter, nat_lt, if◌then◌else◌}
-use Rattle.std.specs.List.{list_all, list_any, range_with_len}
+-- What the tests of all pairs come to.
+use Rattle.std.proofs.Common.{◌≡◌, ℕ, ◌<◌, ◌+◌, Bool, true, false, ◌&&◌, ◌||◌, not, cond, List, [], ◌∷◌, ◌++◌, map, take, get_or, length, refl, sym, ap, ◌∙◌}
+use Rattle.std.specs.Prelude.{flat_map, filter, if◌then◌else◌}
+use Rattle.std.specs.List.{list_all, list_any}
+use Rattle.std.proofs.lemmas.List.{take_more, map-append}
 use Rattle.rcc5_core.specs.declared.Rel.{Rel}
 use Rattle.rcc5_core.specs.declared.RelSet.{RelSet}
 use Rattle.rcc5_core.specs.declared.Regions.{Regions}
@@ -9,83 +10,31 @@ use Rattle.rcc5_core.specs.declared.Region.{Region}
 use Rattle.rcc5_core.specs.declared.Occupancy.TheVariants.{Occupied}
 use Rattle.rcc5_core.specs.RelationSet.{is_empty_set}
 use Rattle.rcc5_core.specs.Region.{forced_regions, all_regions, same_word, word_at}
-use Rattle.world_model.specs.Problem.{Problem, concept_count, concepts, is_cross, all_pairs, pairs}
+use Rattle.world_model.specs.Problem.{Problem, concept_count, concepts, pairs, pair_count}
 use Rattle.world_model.specs.Family.{implies}
-use Rattle.world_model.specs.Alive.{allowed, forced_of, forced_pairs, avoids, bit_of, lies_in, Need, InRegion, InConcept, is_in_need, needs_at, needs, each_has_one, obeys, all_allow, problem_at}
+use Rattle.world_model.specs.Alive.{allowed, forced_of, forced_pairs, bit_of, lies_in, Need, InRegion, InConcept, is_in_need, needs_at, needs, each_has_one, obeys, all_allow, problem_at}
+use Rattle.world_model.specs.Node.{pair_at}
 use Rattle.world_model.specs.Trial.{bit_lists, points_by_trial, alive_by_trial}
-use Rattle.plain_walk.specs.Plain.{pairs_from, avoids_at, serves_at}
-
-range_step : {X : Type 0} (f : ℕ → List X) (a n : ℕ) → flat_map f (range_with_len a (suc n)) ≡ flat_map f (range_with_len a n) ++ f (a + n)
-range_step f a zero = rw add-zero (append-nil (f a))
-range_step f a (suc n) =
-    let same : (a + 1) + n ≡ a + suc n = omega arith in
-    ap (λ xs. f a ++ xs) (range_step f (a + 1) n ∙ ap (λ k. flat_map f (range_with_len (a + 1) n) ++ f k) same) ∙
-    sym (append_assoc (f a) (flat_map f (range_with_len (a + 1) n)) (f (a + suc n)))
-
--- the pairs of one concept more
-pub all_pairs_more : (count i : ℕ) → flat_map (pairs_from count) (range_with_len 0 (i + 1)) ≡ flat_map (pairs_from count) (range_with_len 0 i) ++ pairs_from count i
-all_pairs_more count i = rw add-one (range_step (pairs_from count) 0 i ∙ ap (λ k. flat_map (pairs_from count) (range_with_len 0 i) ++ pairs_from count k) (omega arith))
+use Rattle.plain_walk.specs.Plain.{serves_at}
 
 and_assoc : (a b c : Bool) → ((a && b) && c) ≡ (a && (b && c))
 and_assoc true b c = refl
 and_assoc false b c = refl
-
-and_swap : (a b c : Bool) → (a && (b && c)) ≡ (b && (a && c))
-and_swap true b c = refl
-and_swap false true c = refl
-and_swap false false c = refl
 
 -- a test of all of two lists
 all_of_two : {X : Type 0} (g : X → Bool) (xs ys : List X) → list_all g (xs ++ ys) ≡ (list_all g xs && list_all g ys)
 all_of_two g [] ys = refl
 all_of_two g (x ∷ xs) ys = ap (λ b. g x && b) (all_of_two g xs ys) ∙ sym (and_assoc (g x) (list_all g xs) (list_all g ys))
 
--- of those that pass another test and of those that don't
-all_of_parts : {X : Type 0} (g c : X → Bool) (xs : List X) → (list_all g (filter c xs) && list_all g (filter (λ x. not (c x)) xs)) ≡ list_all g xs
-all_of_parts g c [] = refl
-all_of_parts {X} g c (x ∷ xs) = step (c x) (filter c xs) (filter (λ y. not (c y)) xs) (all_of_parts g c xs)
-  where
-    step : (b : Bool) (ys zs : List X) → (list_all g ys && list_all g zs) ≡ list_all g xs →
-        (list_all g (cond b (x ∷ ys) ys) && list_all g (cond (not b) (x ∷ zs) zs)) ≡ (g x && list_all g xs)
-    step true ys zs h = and_assoc (g x) (list_all g ys) (list_all g zs) ∙ ap (λ b. g x && b) h
-    step false ys zs h = and_swap (list_all g ys) (g x) (list_all g zs) ∙ ap (λ b. g x && b) h
-
 -- of lists, one after another
 all_of_each : {X Y : Type 0} (g : Y → Bool) (h : X → List Y) (xs : List X) → list_all g (flat_map h xs) ≡ list_all (λ x. list_all g (h x)) xs
 all_of_each g h [] = refl
 all_of_each g h (x ∷ xs) = all_of_two g (h x) (flat_map h xs) ∙ ap (λ b. list_all g (h x) && b) (all_of_each g h xs)
 
--- of the pairs of one concept with some after it
-all_of_later : (g : ℕ × ℕ → Bool) (i : ℕ) (js : List ℕ) → list_all g (map (λ j. (i, j)) (filter (nat_lt i) js)) ≡ list_all (λ j. not (nat_lt i j) || g (i, j)) js
-all_of_later g i [] = refl
-all_of_later g i (j ∷ js) = step (nat_lt i j) (all_of_later g i js)
-  where
-    step : (b : Bool) → list_all g (map (λ j. (i, j)) (filter (nat_lt i) js)) ≡ list_all (λ j. not (nat_lt i j) || g (i, j)) js →
-        list_all g (map (λ j. (i, j)) (cond b (j ∷ filter (nat_lt i) js) (filter (nat_lt i) js))) ≡ ((not b || g (i, j)) && list_all (λ j. not (nat_lt i j) || g (i, j)) js)
-    step true h = ap (λ b. g (i, j) && b) h
-    step false h = h
-
 -- two tests that agree
 all_same : {X : Type 0} (f g : X → Bool) (xs : List X) → ((x : X) → f x ≡ g x) → list_all f xs ≡ list_all g xs
 all_same f g [] h = refl
 all_same f g (x ∷ xs) h = ap (λ b. b && list_all f xs) (h x) ∙ ap (λ b. g x && b) (all_same f g xs h)
-
--- a test of what is forced of some pairs
-all_forced : (p : Problem) (f : (ℕ × ℕ) × Regions → Bool) (ps : List (ℕ × ℕ)) → list_all f (forced_of p ps) ≡ list_all (λ pair. f (pair, forced_regions (allowed p pair))) ps
-all_forced p f [] = refl
-all_forced p f (pair ∷ ps) = ap (λ b. f (pair, forced_regions (allowed p pair)) && b) (all_forced p f ps)
-
--- a point avoids what is forced empty where it does so at each pair
-pub avoids_by_pairs : (p : Problem) (bits : List Bool) →
-    list_all (λ i. list_all (avoids_at p bits i) (concepts p)) (concepts p) ≡ list_all (avoids bits) (forced_pairs p)
-avoids_by_pairs p bits =
-    let g : ℕ × ℕ → Bool = λ pair. avoids bits (pair, forced_regions (allowed p pair)) in
-    let later = λ (i : ℕ). all_of_later g i (concepts p) in
-    sym (all_same (λ i. list_all g (pairs_from (concept_count p) i)) (λ i. list_all (avoids_at p bits i) (concepts p)) (concepts p) later) ∙
-    sym (all_of_each g (pairs_from (concept_count p)) (concepts p)) ∙
-    sym (all_of_parts g (is_cross p) (all_pairs p)) ∙
-    sym (all_of_two g (filter (is_cross p) (all_pairs p)) (filter (λ pair. not (is_cross p pair)) (all_pairs p))) ∙
-    sym (all_forced p (avoids bits) (filter (is_cross p) (all_pairs p) ++ filter (λ pair. not (is_cross p pair)) (all_pairs p)))
 
 -- a test of images
 all_of_map : {X Y : Type 0} (g : Y → Bool) (f : X → Y) (xs : List X) → list_all g (map f xs) ≡ list_all (λ x. g (f x)) xs
@@ -160,3 +109,11 @@ alive_by_sets p m sets forced points same h f e =
     served_by_parts q points ∙
     ap (each_has_one (needs q)) all ∙
     sym (ap (λ b. b && each_has_one (needs q) (points_by_trial q)) allow)
+
+-- one pair more with its set
+pub sets_more : (p q : Problem) (i : ℕ) (old new : List ((ℕ × ℕ) × RelSet)) (pair : ℕ × ℕ) (set : RelSet) → i < pair_count p → pair ≡ pair_at p i → set ≡ allowed q (pair_at p i) →
+    old ≡ map (λ x. (x, allowed q x)) (take i (pairs p)) → new ≡ old ++ (pair, set) ∷ [] → new ≡ map (λ x. (x, allowed q x)) (take (i + 1) (pairs p))
+sets_more p q i old new pair set within at is was now =
+    let f : ℕ × ℕ → (ℕ × ℕ) × RelSet = λ x. (x, allowed q x) in
+    now ∙ (λ j. was j ++ (at j, is j) ∷ []) ∙
+    sym (ap (map f) (take_more (pairs p) i (0, 0) within) ∙ map-append f (take i (pairs p)) (pair_at p i ∷ []))

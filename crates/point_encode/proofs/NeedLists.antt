@@ -30,26 +30,6 @@ concept_added p before old new c now was =
 pub concept_in_range : (p : Problem) (old new : List Stated) (c : ℕ) → new ≡ old ++ Concept c ∷ [] → c < concept_count p → All (IsInRange p) old → All (IsInRange p) new
 concept_in_range p old new c now within all = subst (All (IsInRange p)) (sym now) (All-push (IsInRange p) old (Concept c) all within)
 
--- the needs of some pairs
-abbrev pub pairs_needs : Problem → List (ℕ × ℕ) → List Need
-pairs_needs p qs = flat_map needs_at (forced_of p qs)
-
--- one more pair is looked at
-pub pair_added : (p : Problem) (m : List Rel) (done more all : List Need) (k : ℕ) → k < pair_count p →
-    more ≡ done ++ needs_at (pair_at p k, forced_regions (allowed (problem_at p m) (pair_at p k))) →
-    done ++ pairs_needs (problem_at p m) (drop k (pairs p)) ≡ all → more ++ pairs_needs (problem_at p m) (drop (k + 1) (pairs p)) ≡ all
-pair_added p m done more all k within is left =
-    let here_needs = needs_at (pair_at p k, forced_regions (allowed (problem_at p m) (pair_at p k))) in
-    ap (λ l. l ++ pairs_needs (problem_at p m) (drop (k + 1) (pairs p))) is
-    ∙ append_assoc done here_needs (pairs_needs (problem_at p m) (drop (k + 1) (pairs p)))
-    ∙ ap (λ l. done ++ l) (sym (at_drop_more (pairs_needs (problem_at p m)) (pairs p) k (0, 0) within))
-    ∙ left
-
--- all pairs were looked at
-pub pairs_done : (p : Problem) (m : List Rel) (done all : List Need) (k : ℕ) → pair_count p ≤ k → done ++ pairs_needs (problem_at p m) (drop k (pairs p)) ≡ all → done ≡ all
-pairs_done p m done all k past left =
-    sym (append-nil done) ∙ ap (λ l. done ++ l) (sym (at_drop_all (pairs_needs (problem_at p m)) (pairs p) k past)) ∙ left
-
 -- a concept is a need exactly where non-emptiness is on
 pub concept_forced : (p : Problem) (m : List Rel) (c : ℕ) (on : Bool) → c < concept_count p → on ≡ p.switches.nonempty →
     IsTrue on ↔ Contains (needs (problem_at p m)) (InConcept c)

@@ -4,27 +4,21 @@ use Rattle.std.specs.Prelude.{filter, slice_get, Some}
 use Rattle.std.proofs.lemmas.List.{append_assoc, append-nil, at_drop_more, at_drop_all}
 use Rattle.std.proofs.lemmas.Option.{get_or_from_slice_get}
 use Rattle.rcc5_core.specs.declared.Rel.{Rel}
-use Rattle.rcc5_core.specs.declared.Regions.{Regions}
-use Rattle.rcc5_core.specs.declared.Occupancy.TheVariants.{Empty}
-use Rattle.rcc5_core.specs.Region.{all_regions, word_at, same_word, forced_regions}
+use Rattle.rcc5_core.specs.Region.{forced_regions}
 use Rattle.world_model.specs.Problem.{Problem, pairs, pair_count}
 use Rattle.world_model.specs.Alive.{allowed, forced_of, problem_at}
 use Rattle.world_model.specs.Node.{pair_at}
 use Rattle.cert_model.specs.Clauses.{is_so}
-use Rattle.cert_model.specs.Forced.{region_number, region_selectors, sum_selectors}
-
--- the selectors of a pair's regions that are forced empty
-abbrev pub empty_selectors : ℕ → Regions → List ℕ
-empty_selectors first forced = map (λ region. is_so (first + region_number region)) (filter (λ region. same_word (word_at forced region) Empty) all_regions)
+use Rattle.cert_model.specs.Forced.{pair_selectors, region_selectors, sum_selectors}
 
 -- one more pair is looked at
 pub pair_selected : (p : Problem) (m : List Rel) (done more all : List ℕ) (first k : ℕ) → k < pair_count p →
-    more ≡ done ++ empty_selectors (first + 3 * k) (forced_regions (allowed (problem_at p m) (pair_at p k))) →
+    more ≡ done ++ pair_selectors (first + 3 * k) (forced_regions (allowed (problem_at p m) (pair_at p k))) →
     done ++ region_selectors (first + 3 * k) (forced_of (problem_at p m) (drop k (pairs p))) ≡ all →
     more ++ region_selectors (first + 3 * (k + 1)) (forced_of (problem_at p m) (drop (k + 1) (pairs p))) ≡ all
 pair_selected p m done more all first k within is left =
     let q = problem_at p m in
-    let now = empty_selectors (first + 3 * k) (forced_regions (allowed q (pair_at p k))) in
+    let now = pair_selectors (first + 3 * k) (forced_regions (allowed q (pair_at p k))) in
     let next : first + 3 * (k + 1) ≡ first + 3 * k + 3 = omega arith in
     ap (λ n. more ++ region_selectors n (forced_of q (drop (k + 1) (pairs p)))) next
     ∙ ap (λ l. l ++ region_selectors (first + 3 * k + 3) (forced_of q (drop (k + 1) (pairs p)))) is

@@ -5,9 +5,10 @@ ghost use Rattle.constraint_set.specs.Readers.{all_sums};
 ghost use Rattle.cert_model.specs.Clauses.{is_so, is_not, within_clauses, each_two, apart_clause, covered_clause, first_sum_selector, given_clauses, pair_clauses, pairs_clauses, sum_clauses, sums_clauses};
 
 use crate::variables::{
-    children_of, concept_count, first_selector, is_not, is_so, parent_of, sum_count, sum_of,
+    MAX_SUM_START, MAX_VARIABLES, children_of, concept_count, first_selector, is_not, is_so,
+    parent_of, sum_count, sum_of,
 };
-use constraint_set::Problem;
+use constraint_set::{MAX_CONCEPTS, Problem};
 use lits_core::{Clause, Lit};
 use std::alloc::{AllocError, Global};
 
@@ -43,7 +44,7 @@ fn add_with_any(
     concepts: &[u32],
     clauses: &mut Vec<Clause>,
 ) -> Result<(), AllocError>
-    requires { All (λ concept. concept < 1024) concepts.now }
+    requires { All (λ concept. concept < MAX_CONCEPTS) concepts.now }
     ensures { OnOk result (clauses.new.items ≡ clauses.old.items ++ (lits.now ++ map is_so concepts.now) ∷ []) }
 {
     let mut all = Vec::from_slice(alloc, lits)?;
@@ -81,7 +82,7 @@ fn add_apart_all(
     concepts: &[u32],
     clauses: &mut Vec<Clause>,
 ) -> Result<(), AllocError>
-    requires { All (λ concept. concept < 1024) concepts.now }
+    requires { All (λ concept. concept < MAX_CONCEPTS) concepts.now }
     ensures { OnOk result (clauses.new.items ≡ clauses.old.items ++ map apart_clause (each_two concepts.now)) }
 {
     for (place, concept) in concepts.iter().enumerate() {
@@ -97,8 +98,8 @@ fn add_apart_from(
     others: &[u32],
     clauses: &mut Vec<Clause>,
 ) -> Result<(), AllocError>
-    requires concept { concept < 1024 }
-    requires others { All (λ other. other < 1024) others.now }
+    requires concept { concept < MAX_CONCEPTS }
+    requires others { All (λ other. other < MAX_CONCEPTS) others.now }
     ensures { OnOk result (clauses.new.items ≡ clauses.old.items ++ map apart_clause (map (λ other. (concept, other)) others.now)) }
 {
     for other in others {
@@ -128,7 +129,7 @@ fn add_covered(
 fn add_pairs(alloc: Global, problem: &Problem, clauses: &mut Vec<Clause>) -> Result<(), AllocError>
     ensures { OnOk result (clauses.new.items ≡ clauses.old.items ++ pairs_clauses (concept_count problem.now) (pairs problem.now)) }
 {
-    let _built = problem.taxonomy_count();
+    problem.facts();
     for pair in 0..problem.pair_count() {
         let (x, y) = problem.pair_at(pair);
         add_pair(alloc, first_selector(problem, pair), x, y, clauses)?;
@@ -144,9 +145,9 @@ fn add_pair(
     y: u32,
     clauses: &mut Vec<Clause>,
 ) -> Result<(), AllocError>
-    requires first { first ≤ 1572352 }
-    requires x { x < 1024 }
-    requires y { y < 1024 }
+    requires first { first ≤ MAX_SUM_START }
+    requires x { x < MAX_CONCEPTS }
+    requires y { y < MAX_CONCEPTS }
     ensures { OnOk result (clauses.new.items ≡ clauses.old.items ++ pair_clauses first (x, y)) }
 {
     add(alloc, &[is_not(first), is_not(x), is_so(y)], clauses)?;
@@ -174,9 +175,9 @@ fn add_sum(
     parts: &[u32],
     clauses: &mut Vec<Clause>,
 ) -> Result<(), AllocError>
-    requires selector { selector ≤ 1576448 }
-    requires whole { whole < 1024 }
-    requires parts { All (λ part. part < 1024) parts.now }
+    requires selector { selector ≤ MAX_VARIABLES }
+    requires whole { whole < MAX_CONCEPTS }
+    requires parts { All (λ part. part < MAX_CONCEPTS) parts.now }
     ensures { OnOk result (clauses.new.items ≡ clauses.old.items ++ sum_clauses selector (record { whole = whole; parts = parts.now })) }
 {
     for part in parts {

@@ -84,7 +84,7 @@ pub fn need_lits(problem: &Problem, need: Need) -> [Option<Lit>; 2]
     requires { IsInRange problem.now need }
     ensures { lits_there (slice_index_or result 0 None) (slice_index_or result 1 None) ≡ need_lits (need_seen problem.now need) }
 {
-    let _built = problem.taxonomy_count();
+    problem.facts();
     match need {
         Need::Concept(c) => [Some(Lit::new(c, false)), None],
         Need::Region { pair, part } => {

@@ -1,15 +1,14 @@
 //! What a prefix leaves to a pair, and the selectors that it makes true.
-ghost use Rattle.std.specs.Prelude.{◌≡◌, ◌+◌, ◌<◌, ◌≤◌, ◌++◌, length, map, filter, IfOk, OnOk};
-ghost use Rattle.rcc5_core.specs.declared.Occupancy.TheVariants.{Empty};
-ghost use Rattle.rcc5_core.specs.Region.{all_regions, word_at, same_word, forced_regions};
+ghost use Rattle.std.specs.Prelude.{◌≡◌, ◌+◌, ◌<◌, ◌≤◌, ◌++◌, length, IfOk, OnOk};
+ghost use Rattle.rcc5_core.specs.Region.{forced_regions};
 ghost use Rattle.world_model.specs.Problem.{pair_count};
 ghost use Rattle.world_model.specs.Alive.{allowed, problem_at};
 ghost use Rattle.world_model.specs.Node.{pair_at};
 ghost use Rattle.constraint_set.specs.Readers.{sum_places};
-ghost use Rattle.cert_model.specs.Clauses.{first_sum_selector, is_so};
-ghost use Rattle.cert_model.specs.Forced.{region_number, selectors_of, sum_selectors};
+ghost use Rattle.cert_model.specs.Clauses.{first_sum_selector};
+ghost use Rattle.cert_model.specs.Forced.{pair_selectors, selectors_of, sum_selectors};
 
-use crate::variables::{first_selector, is_so, sum_count};
+use crate::variables::{MAX_SUM_START, first_selector, is_so, sum_count};
 use constraint_set::Problem;
 use lits_core::Lit;
 use rcc5_core::{Occupancy, Position, Regions, RelSet, forced};
@@ -59,10 +58,10 @@ pub fn selectors_of(
     Ok(lits)
 }
 
-// Adds the selectors of a pair's regions that are forced empty.
-fn add_empty_regions(first: u32, forced: Regions, lits: &mut Vec<Lit>) -> Result<(), AllocError>
-    requires { first ≤ 1572352 }
-    ensures { OnOk result (lits.new.items ≡ lits.old.items ++ map (λ region. is_so (first + region_number region)) (filter (λ region. same_word (word_at forced region) Empty) all_regions)) }
+/// Adds the selectors of a pair's regions that are forced empty, where `first` is the variable of its first selector.
+pub fn add_empty_regions(first: u32, forced: Regions, lits: &mut Vec<Lit>) -> Result<(), AllocError>
+    requires { first ≤ MAX_SUM_START }
+    ensures { OnOk result (lits.new.items ≡ lits.old.items ++ pair_selectors first forced) }
 {
     if forced.left_only == Occupancy::Empty {
         lits.push(is_so(first))?;

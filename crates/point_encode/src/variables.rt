@@ -5,9 +5,15 @@ ghost use Rattle.world_model.specs.Problem.{concept_count, parent_of, children_o
 ghost use Rattle.constraint_set.specs.Readers.{all_sums, sum_places};
 ghost use Rattle.cert_model.specs.Clauses.{first_sum_selector, is_not, is_so, variable_count};
 
-use constraint_set::Problem;
+use constraint_set::{MAX_ARTICULATIONS, MAX_CONCEPTS, MAX_PAIRS, Problem};
 use lits_core::Lit;
 use world_model::{Articulation, pairs_stand_once};
+
+/// The selectors of sums begin no later than with this variable: before them come one a concept and three a pair.
+pub const MAX_SUM_START: u32 = MAX_CONCEPTS + 3 * MAX_PAIRS;
+
+/// The clauses of a problem have no more variables than these.
+pub const MAX_VARIABLES: u32 = MAX_SUM_START + MAX_ARTICULATIONS as u32;
 
 /// How many variables the clauses of a problem have: one a concept, three a pair, one a sum.
 pub fn variable_count(problem: &Problem) -> u32
@@ -20,9 +26,9 @@ pub fn variable_count(problem: &Problem) -> u32
 pub(crate) fn first_selector(problem: &Problem, pair: u32) -> u32
     requires { pair ≤ pair_count problem.now }
     ensures value { result ≡ concept_count problem.now + 3 * pair }
-    ensures small { result ≤ 1572352 }
+    ensures small { result ≤ MAX_SUM_START }
 {
-    let _built = problem.taxonomy_count();
+    problem.facts();
     pairs_stand_once();
     problem.concept_count() + 3 * pair
 }
@@ -30,9 +36,9 @@ pub(crate) fn first_selector(problem: &Problem, pair: u32) -> u32
 // How many concepts there are, which are few.
 pub(crate) fn concept_count(problem: &Problem) -> u32
     ensures value { result ≡ concept_count problem.now }
-    ensures small { result ≤ 1024 }
+    ensures small { result ≤ MAX_CONCEPTS }
 {
-    let _built = problem.taxonomy_count();
+    problem.facts();
     problem.concept_count()
 }
 
@@ -40,15 +46,15 @@ pub(crate) fn concept_count(problem: &Problem) -> u32
 pub(crate) fn sum_count(problem: &Problem) -> u32
     ensures rules { result ≡ length (all_sums problem.now) }
     ensures places { result ≡ length (sum_places problem.now) }
-    ensures small { result ≤ 4096 }
+    ensures small { result ≤ MAX_ARTICULATIONS }
 {
-    let _built = problem.taxonomy_count();
+    problem.facts();
     problem.sum_count()
 }
 
 // The literal that a variable holds.
 pub(crate) fn is_so(variable: u32) -> Lit
-    requires { variable ≤ 1576448 }
+    requires { variable ≤ MAX_VARIABLES }
     ensures { result ≡ is_so variable }
 {
     Lit::new(variable, false)
@@ -56,7 +62,7 @@ pub(crate) fn is_so(variable: u32) -> Lit
 
 // The literal that a variable does not hold.
 pub(crate) fn is_not(variable: u32) -> Lit
-    requires { variable ≤ 1576448 }
+    requires { variable ≤ MAX_VARIABLES }
     ensures { result ≡ is_not variable }
 {
     Lit::new(variable, true)
@@ -66,9 +72,9 @@ pub(crate) fn is_not(variable: u32) -> Lit
 pub(crate) fn parent_of(problem: &Problem, concept: u32) -> Option<u32>
     requires { concept < concept_count problem.now }
     ensures value { result ≡ parent_of problem.now concept }
-    ensures small { IfSome result (λ parent. parent < 1024) }
+    ensures small { IfSome result (λ parent. parent < MAX_CONCEPTS) }
 {
-    let _built = problem.taxonomy_count();
+    problem.facts();
     problem.parent(concept)
 }
 
@@ -76,9 +82,9 @@ pub(crate) fn parent_of(problem: &Problem, concept: u32) -> Option<u32>
 pub(crate) fn children_of(problem: &Problem, concept: u32) -> &[u32]
     requires { concept < concept_count problem.now }
     ensures value { result.now ≡ children_of problem.now concept }
-    ensures small { All (λ child. child < 1024) result.now }
+    ensures small { All (λ child. child < MAX_CONCEPTS) result.now }
 {
-    let _built = problem.taxonomy_count();
+    problem.facts();
     problem.children(concept)
 }
 
@@ -86,10 +92,10 @@ pub(crate) fn children_of(problem: &Problem, concept: u32) -> &[u32]
 pub(crate) fn sum_of(problem: &Problem, sum: u32) -> (u32, &[u32])
     requires { sum < length (all_sums problem.now) }
     ensures value { slice_get (all_sums problem.now) sum ≡ Some (record { whole = result.0; parts = result.1.now }) }
-    ensures whole { result.0 < 1024 }
-    ensures parts { All (λ part. part < 1024) result.1.now }
+    ensures whole { result.0 < MAX_CONCEPTS }
+    ensures parts { All (λ part. part < MAX_CONCEPTS) result.1.now }
 {
-    let _built = problem.taxonomy_count();
+    problem.facts();
     let _count = problem.sum_count();
     match problem.articulation(problem.sum_at(sum)) {
         Articulation::Sum { whole, parts } => (*whole, parts.list()),

@@ -11,7 +11,7 @@ use Rattle.world_model.specs.Problem.{Problem, concept_count}
 use Rattle.world_model.specs.Alive.{all_allow, problem_at, meets_structure, is_point, is_in_need, HasPoint, IsAlive, avoids, forced_pairs}
 use Rattle.world_model.proofs.Members.{In-map, from_map, in_from_contains, contains_from_in, IsImage}
 use Rattle.point_encode.specs.declared.need.Need as code
-use Rattle.point_encode.specs.Needs.{need_seen}
+use Rattle.point_encode.specs.Needs.{need_seen, IsInRange}
 use Rattle.point_query.specs.Answers.{EachServed, IsServed, IsClosed, IsFirstClosed}
 use Rattle.point_query.specs.declared.seek.Sought.TheVariants.{Points, Closed}
 use Rattle.point_query.specs.Asking.{AskerState}
@@ -64,8 +64,9 @@ served_more p m list i need points all places place within is so are front place
 
 -- the first need without a point
 pub stopped_at : (asker : AskerState) (p : Problem) (m : List Rel) (list : List code.Need) (i : ℕ) (need : code.Need) (points : List (List Bool)) (places : List ℕ) (id : ℕ) →
-    i < length list → need ≡ get_or list i need → AreServed p m (take i list) points places → IsClosed asker p m (need_seen p need) id → IsStopped asker p m list need id
-stopped_at asker p m list i need points places id within is so closed = record {
+    i < length list → need ≡ get_or list i need → IsInRange p need → AreServed p m (take i list) points places → IsClosed asker p m (need_seen p need) id → IsStopped asker p m list need id
+stopped_at asker p m list i need points places id within is range so closed = record {
+  range = range;
   before = take i list;
   after = drop (i + 1) list;
   among = sym (take-append-drop i list) ∙ ap (λ xs. take i list ++ xs) (drop_more list i need within ∙ ap (λ n. n ∷ drop (i + 1) list) (sym is));
@@ -86,19 +87,21 @@ answer_alive asker p m found places allow sought =
     served_is_alive (problem_at p m) (chosen found.items places.items) allow (subst (λ ns. EachServed (problem_at p m) ns (chosen found.items places.items)) sought.all sought.found.each)
 
 pub answer_closed : (asker : AskerState) (p : Problem) (m : List Rel) (need : code.Need) (id : ℕ) → IsTrue (all_allow (problem_at p m)) →
-    IsSoughtAt asker p m (Closed need id) → IsFirstClosed asker p m (need_seen p need) id
+    IsSoughtAt asker p m (Closed need id) → IsInRange p need × IsFirstClosed asker p m (need_seen p need) id
 answer_closed asker p m need id allow sought =
-    let stop = sought.found in
-    record {
-      allow = allow;
-      before = map (need_seen p) stop.before;
-      after = map (need_seen p) stop.after;
-      among = sym sought.all ∙ ap (map (need_seen p)) stop.among ∙ map-append (need_seen p) stop.before (need ∷ stop.after);
-      earlier = λ other there.
-          let image : IsImage (need_seen p) other stop.before = from_map (need_seen p) stop.before (in_from_contains (map (need_seen p) stop.before) there) in
-          subst (λ n. HasPoint (problem_at p m) n) (sym image.is) (stop.earlier image.source (contains_from_in image.member));
-      closed = stop.closed;
-    }
+    let stop = sought.found in (
+      stop.range,
+      record {
+        allow = allow;
+        before = map (need_seen p) stop.before;
+        after = map (need_seen p) stop.after;
+        among = sym sought.all ∙ ap (map (need_seen p)) stop.among ∙ map-append (need_seen p) stop.before (need ∷ stop.after);
+        earlier = λ other there.
+            let image : IsImage (need_seen p) other stop.before = from_map (need_seen p) stop.before (in_from_contains (map (need_seen p) stop.before) there) in
+            subst (λ n. HasPoint (problem_at p m) n) (sym image.is) (stop.earlier image.source (contains_from_in image.member));
+        closed = stop.closed;
+      },
+    )
 
 -- no need, and no place
 pub none_served : (p : Problem) (m : List Rel) (points : List (List Bool)) (places : List ℕ) → places ≡ [] → AreServed p m [] points places

@@ -8,7 +8,7 @@ use Rattle.world_model.specs.Problem.{Problem, pair_count}
 use Rattle.world_model.specs.Node.{pair_at}
 use Rattle.world_model.specs.Alive.{Need, allowed, all_allow, needs, problem_at, is_point, is_in_need, HasPoint, IsAlive, each_has_one, serves}
 use Rattle.cert_model.specs.Forced.{IsClosedAt}
-use Rattle.point_encode.specs.Needs.{need_seen}
+use Rattle.point_encode.specs.Needs.{need_seen, IsInRange}
 use Rattle.point_query.specs.declared.answers.Found.{Found}
 use Rattle.point_query.specs.declared.answers.Found.TheVariants.{Point, Closed}
 use Rattle.point_query.specs.declared.answers.Alive.{Alive}
@@ -71,10 +71,10 @@ pub record IsFirstClosed (asker : AskerState) (p : Problem) (m : List Rel) (need
 abbrev pub IsAliveAnswer : AskerState → Problem → List Rel → Alive → Type 0
 IsAliveAnswer asker p m (alive.Points points) = IsServed (problem_at p m) points
 IsAliveAnswer asker p m (alive.EmptyPair pair) = IsFirstEmpty (problem_at p m) pair
-IsAliveAnswer asker p m (alive.Closed need id) = IsFirstClosed asker p m (need_seen p need) id
+IsAliveAnswer asker p m (alive.Closed need id) = IsInRange p need × IsFirstClosed asker p m (need_seen p need) id
 
 -- what `probe` answers
 abbrev pub IsProbeAnswer : AskerState → Problem → List Rel → Probe → Type 0
 IsProbeAnswer asker p m probe.Alive = IsAlive (problem_at p m)
 IsProbeAnswer asker p m (probe.EmptyPair pair) = IsFirstEmpty (problem_at p m) pair
-IsProbeAnswer asker p m (probe.Closed need id) = IsFirstClosed asker p m (need_seen p need) id
+IsProbeAnswer asker p m (probe.Closed need id) = IsInRange p need × IsFirstClosed asker p m (need_seen p need) id

@@ -4,7 +4,7 @@ use Rattle.rcc5_core.specs.declared.Rel.{Rel}
 use Rattle.world_model.specs.Problem.{Problem}
 use Rattle.world_model.specs.Alive.{HasPoint, is_in_need, needs, problem_at}
 use Rattle.point_encode.specs.declared.need.Need.{Need}
-use Rattle.point_encode.specs.Needs.{need_seen}
+use Rattle.point_encode.specs.Needs.{need_seen, IsInRange}
 use Rattle.point_query.specs.declared.seek.Sought.{Sought}
 use Rattle.point_query.specs.declared.seek.Sought.TheVariants.{Points, Closed}
 use Rattle.point_query.specs.declared.seek.Placed.{Placed}
@@ -17,8 +17,9 @@ use Rattle.point_query.specs.Answers.{EachServed, IsClosed}
 abbrev pub chosen : List (List Bool) → List ℕ → List (List Bool)
 chosen points places = map (λ place. slice_index_or points place []) places
 
--- a need among others is the first without a point, as a clause shows
+-- a need in range is the first among others without a point, as a clause shows
 pub record IsStopped (asker : AskerState) (p : Problem) (m : List Rel) (needs : List Need) (need : Need) (id : ℕ) : Type 0 where
+  pub range : IsInRange p need
   pub before : List Need
   pub after : List Need
   pub among : needs ≡ before ++ need ∷ after

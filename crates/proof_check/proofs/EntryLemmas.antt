@@ -83,16 +83,6 @@ pub found-some : (found : Option (Bor (List ℕ))) (clause : Option (List ℕ)) 
 found-some None clause e = ap is_some (sym e)
 found-some (Some lits) clause e = ap is_some (sym e)
 
--- taking out the entry at a place is taking out its id, where those before it have others
-pub taken_out : (entries : List (ℕ × List ℕ)) (place id : ℕ) (entry : ℕ × List ℕ) → place < length entries → entry ≡ get_or entries place entry → entry.0 ≡ id → take place entries ++ without_id (drop place entries) id ≡ without_id entries id → remove entries place ≡ without_id entries id
-taken_out entries place id entry l at is before =
-    ap (λ (rest : List (ℕ × List ℕ)). take place entries ++ rest) (
-    ap (λ (n : ℕ). drop n entries) (sym (add-one place))
-    ∙ sym (cond-true (eqb entry.0 id) (drop (place + 1) entries) (entry ∷ without_id (drop (place + 1) entries) id) (eq-eqb entry.0 id is))
-    ∙ ap (λ (e : ℕ × List ℕ). without_id (e ∷ drop (place + 1) entries) id) at
-    ∙ sym (at_drop_more (λ es. without_id es id) entries place entry l))
-    ∙ before
-
 or_comm : (a b : Bool) → (a || b) ≡ (b || a)
 or_comm true true = refl
 or_comm true false = refl

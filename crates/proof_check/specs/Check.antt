@@ -1,21 +1,13 @@
 -- How a call answers a fault that the definition of derivations gives, and what a book keeps.
-use Rattle.std.specs.Prelude.{◌≡◌, ◌≢◌, ℕ, ◌==◌, List, [], ◌∷◌, if◌then◌else◌, Option, Some, None, Result, MatchResult, IsTrue}
-use Rattle.std.specs.List.{list_all}
+use Rattle.std.specs.Prelude.{◌≡◌, ◌≢◌, Option, Some, None, Result, MatchResult, IsTrue}
 use Rattle.lits_core.specs.declared.LineFault.{LineFault}
 use Rattle.lits_core.specs.declared.LineFault.TheVariants.{NoMemory}
 use Rattle.lits_core.specs.Derivation.{State, DerivedFollow, has_distinct_ids}
-use Rattle.proof_check.specs.declared.hint.Hint.{Hint}
-use Rattle.proof_check.specs.declared.hint.Hint.TheVariants.{Falsified, Implies, NotUnit}
 
 -- the answer is Ok only where the definition gives no fault, and a fault only where it gives that one; want of memory may
 -- come in place of either
 abbrev pub Gives : {T : Type 0} → Option LineFault → Result T LineFault → Type 0
 Gives fault result = MatchResult result (λ _. fault ≡ None) (λ answer. answer ≢ NoMemory → fault ≡ Some answer)
-
--- what a hint's clause does, by its open literals
-abbrev pub hint_of : List ℕ → Hint
-hint_of [] = Falsified
-hint_of (lit ∷ lits) = if list_all (λ l. l == lit) lits then Implies lit else NotUnit
 
 -- the derived clauses follow from the given ones, and no two live clauses share an id
 pub record IsSound (state : State) : Type 0 where

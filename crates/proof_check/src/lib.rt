@@ -13,9 +13,9 @@ ghost use Rattle.proof_check.specs.Check.{Gives};
 
 use clauses::Clauses;
 use held::Held;
-use hint::Hint;
+use hint::hint_of;
 pub use lits_core::LineFault;
-use lits_core::{Clause, Line, Lit};
+use lits_core::{Clause, Hint, Line, Lit};
 use std::alloc::{AllocError, Global};
 use std::cmp::{max, min};
 use std::marker::Model;
@@ -144,7 +144,7 @@ fn follow_hints(clauses: &Clauses, held: &mut Held, hints: &[u64]) -> Result<(),
         let Some(lits) = clauses.find(*hint) else {
             return Err(LineFault::UnknownHint);
         };
-        match Hint::of(held, lits) {
+        match hint_of(held, lits) {
             Hint::Falsified => return Ok(()),
             Hint::Implies(lit) => held.hold(lit.negate())?,
             Hint::NotUnit => return Err(LineFault::HintNotUnit),

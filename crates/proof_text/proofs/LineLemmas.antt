@@ -10,7 +10,8 @@ use Rattle.lits_core.specs.declared.Line.TheVariants.{Derive, Forget}
 use Rattle.proof_text.specs.declared.fault.LineTextFault.{LineTextFault}
 use Rattle.proof_text.specs.declared.fault.LineTextFault.TheVariants.{BadLine}
 use Rattle.proof_text.specs.Words.{words_of}
-use Rattle.proof_text.specs.Lines.{◌>>=◌, zero_word, id_in, literal_in, literal_text, item_at, first_of, list_of, whole, derive_of, forget_of, line_of_words, line_of, list_words, line_words, line_text, IsId, IsLine, HasIds, Gives}
+use Rattle.lits_core.specs.Derivation.{FromOne}
+use Rattle.proof_text.specs.Lines.{◌>>=◌, zero_word, id_in, literal_in, literal_text, item_at, first_of, list_of, whole, derive_of, forget_of, line_of_words, line_of, list_words, line_words, line_text, IsId, IsLine, Gives}
 use Rattle.proof_text.specs.Laws.{has_byte}
 use Rattle.proof_text.proofs.WordLemmas.{words_of-joined, joined-clean}
 use Rattle.proof_text.proofs.ItemLemmas.{IsWordOf, item_at-ok, id-word, id-text, literal-word, literal-text}
@@ -236,10 +237,10 @@ pub gives_text : (bytes : List ℕ) (r : Result Line LineTextFault) → Gives (�
 gives_text bytes (Ok line) e = (line_of-read bytes line e).0
 gives_text bytes (Err k) e = tt
 
-has_ids : (line : Line) → IsLine line → HasIds line
+has_ids : (line : Line) → IsLine line → FromOne line
 has_ids (Derive id lits hints) h = (h.0.0, λ k d within. (h.2 k d within).0)
 has_ids (Forget ids) h = λ k d within. (h k d within).0
 
-pub gives_ids : (bytes : List ℕ) (r : Result Line LineTextFault) → Gives (λ line. line) r (line_of bytes) → IfOk r HasIds
+pub gives_ids : (bytes : List ℕ) (r : Result Line LineTextFault) → Gives (λ line. line) r (line_of bytes) → IfOk r FromOne
 gives_ids bytes (Ok line) e = has_ids line (line_of-read bytes line e).1
 gives_ids bytes (Err k) e = tt

@@ -104,8 +104,3 @@ IsId id = (1 ≤ id) × (id < 2 ^ 64)
 abbrev pub IsLine : Line → Type 0
 IsLine (Derive id lits hints) = IsId id × All (λ lit. lit < 2 ^ 32) lits × All IsId hints
 IsLine (Forget ids) = All IsId ids
-
--- whether a line's ids and hints are at least 1
-abbrev pub HasIds : Line → Type 0
-HasIds (Derive id lits hints) = (1 ≤ id) × All (λ hint. 1 ≤ hint) hints
-HasIds (Forget ids) = All (λ id. 1 ≤ id) ids

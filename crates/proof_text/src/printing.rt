@@ -2,7 +2,8 @@
 
 ghost use Rattle.std.specs.Prelude.{◌≡◌, ◌++◌, ◌∷◌, [], ◌<◌, ◌^◌, decimal, IfOk, OnOk, Ok, All};
 ghost use Rattle.proof_text.specs.Words.{parted};
-ghost use Rattle.proof_text.specs.Lines.{literal_text, list_words, line_words, line_text, line_of, HasIds};
+ghost use Rattle.lits_core.specs.Derivation.{FromOne};
+ghost use Rattle.proof_text.specs.Lines.{literal_text, list_words, line_words, line_text, line_of};
 ghost use Rattle.lits_core.specs.declared.Line.TheVariants.{Derive, Forget};
 
 use crate::numbers::print_number;
@@ -11,7 +12,7 @@ use std::alloc::{AllocError, Global};
 
 /// A line's text, with no LF at its end.
 pub fn print_line(alloc: Global, line: &Line) -> Result<Vec<u8>, AllocError>
-    requires { HasIds line.now }
+    requires { FromOne line.now }
     ensures text { IfOk result (λ text. text.items ≡ line_text line.now) }
     ensures read { IfOk result (λ text. line_of text.items ≡ Ok line.now) }
 {

@@ -2,7 +2,8 @@
 
 ghost use Rattle.std.specs.Prelude.{◌≡◌, bytes_eq, IfOk};
 ghost use Rattle.proof_text.specs.Numbers.{number_in};
-ghost use Rattle.proof_text.specs.Lines.{Gives, zero_word, id_in, literal_from, literal_in, item_at, first_of, list_of, whole, derive_of, forget_of, line_of_words, line_of, line_text, HasIds};
+ghost use Rattle.lits_core.specs.Derivation.{FromOne};
+ghost use Rattle.proof_text.specs.Lines.{Gives, zero_word, id_in, literal_from, literal_in, item_at, first_of, list_of, whole, derive_of, forget_of, line_of_words, line_of, line_text};
 
 use crate::fault::LineTextFault;
 use crate::numbers::read_number;
@@ -19,7 +20,7 @@ pub fn read_line(alloc: Global, bytes: &[u8]) -> Result<Line, LineTextFault>
 
     // No other bytes spell the line, and it can be printed.
     ensures text { IfOk result (λ line. bytes.now ≡ line_text line) }
-    ensures ids { IfOk result HasIds }
+    ensures ids { IfOk result FromOne }
 {
     read_words(alloc, &mut Words::new(bytes, b' '))
 }

@@ -1,4 +1,4 @@
-ghost use Rattle.proof_text.specs.Lines.{HasIds};
+ghost use Rattle.lits_core.specs.Derivation.{FromOne};
 
 use super::*;
 use lits_core::{Line, Lit};
@@ -72,7 +72,7 @@ fn reads_and_prints_derive_lines(rt: HostRuntime) {
 }
 
 fn prints(alloc: Global, line: &Line, text: &str) -> bool
-    requires { HasIds line.now }
+    requires { FromOne line.now }
 {
     matches!(print_line(alloc, line), Ok(printed) if printed.as_slice() == text.as_bytes())
 }

@@ -1,15 +1,15 @@
 -- Tests of lists one item at a time, and what a family's tests are together.
-use Rattle.std.proofs.Common.{◌≡◌, ◌≢◌, ℕ, zero, suc, ◌+◌, ◌-◌, ◌<◌, ◌≤◌, Bool, true, false, ◌&&◌, ◌||◌, not, cond, List, [], ◌∷◌, ◌++◌, map, length, take, drop, get_or, inl, inr, refl, sym, ap, ◌∙◌, subst, arith}
-use Rattle.std.specs.Prelude.{◌==◌, nat_lt, Option, Some, None, filter_map, slice_get}
-use Rattle.std.specs.List.{list_all, list_any, range_with_len, items_where_true}
-use Rattle.std.proofs.lemmas.List.{drop_more, drop_all, take_all, length-drop, length-map}
+use Rattle.std.proofs.Common.{◌≡◌, ℕ, zero, suc, ◌+◌, ◌-◌, ◌<◌, ◌≤◌, Bool, true, false, ◌&&◌, ◌||◌, not, List, [], ◌∷◌, length, take, drop, get_or, inl, inr, refl, sym, ap, ◌∙◌, arith}
+use Rattle.std.specs.Prelude.{◌==◌, nat_lt, Some, filter_map, slice_get}
+use Rattle.std.specs.List.{list_all, range_with_len, items_where_true}
+use Rattle.std.proofs.lemmas.List.{drop_more, drop_all, take_all, length-drop}
 use Rattle.std.proofs.lemmas.List.Folds.{list_all-append}
-use Rattle.std.proofs.lemmas.Option.{slice_get_within, get_or_from_slice_get, slice_get-get_or, slice_get-map}
+use Rattle.std.proofs.lemmas.Option.{slice_get_within, get_or_from_slice_get}
 use Rattle.std.proofs.lemmas.Bool.{and_parts, and_from, false≢true, cases_eq, eq-eqb, ne_eqb}
 use Rattle.rcc5_core.specs.Relation.{is_ascending, have_common}
 use Rattle.world_model.specs.declared.Articulation.{Articulation}
 use Rattle.world_model.specs.declared.Articulation.TheVariants.{Pair, Sum}
-use Rattle.world_model.specs.Problem.{Problem, concepts, concept_count, children_of, kept_articulations, as_constraint, as_sum, constraints, kept_sums}
+use Rattle.world_model.specs.Problem.{Problem, concepts, concept_count, children_of, kept_articulations, as_constraint, as_sum, kept_sums}
 use Rattle.world_model.specs.Family.{Family, set_of, implies, holds, sum_holds, fits_concepts, children_within, siblings_apart, parents_covered, none_empty, meets}
 use Rattle.world_model.proofs.PointFamilies.{common_at, common_from}
 use Rattle.set_family.specs.Sets.{is_set_below}

@@ -1,5 +1,5 @@
 -- Subsets and common elements of ascending lists, one element at a time.
-use Rattle.std.proofs.Common.{◌≡◌, ℕ, ◌+◌, ◌<◌, ◌≤◌, Bool, true, false, ◌&&◌, ◌||◌, not, List, [], ◌∷◌, refl, sym, ap, ◌∙◌, subst, IsTrue, arith, length, drop, get_or, ◌⊎◌, inl, inr, ◌≢◌}
+use Rattle.std.proofs.Common.{◌≡◌, ℕ, ◌+◌, ◌<◌, ◌≤◌, Bool, true, false, List, [], ◌∷◌, refl, sym, ap, ◌∙◌, subst, IsTrue, arith, length, drop, get_or, ◌⊎◌, inl, inr, ◌≢◌}
 use Rattle.std.specs.Prelude.{◌==◌, nat_lt}
 use Rattle.std.specs.List.{list_all}
 use Rattle.std.proofs.lemmas.List.{drop_more, drop_all}

@@ -1,8 +1,8 @@
 -- Lists that are sets, and the places of points.
-use Rattle.std.proofs.Common.{◌≡◌, ℕ, ◌+◌, ◌<◌, ◌≤◌, Bool, true, false, ◌&&◌, cond, inl, inr, List, [], ◌∷◌, ◌++◌, map, refl, sym, ap, ◌∙◌, subst, IsTrue, arith, length, get_or, drop, zero, suc, append_assoc}
+use Rattle.std.proofs.Common.{◌≡◌, ℕ, ◌+◌, ◌<◌, ◌≤◌, Bool, true, false, ◌&&◌, cond, inl, inr, List, [], ◌∷◌, ◌++◌, map, refl, sym, ap, ◌∙◌, subst, IsTrue, arith, length, get_or, drop, zero, suc}
 use Rattle.std.specs.Prelude.{nat_lt, nat_le, Some, None}
 use Rattle.std.specs.List.{list_all, range_with_len}
-use Rattle.std.proofs.lemmas.List.{drop_more, drop_all, append-nil, length-map, get_or-map, map-append}
+use Rattle.std.proofs.lemmas.List.{drop_more, drop_all, length-map, get_or-map, map-append}
 use Rattle.std.proofs.lemmas.List.FromFn.{map-range_with_len_more}
 use Rattle.std.proofs.lemmas.Bool.{ltb-true, and_parts, and_from, lt-ltb, le-ltb, le-leb, lt-leb, cases_lt}
 use Rattle.rcc5_core.specs.Relation.{is_ascending}
@@ -54,27 +54,6 @@ pub ascending_at : (u i : ℕ) (sets : List (List ℕ)) → i < length sets → 
 ascending_at u i [] below h = absurd (omega arith)
 ascending_at u zero (xs ∷ sets) below h = (and_parts (is_ascending xs) (list_all (λ x. nat_lt x u) xs) (and_parts (is_set_below u xs) (list_all (is_set_below u) sets) h).0).0
 ascending_at u (suc i) (xs ∷ sets) below h = ascending_at u i sets (omega arith) (and_parts (is_set_below u xs) (list_all (is_set_below u) sets) h).1
-
--- the places from one point on, by whether it has the bit
-pub places_hit : (c k : ℕ) (points : List (List Bool)) (bits : List Bool) (before : List ℕ) → k < length points → bits ≡ get_or points k bits → bit_of bits c ≡ true →
-    (before ++ k ∷ []) ++ places_with c (k + 1) (drop (k + 1) points) ≡ before ++ places_with c k (drop k points)
-places_hit c k points bits before within is hit =
-    let here : places_with c k (bits ∷ drop (k + 1) points) ≡ k ∷ places_with c (k + 1) (drop (k + 1) points) = rw hit refl in
-    let rest : places_with c k (drop k points) ≡ places_with c k (bits ∷ drop (k + 1) points) =
-    ap (places_with c k) (drop_more points k bits within) ∙ ap (λ b. places_with c k (b ∷ drop (k + 1) points)) (sym is) in
-    append_assoc before (k ∷ []) (places_with c (k + 1) (drop (k + 1) points)) ∙ ap (λ r. before ++ r) (sym (rest ∙ here))
-
-pub places_miss : (c k : ℕ) (points : List (List Bool)) (bits : List Bool) (before : List ℕ) → k < length points → bits ≡ get_or points k bits → bit_of bits c ≡ false →
-    before ++ places_with c (k + 1) (drop (k + 1) points) ≡ before ++ places_with c k (drop k points)
-places_miss c k points bits before within is hit =
-    let here : places_with c k (bits ∷ drop (k + 1) points) ≡ places_with c (k + 1) (drop (k + 1) points) = rw hit refl in
-    let rest : places_with c k (drop k points) ≡ places_with c k (bits ∷ drop (k + 1) points) =
-    ap (places_with c k) (drop_more points k bits within) ∙ ap (λ b. places_with c k (b ∷ drop (k + 1) points)) (sym is) in
-    ap (λ r. before ++ r) (sym (rest ∙ here))
-
--- past the last point there is no place
-pub places_end : (c k : ℕ) (points : List (List Bool)) (before : List ℕ) → length points ≤ k → before ++ places_with c k (drop k points) ≡ before
-places_end c k points before done = ap (λ r. before ++ places_with c k r) (drop_all k points done) ∙ append-nil before
 
 -- whether a list is a set of numbers below u and from the least on
 unfoldable pub is_set_from : (least u : ℕ) → List ℕ → Bool

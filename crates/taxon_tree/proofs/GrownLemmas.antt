@@ -110,9 +110,6 @@ pub children_of-without_last_child : (f : Trees) (parent : ℕ) → parent < len
     → children_of (without_last_child f parent) parent ≡ take (length (children_of f parent) - 1) (children_of f parent)
 children_of-without_last_child f parent lt = get_or-set_same f.children parent _ [] lt
 
-pub length-without_last_child : (f : Trees) (parent : ℕ) → parent < length f.children → length (children_of (without_last_child f parent) parent) ≡ length (children_of f parent) - 1
-length-without_last_child f parent lt = ap length (children_of-without_last_child f parent lt) ∙ length-take-le _ (children_of f parent) (omega arith)
-
 pub children_within-without_last_child : (f : Trees) (parent : ℕ) → parent < length f.children → All (λ c. c < length f.parents) (children_of f parent)
     → All (λ c. c < length (without_last_child f parent).parents) (children_of (without_last_child f parent) parent)
 children_within-without_last_child f parent lt within =

@@ -192,14 +192,6 @@ add_row-first bytes limit f xs d lt name is g ok parent at =
     ∙ ap (λ p. add_children limit p g (map bytes (drop 1 xs))) (sym at)
     ∙ ap (λ l. add_children limit parent g (map bytes l)) (sym (take_rest xs 1))
 
--- or the fault of its first name
-pub add_row-first_fault : {X : Type 0} (bytes : X → List ℕ) (limit : ℕ) (f : Trees) (xs : List X) (d : X) → 0 < length xs → (name : List ℕ) → name ≡ bytes (get_or xs 0 d)
-    → (k : ForestFault) → with_name limit f name ≡ Err k → add_row limit f (map bytes xs) ≡ Err k
-add_row-first_fault bytes limit f xs d lt name is k e =
-    ap (λ l. add_row limit f (map bytes l)) (drop_more xs 0 d lt)
-    ∙ ap (λ n. and_then (with_name limit f n) (λ h. add_children limit (place_of f n) h (map bytes (drop 1 xs)))) (sym is)
-    ∙ ap (λ r. and_then r (λ h. add_children limit (place_of f name) h (map bytes (drop 1 xs)))) e
-
 -- without the new name it is the old forest
 pub first_concepts-with_name : (limit : ℕ) (f : Trees) (name : List ℕ) (g : Trees) → IsForest f → with_name limit f name ≡ Ok g → first_concepts (length f.names) g ≡ f
 first_concepts-with_name limit f name g h e = elim (with_name-Ok limit f name g e) [

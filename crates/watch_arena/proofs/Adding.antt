@@ -1,16 +1,21 @@
 -- A clause is added.
-use Rattle.std.proofs.Common.{◌≡◌, ◌≢◌, ◌∙◌, ◌⊎◌, ℕ, ◌+◌, ◌*◌, ◌<◌, ◌≤◌, true, false, List, [], ◌∷◌, ◌++◌, length, get_or, min, refl, sym, ap, subst, arith, inl, inr, length-set}
+use Rattle.std.proofs.Common.{◌≡◌, ◌≢◌, ◌∙◌, ◌⊎◌, ℕ, ◌+◌, ◌-◌, ◌*◌, ◌<◌, ◌≤◌, true, false, List, [], ◌∷◌, ◌++◌, length, get_or, set, min, Option, Some, refl, sym, ap, subst, arith, inl, inr}
 use Rattle.std.specs.List.{Contains}
 use Rattle.std.proofs.lemmas.Bool.{cases_eq, cases_lt}
 use Rattle.std.proofs.lemmas.List.{get_or_append_left, get_or_push, get_or_past, length_push}
 use Rattle.lits_core.specs.Literals.{negation_of}
-use Rattle.clause_arena.specs.Records.{Record, record_at, no_record}
+use Rattle.clause_arena.specs.declared.place.Link.{Link}
+use Rattle.clause_arena.specs.Records.{Record, record_at, no_record, new_record}
 use Rattle.watch_arena.specs.declared.engine.Engine.{Engine}
-use Rattle.watch_arena.specs.Lists.{list_at}
 use Rattle.watch_arena.specs.Columns.{Caps}
 use Rattle.watch_arena.specs.Places.{place_at}
-use Rattle.watch_arena.specs.Engines.{mark_of, TrueBelow, FalseBelow, IsReasonBelow, IsWatched, IsShort, IsShortSettled, IsSettledAt, with_watch, IsSound, IsLowered, IsUnseen, shorts_of}
-use Rattle.watch_arena.proofs.Watching.{list_at-same, list_at-other, Contains-with_watch, Contains-watch_added, IsWatched-only, IsWatched-first, short_not_watched, contains_at}
+use Rattle.watch_arena.specs.Engines.{mark_of, TrueBelow, FalseBelow, IsReasonBelow, IsWatched, IsShort, IsShortSettled, IsSettledAt, IsSound, IsLowered, IsUnseen}
+use Rattle.watch_arena.specs.Chains.{head_of, linked, IsEntry, AreChains, IsNone, SameBodies}
+use Rattle.watch_arena.proofs.Bare.{IsBare, IsSound-of, IsBare-linked}
+use Rattle.watch_arena.proofs.Chained.{AreChains-aside}
+use Rattle.watch_arena.proofs.Relinking.{AreFronted-both}
+use Rattle.watch_arena.proofs.Walked.{AreChains-put, IsOf, short_no_entry}
+use Rattle.watch_arena.proofs.Watching.{IsWatched-only, IsWatched-first, short_not_watched, contains_at, record_at-put, record_at-new}
 
 -- what is settled with less of it visited
 pub IsSettledAt-lowered : (records : List Record) (shorts marks : List ℕ) (h less s n : ℕ) → less ≤ h → IsSettledAt records shorts marks h s n → IsSettledAt records shorts marks less s n
@@ -24,6 +29,7 @@ IsSettledAt-lowered records shorts marks h less s n le p = record {
 pub IsSound-lowered : (e : Engine) (q : ℕ) (heads : List ℕ) (head : ℕ) → IsSound e → head ≤ e.head → Caps e.heads heads q (length e.places.list) q → IsSound (record e { heads = heads; head = head })
 IsSound-lowered e q heads head s le caps = record {
   few = s.few;
+  no_pairs = s.no_pairs;
   room = s.room;
   lists = s.lists;
   heads = caps.size ∙ s.heads;
@@ -34,8 +40,8 @@ IsSound-lowered e q heads head s le caps = record {
   kinds = s.kinds;
   filed = s.filed;
   levelled = s.levelled;
-  now = IsSettledAt-lowered e.arena (list_at e.watches (shorts_of e.variables)) e.marks e.head head e.first (length e.places.list) le s.now;
-  saved = λ p lt. IsSettledAt-lowered e.arena (list_at e.watches (shorts_of e.variables)) e.marks (get_or e.heads p 0) (get_or heads p 0) (get_or e.firsts p 0) p (caps.less p) (s.saved p lt);
+  now = IsSettledAt-lowered e.arena e.shorts e.marks e.head head e.first (length e.places.list) le s.now;
+  saved = λ p lt. IsSettledAt-lowered e.arena e.shorts e.marks (get_or e.heads p 0) (get_or heads p 0) (get_or e.firsts p 0) p (caps.less p) (s.saved p lt);
 }
 
 -- then it has come no further than there
@@ -48,65 +54,41 @@ IsLowered-caps e q heads head s le caps = record {
   ];
 }
 
--- the list of the short ones after an entry anywhere
-shorts-entered : (lists : List (List ℕ)) (l at n : ℕ) → l < length lists → n ≡ l ⊎ n ≢ l → (length (list_at lists n) ≤ length (list_at (with_watch lists l at) n)) × ((k : ℕ) → k < length (list_at lists n) → get_or (list_at (with_watch lists l at) n) k 0 ≡ get_or (list_at lists n) k 0)
-shorts-entered lists l at n lt (inl e) =
-    let same : list_at (with_watch lists l at) n ≡ list_at lists n ++ at ∷ [] = ap (list_at (with_watch lists l at)) e ∙ list_at-same lists l (list_at lists l ++ at ∷ []) lt ∙ ap (λ (m : ℕ). list_at lists m ++ at ∷ []) (sym e) in
-    let size = ap length same ∙ length_push (list_at lists n) at in
-    (omega arith, λ k below. ap (λ (xs : List ℕ). get_or xs k 0) same ∙ get_or_append_left (list_at lists n) (at ∷ []) 0 k below)
-shorts-entered lists l at n lt (inr ne) =
-    let same : list_at (with_watch lists l at) n ≡ list_at lists n = list_at-other lists l n (list_at lists l ++ at ∷ []) ne in
-    let size = ap length same in
-    (omega arith, λ k below. ap (λ (xs : List ℕ). get_or xs k 0) same)
-
--- an entry more leaves what is settled
-IsSettledAt-entered : (records : List Record) (shorts more marks : List ℕ) (h s n : ℕ) → length shorts ≤ length more → ((k : ℕ) → k < length shorts → get_or more k 0 ≡ get_or shorts k 0) → IsSettledAt records shorts marks h s n → IsSettledAt records more marks h s n
-IsSettledAt-entered records shorts more marks h s n le same p = record {
-  within = p.within;
-  watched = p.watched;
-  alone = record {
-    within = (let w = p.alone.within in omega arith);
-    each = λ at live short. let one = p.alone.each at live short in record {
-      index = one.index;
-      within = (let w = one.within in omega arith);
-      found = same one.index one.within ∙ one.found;
-      settled = one.settled;
-    };
-  };
-}
-
--- a clause more is named in a list
-pub IsSound-entered : (e : Engine) (l at : ℕ) → IsSound e → l < 2 * e.variables + 1 → IsSound (record e { watches = with_watch e.watches l at })
-IsSound-entered e l at s range =
-    let lists = s.lists in
-    let lt : l < length e.watches = omega arith in
-    let grown = shorts-entered e.watches l at (shorts_of e.variables) lt (cases_eq (shorts_of e.variables) l) in
+-- one more short clause in the list leaves what is settled
+IsSettledAt-listed : (records : List Record) (shorts marks : List ℕ) (at h s n : ℕ) → IsSettledAt records shorts marks h s n → IsSettledAt records (shorts ++ at ∷ []) marks h s n
+IsSettledAt-listed records shorts marks at h s n p =
+    let size = length_push shorts at in
     record {
-      few = s.few;
-      room = s.room;
-      lists = length-set e.watches l (list_at e.watches l ++ at ∷ []) ∙ s.lists;
-      heads = s.heads;
-      firsts = s.firsts;
-      marked = s.marked;
-      in_range = s.in_range;
-      reasoned = s.reasoned;
-      kinds = s.kinds;
-      filed = λ b x y live w. Contains-with_watch e.watches l at x b lt (s.filed b x y live w);
-      levelled = s.levelled;
-      now = IsSettledAt-entered e.arena (list_at e.watches (shorts_of e.variables)) (list_at (with_watch e.watches l at) (shorts_of e.variables)) e.marks e.head e.first (length e.places.list) grown.0 grown.1 s.now;
-      saved = λ p below. IsSettledAt-entered e.arena (list_at e.watches (shorts_of e.variables)) (list_at (with_watch e.watches l at) (shorts_of e.variables)) e.marks (get_or e.heads p 0) (get_or e.firsts p 0) p grown.0 grown.1 (s.saved p below);
+      within = p.within;
+      watched = p.watched;
+      alone = record {
+        within = (let w = p.alone.within in omega arith);
+        each = λ b live short. let one = p.alone.each b live short in record {
+          index = one.index;
+          within = (let w = one.within in omega arith);
+          found = get_or_append_left shorts (at ∷ []) 0 one.index one.within ∙ one.found;
+          settled = one.settled;
+        };
+      };
     }
 
--- a record of the list with one more at its end
-pub record_at-put : (records : List Record) (r : Record) (at : ℕ) → at ≢ length records → record_at (records ++ r ∷ []) at ≡ record_at records at
-record_at-put records r at ne =
-    elim (cases_lt at (length records)) [
-      | inl lt ↦ get_or_append_left records (r ∷ []) no_record at lt
-      | inr ge ↦ let size = length_push records r in get_or_past (records ++ r ∷ []) at no_record (omega arith) ∙ sym (get_or_past records at no_record ge)
-    ]
-
-pub record_at-new : (records : List Record) (r : Record) → record_at (records ++ r ∷ []) (length records) ≡ r
-record_at-new records r = get_or_push records r no_record (length records) refl
+pub IsSound-listed : (e : Engine) (at : ℕ) → IsSound e → IsSound (record e { shorts = e.shorts ++ at ∷ [] })
+IsSound-listed e at s = record {
+  few = s.few;
+  no_pairs = s.no_pairs;
+  room = s.room;
+  lists = s.lists;
+  heads = s.heads;
+  firsts = s.firsts;
+  marked = s.marked;
+  in_range = s.in_range;
+  reasoned = s.reasoned;
+  kinds = s.kinds;
+  filed = s.filed;
+  levelled = s.levelled;
+  now = IsSettledAt-listed e.arena e.shorts e.marks at e.head e.first (length e.places.list) s.now;
+  saved = λ p lt. IsSettledAt-listed e.arena e.shorts e.marks at (get_or e.heads p 0) (get_or e.firsts p 0) p (s.saved p lt);
+}
 
 -- what a new clause needs of what is settled
 record NewSettled (lits : List ℕ) (at : ℕ) (shorts marks : List ℕ) (h s n : ℕ) : Type 0 where
@@ -139,11 +121,11 @@ IsSettledAt-put records r shorts marks h s n new p = record {
 }
 
 -- one more record
-IsSound-put : (e : Engine) (r : Record) → IsSound e → ((lit : ℕ) → Contains r.lits lit → lit < 2 * e.variables) → IsShort r.lits ⊎ IsWatched r.lits (get_or r.lits 0 0) (get_or r.lits 1 0) → ((a b : ℕ) → IsWatched r.lits a b → Contains (list_at e.watches a) (length e.arena)) → NewSettled r.lits (length e.arena) (list_at e.watches (shorts_of e.variables)) e.marks e.head e.first (length e.places.list) → ((p : ℕ) → p < length e.places.list → NewSettled r.lits (length e.arena) (list_at e.watches (shorts_of e.variables)) e.marks (get_or e.heads p 0) (get_or e.firsts p 0) p) → IsSound (record e { arena = e.arena ++ r ∷ [] })
-IsSound-put e r s range kind filed now saved = record {
+IsBare-put : (e : Engine) (r : Record) → IsSound e → ((lit : ℕ) → Contains r.lits lit → lit < 2 * e.variables) → IsShort r.lits ⊎ IsWatched r.lits (get_or r.lits 0 0) (get_or r.lits 1 0) → NewSettled r.lits (length e.arena) e.shorts e.marks e.head e.first (length e.places.list) → ((p : ℕ) → p < length e.places.list → NewSettled r.lits (length e.arena) e.shorts e.marks (get_or e.heads p 0) (get_or e.firsts p 0) p) → IsBare (record e { arena = e.arena ++ r ∷ [] })
+IsBare-put e r s range kind now saved = record {
   few = s.few;
+  no_pairs = s.no_pairs;
   room = s.room;
-  lists = s.lists;
   heads = s.heads;
   firsts = s.firsts;
   marked = s.marked;
@@ -166,15 +148,9 @@ IsSound-put e r s range kind filed now saved = record {
         let same = record_at-put e.arena r at ne in
         subst P (sym same) (s.kinds at (sym (ap (λ (x : Record). x.live) same) ∙ live))
   ];
-  filed = λ at a b live w. elim (cases_eq at (length e.arena)) [
-    | inl z ↦ subst (λ (k : ℕ). Contains (list_at e.watches a) k) (sym z) (filed a b (subst (λ (x : Record). IsWatched x.lits a b) (ap (record_at (e.arena ++ r ∷ [])) z ∙ record_at-new e.arena r) w))
-    | inr ne ↦
-        let same = record_at-put e.arena r at ne in
-        s.filed at a b (sym (ap (λ (x : Record). x.live) same) ∙ live) (subst (λ (x : Record). IsWatched x.lits a b) same w)
-  ];
   levelled = s.levelled;
-  now = IsSettledAt-put e.arena r (list_at e.watches (shorts_of e.variables)) e.marks e.head e.first (length e.places.list) now s.now;
-  saved = λ p lt. IsSettledAt-put e.arena r (list_at e.watches (shorts_of e.variables)) e.marks (get_or e.heads p 0) (get_or e.firsts p 0) p (saved p lt) (s.saved p lt);
+  now = IsSettledAt-put e.arena r e.shorts e.marks e.head e.first (length e.places.list) now s.now;
+  saved = λ p lt. IsSettledAt-put e.arena r e.shorts e.marks (get_or e.heads p 0) (get_or e.firsts p 0) p (saved p lt) (s.saved p lt);
 }
 
 -- a clause of which neither watched literal counts as visited
@@ -187,17 +163,14 @@ NewSettled-watched lits at shorts marks h s n q w le u v = record {
   alone = λ short. absurd (short_not_watched lits (get_or lits 0 0) (get_or lits 1 0) short w);
 }
 
--- a clause that is watched
-pub IsSound-put_watched : (e : Engine) (r : Record) (q : ℕ) → IsSound e → ((lit : ℕ) → Contains r.lits lit → lit < 2 * e.variables) → 2 ≤ length r.lits → get_or r.lits 0 0 ≢ get_or r.lits 1 0 → Contains (list_at e.watches (get_or r.lits 0 0)) (length e.arena) → Contains (list_at e.watches (get_or r.lits 1 0)) (length e.arena) → IsLowered e q → IsUnseen e.marks q (get_or r.lits 0 0) → IsUnseen e.marks q (get_or r.lits 1 0) → IsSound (record e { arena = e.arena ++ r ∷ [] })
-IsSound-put_watched e r q s range two ne first second low u v =
+-- a clause that is watched, once both its watches came to the front of their chains
+pub IsSound-put_watched : (e : Engine) (r : Record) (q : ℕ) (records : List Record) (chains : List (Option Link)) → IsSound e → ((lit : ℕ) → Contains r.lits lit → lit < 2 * e.variables) → 2 ≤ length r.lits → get_or r.lits 0 0 ≢ get_or r.lits 1 0 → IsLowered e q → IsUnseen e.marks q (get_or r.lits 0 0) → IsUnseen e.marks q (get_or r.lits 1 0) → SameBodies (e.arena ++ r ∷ []) records → length chains ≡ length e.chains → AreChains records chains IsNone → IsSound (record e { arena = records; chains = chains })
+IsSound-put_watched e r q records chains s range two ne low u v bodies size filed =
     let w = IsWatched-first r.lits two ne in
-    IsSound-put e r s range (inr w)
-    (λ a b x. elim (IsWatched-only r.lits (get_or r.lits 0 0) (get_or r.lits 1 0) a b w x) [
-      | inl z ↦ subst (λ (l : ℕ). Contains (list_at e.watches l) (length e.arena)) (sym z.0) first
-      | inr z ↦ subst (λ (l : ℕ). Contains (list_at e.watches l) (length e.arena)) (sym z.0) second
-    ])
-    (NewSettled-watched r.lits (length e.arena) (list_at e.watches (shorts_of e.variables)) e.marks e.head e.first (length e.places.list) q w low.head u v)
-    (λ p lt. NewSettled-watched r.lits (length e.arena) (list_at e.watches (shorts_of e.variables)) e.marks (get_or e.heads p 0) (get_or e.firsts p 0) p q w (low.heads p lt) u v)
+    let bare = IsBare-put e r s range (inr w)
+    (NewSettled-watched r.lits (length e.arena) e.shorts e.marks e.head e.first (length e.places.list) q w low.head u v)
+    (λ p lt. NewSettled-watched r.lits (length e.arena) e.shorts e.marks (get_or e.heads p 0) (get_or e.firsts p 0) p q w (low.heads p lt) u v) in
+    IsSound-of (record e { arena = records; chains = chains }) (IsBare-linked (record e { arena = e.arena ++ r ∷ [] }) records chains bare bodies) (size ∙ s.lists) filed
 
 -- a short clause whose entry was not visited
 NewSettled-short : (lits : List ℕ) (at : ℕ) (shorts marks : List ℕ) (h s n j : ℕ) → IsShort lits → j < length shorts → get_or shorts j 0 ≡ at → s ≤ j → NewSettled lits at shorts marks h s n
@@ -206,41 +179,79 @@ NewSettled-short lits at shorts marks h s n j short within is le = record {
   alone = λ _. record { index = j; within = within; found = is; settled = λ lt. absurd (omega arith) };
 }
 
--- a short clause, which is entered in the list of the short ones first
-pub IsSound-put_short : (e : Engine) (r : Record) → IsSound e → ((lit : ℕ) → Contains r.lits lit → lit < 2 * e.variables) → IsShort r.lits → IsSound (record e { watches = with_watch e.watches (shorts_of e.variables) (length e.arena); arena = e.arena ++ r ∷ [] })
+-- a short clause, which was listed before
+pub IsSound-put_short : (e : Engine) (r : Record) → IsSound e → ((lit : ℕ) → Contains r.lits lit → lit < 2 * e.variables) → IsShort r.lits → IsSound (record e { shorts = e.shorts ++ length e.arena ∷ []; arena = e.arena ++ r ∷ [] })
 IsSound-put_short e r s range short =
-    let lists = s.lists in
-    let lt : shorts_of e.variables < length e.watches = omega arith in
-    let entered = IsSound-entered e (shorts_of e.variables) (length e.arena) s (omega arith) in
-    let now : List ℕ = list_at (with_watch e.watches (shorts_of e.variables) (length e.arena)) (shorts_of e.variables) in
-    let same : now ≡ list_at e.watches (shorts_of e.variables) ++ length e.arena ∷ [] = list_at-same e.watches (shorts_of e.variables) (list_at e.watches (shorts_of e.variables) ++ length e.arena ∷ []) lt in
-    let size : length now ≡ length (list_at e.watches (shorts_of e.variables)) + 1 = ap length same ∙ length_push (list_at e.watches (shorts_of e.variables)) (length e.arena) in
-    let last : get_or now (length (list_at e.watches (shorts_of e.variables))) 0 ≡ length e.arena = ap (λ (xs : List ℕ). get_or xs (length (list_at e.watches (shorts_of e.variables))) 0) same ∙ get_or_push (list_at e.watches (shorts_of e.variables)) (length e.arena) 0 (length (list_at e.watches (shorts_of e.variables))) refl in
-    IsSound-put (record e { watches = with_watch e.watches (shorts_of e.variables) (length e.arena) }) r entered range (inl short)
-    (λ a b x. absurd (short_not_watched r.lits a b short x))
-    (NewSettled-short r.lits (length e.arena) now e.marks e.head e.first (length e.places.list) (length (list_at e.watches (shorts_of e.variables))) short (omega arith) last s.now.alone.within)
-    (λ p below. NewSettled-short r.lits (length e.arena) now e.marks (get_or e.heads p 0) (get_or e.firsts p 0) p (length (list_at e.watches (shorts_of e.variables))) short (omega arith) last (s.saved p below).alone.within)
+    let now : List ℕ = e.shorts ++ length e.arena ∷ [] in
+    let listed = IsSound-listed e (length e.arena) s in
+    let size : length now ≡ length e.shorts + 1 = length_push e.shorts (length e.arena) in
+    let last : get_or now (length e.shorts) 0 ≡ length e.arena = get_or_push e.shorts (length e.arena) 0 (length e.shorts) refl in
+    let bare = IsBare-put (record e { shorts = e.shorts ++ length e.arena ∷ [] }) r listed range (inl short)
+    (NewSettled-short r.lits (length e.arena) now e.marks e.head e.first (length e.places.list) (length e.shorts) short (omega arith) last s.now.alone.within)
+    (λ p below. NewSettled-short r.lits (length e.arena) now e.marks (get_or e.heads p 0) (get_or e.firsts p 0) p (length e.shorts) short (omega arith) last (s.saved p below).alone.within) in
+    let put = AreChains-put e.arena e.chains r s.filed in
+    let filed = AreChains-aside (e.arena ++ r ∷ []) e.chains (IsOf (length e.arena)) IsNone (λ y none. absurd none)
+    (λ l y p a. short_no_entry (e.arena ++ r ∷ []) l y (subst (λ (x : Record). IsShort x.lits) (sym (ap (record_at (e.arena ++ r ∷ [])) a.0 ∙ record_at-new e.arena r)) short) p) put in
+    IsSound-of (record e { shorts = e.shorts ++ length e.arena ∷ []; arena = e.arena ++ r ∷ [] }) bare s.lists filed
 
--- a clause that is watched, by the steps in which it is added
-pub IsSound-added : (old e1 e2 e3 : Engine) (a b next fa fb q : ℕ) (r : Record) → IsSound old → IsSound e3 → e1 ≡ record old { watches = with_watch old.watches a next } → e2 ≡ record e1 { watches = with_watch e1.watches b next } → e3 ≡ record e2 { heads = e3.heads; head = e3.head } → IsLowered e3 q → next ≡ length old.arena → a ≡ get_or r.lits 0 0 → b ≡ get_or r.lits 1 0 → 2 ≤ length r.lits → get_or r.lits 0 0 ≢ get_or r.lits 1 0 → ((lit : ℕ) → Contains r.lits lit → lit < 2 * old.variables) → (0 < mark_of e2.marks (negation_of a) → fa < mark_of e2.marks (negation_of a)) → (0 < mark_of e2.marks (negation_of b) → fb < mark_of e2.marks (negation_of b)) → q ≡ min fa fb → IsSound (record e3 { arena = e3.arena ++ r ∷ [] })
-IsSound-added old e1 e2 e3 a b next fa fb q r s s3 is1 is2 is3 low at a_is b_is two ne range ua ub q_is =
-    let vars : e3.variables ≡ old.variables = ap (λ (e : Engine). e.variables) is3 ∙ ap (λ (e : Engine). e.variables) is2 ∙ ap (λ (e : Engine). e.variables) is1 in
-    let arena : e3.arena ≡ old.arena = ap (λ (e : Engine). e.arena) is3 ∙ ap (λ (e : Engine). e.arena) is2 ∙ ap (λ (e : Engine). e.arena) is1 in
-    let marks : e3.marks ≡ e2.marks = ap (λ (e : Engine). e.marks) is3 in
-    let w1 : e1.watches ≡ with_watch old.watches a next = ap (λ (e : Engine). e.watches) is1 in
-    let w3 : e3.watches ≡ with_watch e1.watches b next = ap (λ (e : Engine). e.watches) is3 ∙ ap (λ (e : Engine). e.watches) is2 in
-    let size = ap length arena in
-    let named : next ≡ length e3.arena = omega arith in
+-- the chains once both watches of a new clause came to the front
+pub record IsFronted (e : Engine) (r : Record) (records : List Record) (chains : List (Option Link)) : Type 0 where
+  pub bodies : SameBodies (e.arena ++ r ∷ []) records
+  pub size : length chains ≡ length e.chains
+  pub filed : AreChains records chains IsNone
+
+-- the first of them
+pub IsEntry-first : (records : List Record) (r : Record) (slot lit : ℕ) → slot < 2 → 2 ≤ length r.lits → get_or r.lits slot 0 ≡ lit → lit ≢ get_or r.lits (1 - slot) 0 → IsEntry (records ++ r ∷ []) lit (record { at = length records; slot = slot })
+IsEntry-first records r slot lit small two is ne =
+    let size = length_push records r in
+    let here = record_at-new records r in
+    record {
+      within = omega arith;
+      slot_is = small;
+      two = subst (λ (x : Record). 2 ≤ length x.lits) (sym here) two;
+      lit_is = ap (λ (x : Record). get_or x.lits slot 0) here ∙ is;
+      differ = λ z. ne (z ∙ ap (λ (x : Record). get_or x.lits (1 - slot) 0) here);
+    }
+
+pub IsFronted-both : (e : Engine) (r : Record) (a b : ℕ) → IsSound e → a < 2 * e.variables → b < 2 * e.variables → 2 ≤ length r.lits → get_or r.lits 0 0 ≡ a → get_or r.lits 1 0 ≡ b → a ≢ b → IsFronted e r (linked (linked (e.arena ++ r ∷ []) (record { at = length e.arena; slot = 0 }) (head_of e.chains a)) (record { at = length e.arena; slot = 1 }) (head_of (set e.chains a (Some (record { at = length e.arena; slot = 0 }))) b)) (set (set e.chains a (Some (record { at = length e.arena; slot = 0 }))) b (Some (record { at = length e.arena; slot = 1 })))
+IsFronted-both e r a b s a_lt b_lt two a_is b_is ne =
+    let n : ℕ = length e.arena in
     let lists = s.lists in
-    let a_range : a < 2 * old.variables = range a (contains_at r.lits 0 a (omega arith) (sym a_is)) in
-    let b_range : b < 2 * old.variables = range b (contains_at r.lits 1 b (omega arith) (sym b_is)) in
-    let lists1 : length e1.watches ≡ length old.watches = ap length w1 ∙ length-set old.watches a (list_at old.watches a ++ next ∷ []) in
-    let in1 : Contains (list_at e1.watches a) next = subst (λ (ws : List (List ℕ)). Contains (list_at ws a) next) (sym w1) (Contains-watch_added old.watches a next (omega arith)) in
-    let in3a : Contains (list_at e3.watches a) next = subst (λ (ws : List (List ℕ)). Contains (list_at ws a) next) (sym w3) (Contains-with_watch e1.watches b next a next (omega arith) in1) in
-    let in3b : Contains (list_at e3.watches b) next = subst (λ (ws : List (List ℕ)). Contains (list_at ws b) next) (sym w3) (Contains-watch_added e1.watches b next (omega arith)) in
-    let first : Contains (list_at e3.watches (get_or r.lits 0 0)) (length e3.arena) = subst (λ (l : ℕ). Contains (list_at e3.watches l) (length e3.arena)) a_is (subst (λ (n : ℕ). Contains (list_at e3.watches a) n) named in3a) in
-    let second : Contains (list_at e3.watches (get_or r.lits 1 0)) (length e3.arena) = subst (λ (l : ℕ). Contains (list_at e3.watches l) (length e3.arena)) b_is (subst (λ (n : ℕ). Contains (list_at e3.watches b) n) named in3b) in
-    let unseen : (l f : ℕ) → q ≤ f → (0 < mark_of e2.marks (negation_of l) → f < mark_of e2.marks (negation_of l)) → IsUnseen e3.marks q l = λ l f le u. subst (λ (ms : List ℕ). IsUnseen ms q l) (sym marks) (λ pos. let late = u pos in omega arith) in
-    IsSound-put_watched e3 r q s3 (λ lit c. let below = range lit c in omega arith) two ne first second low
-    (subst (λ (l : ℕ). IsUnseen e3.marks q l) a_is (unseen a fa (omega arith) ua))
-    (subst (λ (l : ℕ). IsUnseen e3.marks q l) b_is (unseen b fb (omega arith) ub))
+    let f = AreFronted-both (e.arena ++ r ∷ []) e.chains (length e.arena) a b (IsOf (length e.arena)) IsNone (AreChains-put e.arena e.chains r s.filed) (omega arith) (omega arith)
+    (IsEntry-first e.arena r 0 a (omega arith) two a_is (λ z. ne (z ∙ b_is))) (IsEntry-first e.arena r 1 b (omega arith) two b_is (λ z. ne (sym (z ∙ a_is))))
+    (refl, omega arith) (refl, omega arith) (λ y none. absurd none) (λ l y p x. inl x.0) in
+    record { bodies = f.bodies; size = f.size; filed = f.filed }
+
+-- what adding a clause that is watched comes to
+pub record IsAdded (old new : Engine) (codes : List ℕ) (i : ℕ) : Type 0 where
+  pub sound : IsSound new
+  pub bodies : SameBodies (old.arena ++ new_record i codes ∷ []) new.arena
+
+-- by its steps
+pub Added : (old low : Engine) (put : List Record) (e1 e2 : Engine) (codes : List ℕ) (i a b at fa fb q : ℕ) → IsSound old → ((lit : ℕ) → Contains codes lit → lit < 2 * old.variables) → 2 ≤ length codes → get_or codes 0 0 ≢ get_or codes 1 0 → a ≡ get_or codes 0 0 → b ≡ get_or codes 1 0 → (0 < mark_of old.marks (negation_of a) → fa < mark_of old.marks (negation_of a)) → (0 < mark_of old.marks (negation_of b) → fb < mark_of old.marks (negation_of b)) → q ≡ min fa fb → IsSound low → IsLowered low q → low ≡ record old { heads = low.heads; head = low.head } → at ≡ length low.arena → put ≡ low.arena ++ new_record i codes ∷ [] → e1 ≡ record low { arena = linked put (record { at = at; slot = 0 }) (head_of low.chains a); chains = set low.chains a (Some (record { at = at; slot = 0 })) } → e2 ≡ record e1 { arena = linked e1.arena (record { at = at; slot = 1 }) (head_of e1.chains b); chains = set e1.chains b (Some (record { at = at; slot = 1 })) } → IsAdded old e2 codes i
+Added old low put e1 e2 codes i a b at fa fb q s range two ne a_is b_is ua ub q_is t lowered same at_is put_is e1_is e2_is =
+    let r : Record = new_record i codes in
+    let vars : low.variables ≡ old.variables = ap (λ (e : Engine). e.variables) same in
+    let arena : low.arena ≡ old.arena = ap (λ (e : Engine). e.arena) same in
+    let marks : low.marks ≡ old.marks = ap (λ (e : Engine). e.marks) same in
+    let a_range : a < 2 * old.variables = range a (contains_at codes 0 a (omega arith) (sym a_is)) in
+    let b_range : b < 2 * old.variables = range b (contains_at codes 1 b (omega arith) (sym b_is)) in
+    let n : ℕ = length low.arena in
+    let first : Link = record { at = length low.arena; slot = 0 } in
+    let second : Link = record { at = length low.arena; slot = 1 } in
+    let fronted = IsFronted-both low r a b t (omega arith) (omega arith) two (sym a_is) (sym b_is) (λ z. ne (sym a_is ∙ z ∙ b_is)) in
+    let r2 : List Record = linked (low.arena ++ r ∷ []) first (head_of low.chains a) in
+    let c2 : List (Option Link) = set low.chains a (Some first) in
+    let e1_at : e1 ≡ record low { arena = r2; chains = c2 } =
+    e1_is ∙ ap (λ (m : ℕ). let e : Engine = record low { arena = linked put (record { at = m; slot = 0 }) (head_of low.chains a); chains = set low.chains a (Some (record { at = m; slot = 0 })) } in e) at_is
+    ∙ ap (λ (rs : List Record). let e : Engine = record low { arena = linked rs first (head_of low.chains a); chains = c2 } in e) put_is in
+    let e2_at : e2 ≡ record low { arena = linked r2 second (head_of c2 b); chains = set c2 b (Some second) } =
+    e2_is ∙ ap (λ (m : ℕ). let e : Engine = record e1 { arena = linked e1.arena (record { at = m; slot = 1 }) (head_of e1.chains b); chains = set e1.chains b (Some (record { at = m; slot = 1 })) } in e) at_is
+    ∙ ap (λ (x : Engine). let e : Engine = record x { arena = linked x.arena second (head_of x.chains b); chains = set x.chains b (Some second) } in e) e1_at in
+    let unseen : (l f k : ℕ) → q ≤ f → (0 < mark_of old.marks (negation_of k) → f < mark_of old.marks (negation_of k)) → k ≡ l → IsUnseen low.marks q l = λ l f k le u is.
+    subst (λ (m : ℕ). IsUnseen low.marks q m) is (subst (λ (ms : List ℕ). IsUnseen ms q k) (sym marks) (λ pos. let late = u pos in omega arith)) in
+    let sound : IsSound (record low { arena = linked r2 second (head_of c2 b); chains = set c2 b (Some second) }) =
+    IsSound-put_watched low r q (linked r2 second (head_of c2 b)) (set c2 b (Some second)) t (λ lit c. let below = range lit c in omega arith) two ne lowered
+    (unseen (get_or codes 0 0) fa a (omega arith) ua a_is) (unseen (get_or codes 1 0) fb b (omega arith) ub b_is) fronted.bodies fronted.size fronted.filed in
+    let bodies : SameBodies (old.arena ++ r ∷ []) (linked r2 second (head_of c2 b)) = subst (λ (rs : List Record). SameBodies (rs ++ r ∷ []) (linked r2 second (head_of c2 b))) arena fronted.bodies in
+    subst (λ (e : Engine). IsAdded old e codes i) (sym e2_at) (record { sound = sound; bodies = bodies })

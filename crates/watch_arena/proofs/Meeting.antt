@@ -1,8 +1,8 @@
 -- What comes of the visit of a short clause.
-use Rattle.std.proofs.Common.{◌≡◌, ◌∙◌, ◌⊎◌, ℕ, ◌+◌, ◌*◌, ◌<◌, ◌≤◌, Bool, true, false, List, length, get_or, set, Option, Some, None, Result, Ok, Err, refl, sym, ap, subst, arith, inl, inr, add-zero, get_or-set_same}
+use Rattle.std.proofs.Common.{◌≡◌, ◌∙◌, ◌⊎◌, ℕ, ◌+◌, ◌*◌, ◌<◌, ◌≤◌, Bool, true, false, List, length, get_or, set, Option, Some, None, refl, sym, ap, subst, arith, inl, inr, add-zero, get_or-set_same}
 use Rattle.std.specs.Bool.{MatchBool}
 use Rattle.std.specs.List.{Contains}
-use Rattle.std.specs.Prelude.{nat_eq, MatchOption, IfOk}
+use Rattle.std.specs.Prelude.{nat_eq, MatchOption}
 use Rattle.std.proofs.lemmas.Grind.{common_steps}
 use borrow.Author.Tests.{eqb-true}
 use Rattle.lits_core.specs.Literals.{negation_of}
@@ -10,8 +10,7 @@ use Rattle.clause_arena.specs.Records.{record_at}
 use Rattle.watch_arena.specs.declared.places.Place.{Place}
 use Rattle.watch_arena.specs.declared.engine.Engine.{Engine}
 use Rattle.watch_arena.specs.Places.{level_of, is_assumed}
-use Rattle.watch_arena.specs.Engines.{mark_of, TrueBelow, IsReasonBelow, IsWatched, IsShort, IsShortMet, CanMark, IsSound, IsFalse, IsDone, Advances, shorts_of, with_place}
-use Rattle.watch_arena.specs.Lists.{list_at}
+use Rattle.watch_arena.specs.Engines.{mark_of, TrueBelow, IsReasonBelow, IsWatched, IsShort, IsShortMet, CanMark, IsSound, IsFalse, IsDone, Advances, with_place}
 use Rattle.watch_arena.proofs.Watching.{contains_at, index_of}
 use Rattle.watch_arena.proofs.Sound.{IsSound-marked, IsSound-first_advanced, lit-in_range}
 use Rattle.watch_arena.proofs.Visiting.{TrueBelow-all, Visits-marked, Advances-visits, HasRoom-from_can, mark_within, level_of-push, not_positive}
@@ -96,23 +95,22 @@ CanMark-assumed e lit level range not_true not_false is = record {
 }
 
 -- a short clause was met
-pub IsSound-met : (old new : Engine) (at : ℕ) → Advances old new → old.first < length (list_at old.watches (shorts_of old.variables)) → at ≡ get_or (list_at old.watches (shorts_of old.variables)) old.first 0 → IsShortMet new at → IsSound (record new { first = new.first + 1 })
+pub IsSound-met : (old new : Engine) (at : ℕ) → Advances old new → old.first < length old.shorts → at ≡ get_or old.shorts old.first 0 → IsShortMet new at → IsSound (record new { first = new.first + 1 })
 IsSound-met old new at a below is met =
-    let same : list_at new.watches (shorts_of new.variables) ≡ list_at old.watches (shorts_of old.variables) = a.steps.alone in
+    let same : new.shorts ≡ old.shorts = a.steps.shorts in
     let size = ap length same in
     let first = a.first in
-    let entry : at ≡ get_or (list_at new.watches (shorts_of new.variables)) new.first 0 = is ∙ ap (λ (xs : List ℕ). get_or xs old.first 0) (sym same) ∙ ap (λ (n : ℕ). get_or (list_at new.watches (shorts_of new.variables)) n 0) (sym first) in
+    let entry : at ≡ get_or new.shorts new.first 0 = is ∙ ap (λ (xs : List ℕ). get_or xs old.first 0) (sym same) ∙ ap (λ (n : ℕ). get_or new.shorts n 0) (sym first) in
     IsSound-first_advanced new a.sound (omega arith) (subst (λ (r : ℕ). IsShortMet new r) entry met)
 
 -- all short clauses were met, and the places to the end
-pub IsDone-from : (mid new : Engine) → Advances mid new → mid.first ≡ length (list_at mid.watches (shorts_of mid.variables)) → new.head ≡ length new.places.list → IsDone new
+pub IsDone-from : (mid new : Engine) → Advances mid new → mid.first ≡ length mid.shorts → new.head ≡ length new.places.list → IsDone new
 IsDone-from mid new a first head =
-    let size = ap length a.steps.alone in
+    let size = ap length a.steps.shorts in
     let same = a.first in
     record { head = head; first = omega arith }
 
 -- what came of it, whatever it is
-pub outcome_done : {E H D : Type 0} (F : ℕ → Type 0) (r : Result (Option ℕ) E) → (H → D) → IfOk r (λ o. MatchOption o H F) → IfOk r (λ o. MatchOption o D F)
-outcome_done F (Err e) done p = p
-outcome_done F (Ok None) done p = done p
-outcome_done F (Ok (Some at)) done p = p
+pub outcome_done : {H D : Type 0} (F : ℕ → Type 0) (o : Option ℕ) → (H → D) → MatchOption o H F → MatchOption o D F
+outcome_done F None done p = done p
+outcome_done F (Some at) done p = p

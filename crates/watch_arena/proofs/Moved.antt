@@ -1,16 +1,15 @@
 -- What stays as a watch moves, and as an entry is dropped.
-use Rattle.std.proofs.Common.{◌≡◌, ◌≢◌, ◌∙◌, ◌⊎◌, ℕ, ◌-◌, ◌<◌, ◌≤◌, true, List, [], ◌∷◌, ◌++◌, length, get_or, set, refl, sym, ap, subst, arith, inl, inr, length-set}
+use Rattle.std.proofs.Common.{◌≡◌, ◌≢◌, ◌∙◌, ◌⊎◌, ℕ, ◌-◌, ◌<◌, ◌≤◌, true, List, length, get_or, set, refl, sym, ap, subst, arith, inl, inr, length-set}
 use Rattle.std.specs.List.{swap, Contains}
 use Rattle.std.proofs.lemmas.Bool.{cases_eq}
 use Rattle.std.proofs.lemmas.List.Sorted.{Contains-permutation, IsPermutation-swap, IsPermutation-refl, IsPermutation-sym, IsPermutation-trans}
 use Rattle.lits_core.specs.Literals.{negation_of}
 use Rattle.clause_arena.specs.Records.{Record, record_at, with_lits_swapped}
 use Rattle.watch_arena.specs.declared.places.Place.{Place}
-use Rattle.watch_arena.specs.Lists.{list_at}
 use Rattle.watch_arena.specs.Places.{place_at}
 use Rattle.watch_arena.specs.Trails.{IsSameRecord, SameRecords}
-use Rattle.watch_arena.specs.Engines.{mark_of, FalseBelow, IsReasonBelow, AreReasoned, IsWatched, IsShort, AreShortOrWatched, AreFiled, IsShortSettled, IsSettledAt, RecordsInRange, with_watch, without_watch}
-use Rattle.watch_arena.proofs.Watching.{list_at-other, Contains-without_watch, Contains-with_watch, Contains-watch_added, record_at-same, record_at-other, live_within, IsWatched-at, IsWatched-swapped, IsWatched-only, IsWatched-moved, short_not_watched}
+use Rattle.watch_arena.specs.Engines.{mark_of, FalseBelow, IsReasonBelow, AreReasoned, IsWatched, IsShort, AreShortOrWatched, IsShortSettled, IsSettledAt, RecordsInRange}
+use Rattle.watch_arena.proofs.Watching.{record_at-same, record_at-other, live_within, IsWatched-at, IsWatched-swapped, IsWatched-only, IsWatched-moved, short_not_watched}
 
 -- each record is itself
 pub SameRecords-refl : (records : List Record) → SameRecords records records
@@ -154,40 +153,3 @@ IsSettledAt-moved records shorts marks at slot k lit other h s n m apart p = rec
     ];
   };
 }
-
--- the lists still have each clause that watches their literal
-pub AreFiled-moved : (records : List Record) (lists : List (List ℕ)) (marks : List ℕ) (at slot k lit other i : ℕ) → Move records marks at slot k lit other → lit < length lists → fresh records at k < length lists → fresh records at k ≢ lit → i < length (list_at lists lit) → get_or (list_at lists lit) i 0 ≡ at → AreFiled records lists → AreFiled (moved records at slot k) (without_watch (with_watch lists (fresh records at k) at) lit i)
-AreFiled-moved records lists marks at slot k lit other i m lit_lt fresh_lt apart within entry filed b x y live w =
-    let grown : List (List ℕ) = with_watch lists (fresh records at k) at in
-    let size : length grown ≡ length lists = length-set lists (fresh records at k) (list_at lists (fresh records at k) ++ at ∷ []) in
-    let same_list : list_at grown lit ≡ list_at lists lit = list_at-other lists (fresh records at k) lit (list_at lists (fresh records at k) ++ at ∷ []) (λ e. apart (sym e)) in
-    let count : length (list_at grown lit) ≡ length (list_at lists lit) = ap length same_list in
-    let entry_now : get_or (list_at grown lit) i 0 ≡ at = ap (λ (xs : List ℕ). get_or xs i 0) same_list ∙ entry in
-    elim (cases_eq b at) [
-      | inl e ↦
-          let v : IsWatched (record_at (moved records at slot k) at).lits x y = subst (λ (c : ℕ). IsWatched (record_at (moved records at slot k) c).lits x y) e w in
-          elim (IsWatched-only (record_at (moved records at slot k) at).lits (fresh records at k) other x y (Move-is records marks at slot k lit other m) v) [
-            | inl q ↦
-                let here : Contains (list_at grown (fresh records at k)) at = Contains-watch_added lists (fresh records at k) at fresh_lt in
-                let now : Contains (list_at (without_watch grown lit i) (fresh records at k)) at = Contains-without_watch grown lit i (fresh records at k) at (omega arith) (omega arith) (λ z. absurd (apart z)) here in
-                subst (λ (c : ℕ). Contains (list_at (without_watch grown lit i) x) c) (sym e) (subst (λ (l : ℕ). Contains (list_at (without_watch grown lit i) l) at) (sym q.0) now)
-            | inr q ↦
-                let was : Contains (list_at lists other) at = filed at other lit m.live (IsWatched-swapped (record_at records at).lits lit other (Move-was records marks at slot k lit other m)) in
-                let here = Contains-with_watch lists (fresh records at k) at other at fresh_lt was in
-                let now : Contains (list_at (without_watch grown lit i) other) at = Contains-without_watch grown lit i other at (omega arith) (omega arith) (λ z. absurd (m.differ (sym z))) here in
-                subst (λ (c : ℕ). Contains (list_at (without_watch grown lit i) x) c) (sym e) (subst (λ (l : ℕ). Contains (list_at (without_watch grown lit i) l) at) (sym q.0) now)
-          ]
-      | inr ne ↦
-          let same : record_at (moved records at slot k) b ≡ record_at records b = record_at-other records at b (with_lits_swapped (record_at records at) slot k) ne in
-          let was : Contains (list_at lists x) b = filed b x y (sym (ap (λ (r : Record). r.live) same) ∙ live) (subst (λ (r : Record). IsWatched r.lits x y) same w) in
-          Contains-without_watch grown lit i x b (omega arith) (omega arith) (λ z e. ne (sym e ∙ entry_now)) (Contains-with_watch lists (fresh records at k) at x b fresh_lt was)
-    ]
-
--- nor is a clause missed where an entry goes that is no watch
-pub AreFiled-dropped : (records : List Record) (lists : List (List ℕ)) (lit i : ℕ) → lit < length lists → i < length (list_at lists lit) → ((b : ℕ) → (record_at records (get_or (list_at lists lit) i 0)).live ≡ true → IsWatched (record_at records (get_or (list_at lists lit) i 0)).lits lit b → ⊥) → AreFiled records lists → AreFiled records (without_watch lists lit i)
-AreFiled-dropped records lists lit i lt within stale filed b x y live w =
-    Contains-without_watch lists lit i x b lt within
-    (λ z e. let P : ℕ → Type 0 = λ n. (record_at records n).live ≡ true in
-    let Q : ℕ → Type 0 = λ n. IsWatched (record_at records n).lits lit y in
-    stale y (subst P (sym e) live) (subst Q (sym e) (subst (λ (l : ℕ). IsWatched (record_at records b).lits l y) z w)))
-    (filed b x y live w)

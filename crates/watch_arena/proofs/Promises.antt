@@ -1,12 +1,12 @@
 -- The promises of a trail's calls.
-use Rattle.std.proofs.Common.{◌≡◌, ◌≢◌, ◌∙◌, ℕ, zero, suc, ◌+◌, ◌-◌, ◌*◌, ◌<◌, ◌≤◌, ◌==◌, Bool, true, false, cond, List, [], ◌∷◌, ◌++◌, length, get_or, take, min, Option, Some, None, Result, Ok, Err, refl, sym, ap, subst, arith, inl, inr, length-take, add-zero}
-use Rattle.std.specs.Prelude.{MatchOption, IfOk, is_none}
+use Rattle.std.proofs.Common.{◌≡◌, ◌≢◌, ◌∙◌, ℕ, zero, suc, ◌+◌, ◌-◌, ◌*◌, ◌<◌, ◌≤◌, ◌==◌, Bool, true, false, cond, List, [], ◌∷◌, ◌++◌, length, get_or, take, min, Option, Some, None, refl, sym, ap, subst, arith, inl, inr, length-take, add-zero}
+use Rattle.std.specs.Prelude.{MatchOption, is_none}
 use Rattle.std.specs.List.{Contains, position_from, swap}
 use Rattle.std.specs.List.Sorted.{IsPermutation}
 use Rattle.std.proofs.lemmas.List.Edits.{Swapped, swapped_from_swap}
 use Rattle.std.proofs.lemmas.List.Sorted.{IsPermutation-refl}
 use Rattle.std.proofs.lemmas.Bool.{cases_eq, cases_lt, false≢true}
-use Rattle.std.proofs.lemmas.List.{take_all, length_push}
+use Rattle.std.proofs.lemmas.List.{take_all, get_or_past, length_push}
 use Rattle.std.proofs.lemmas.List.Sums.{count_by_more_no}
 use borrow.Author.Tests.{eq-eqb, ne_eqb}
 use Rattle.lits_core.specs.Literals.{negation_of, variable_of}
@@ -17,7 +17,10 @@ use Rattle.watch_arena.specs.declared.engine.Engine.{Engine}
 use Rattle.watch_arena.specs.Places.{place_at, no_place, is_assumed, level_of, place_of}
 use Rattle.watch_arena.specs.Trails.{TrailState, IsReason, Propagates, IsConflict, IsPropagated, SameRecords, IsSameRecord, Adds, AreInRange}
 use Rattle.watch_arena.specs.Engines.{mark_of, IsReasonBelow, CanMark, IsSound, IsFalse, IsDone, Steps, KeepsPlaces, seen, with_place}
-use Rattle.watch_arena.proofs.Adding.{record_at-put, record_at-new}
+use Rattle.watch_arena.proofs.Watching.{record_at-put, record_at-new}
+use Rattle.watch_arena.specs.Chains.{SameBodies}
+use Rattle.watch_arena.proofs.Moved.{SameRecords-trans}
+use Rattle.watch_arena.proofs.Bare.{SameRecords-bodies}
 use Rattle.watch_arena.proofs.Visiting.{level_of-push, TrueBelow-all}
 use Rattle.watch_arena.proofs.ByIndex.{position_is, position_none}
 use Rattle.watch_arena.proofs.Seen.{IsReason-below, IsPropagated-done, IsConflict-false, mark-is_true}
@@ -54,10 +57,9 @@ Propagates-steps old new s t st =
     }
 
 -- what it found
-pub found_seen : {E : Type 0} (e : Engine) (r : Result (Option ℕ) E) → IsSound e → IfOk r (λ o. MatchOption o (IsDone e) (λ at. IsFalse e at)) → IfOk r (λ o. MatchOption o (IsPropagated (seen e)) (λ at. IsConflict (seen e) at))
-found_seen e (Err x) s p = p
-found_seen e (Ok None) s p = IsPropagated-done e s p
-found_seen e (Ok (Some at)) s p = IsConflict-false e at s p
+pub found_seen : (e : Engine) (o : Option ℕ) → IsSound e → MatchOption o (IsDone e) (λ at. IsFalse e at) → MatchOption o (IsPropagated (seen e)) (λ at. IsConflict (seen e) at)
+found_seen e None s p = IsPropagated-done e s p
+found_seen e (Some at) s p = IsConflict-false e at s p
 
 -- where a search finds nothing, the first does not pass, and no later one
 first_fails : (test : Place → Bool) (p : Place) (places : List Place) (from : ℕ) → position_from test from (p ∷ places) ≡ None → (test p ≡ false) × (position_from test (from + 1) places ≡ None)
@@ -142,12 +144,12 @@ CanMark-implied e lit at s none r =
 pub seen-implied : (e : Engine) (p : Place) → is_assumed p ≡ false → seen (with_place e p) ≡ record (seen e) { places = e.places.list ++ p ∷ [] }
 seen-implied e p implied =
     let level : level_of (e.places.list ++ p ∷ []) ≡ level_of e.places.list = level_of-push e.places.list p ∙ ap (λ (b : Bool). level_of e.places.list + cond b 1 0) implied ∙ add-zero (level_of e.places.list) in
-    ap (λ (n : ℕ). let t : TrailState = record { records = e.arena; places = e.places.list ++ p ∷ []; variables = e.variables; level = n } in t) level
+    ap (λ (n : ℕ). let t : TrailState = record { records = e.arena; places = e.places.list ++ p ∷ []; variables = e.variables; level = n; spare = e.moves.spare } in t) level
 
 pub seen-assumed : (e : Engine) (p : Place) → is_assumed p ≡ true → seen (with_place e p) ≡ record (seen e) { places = e.places.list ++ p ∷ []; level = level_of e.places.list + 1 }
 seen-assumed e p assumed =
     let level : level_of (e.places.list ++ p ∷ []) ≡ level_of e.places.list + 1 = level_of-push e.places.list p ∙ ap (λ (b : Bool). level_of e.places.list + cond b 1 0) assumed in
-    ap (λ (n : ℕ). let t : TrailState = record { records = e.arena; places = e.places.list ++ p ∷ []; variables = e.variables; level = n } in t) level
+    ap (λ (n : ℕ). let t : TrailState = record { records = e.arena; places = e.places.list ++ p ∷ []; variables = e.variables; level = n; spare = e.moves.spare } in t) level
 
 -- the place of a variable, by the mark of its positive literal, of its negative one, or of neither
 pub place_of-even : (e : Engine) (variable mark : ℕ) → IsSound e → mark ≡ mark_of e.marks (2 * variable) → mark ≢ 0 → Some (mark - 1) ≡ place_of e.places.list variable
@@ -163,6 +165,12 @@ place_of-odd e variable mark s is ne =
 pub place_of-neither : (e : Engine) (variable even odd : ℕ) → IsSound e → even ≡ mark_of e.marks (2 * variable) → odd ≡ mark_of e.marks (2 * variable + 1) → even ≡ 0 → odd ≡ 0 → None ≡ place_of e.places.list variable
 place_of-neither e variable even odd s is_even is_odd none_even none_odd =
     sym (place_of-none e variable s (sym is_even ∙ none_even) (sym is_odd ∙ none_odd))
+
+-- a number past the last variable
+pub place_of-past : (e : Engine) (variable : ℕ) → IsSound e → e.variables ≤ variable → None ≡ place_of e.places.list variable
+place_of-past e variable s past =
+    let size = s.marked.size in
+    sym (place_of-none e variable s (get_or_past e.marks (2 * variable) 0 (omega arith)) (get_or_past e.marks (2 * variable + 1) 0 (omega arith)))
 
 -- one record more, with its literals in another order
 pub SameRecords-added : (records : List Record) (given lits : List ℕ) (i : ℕ) → IsPermutation given lits → SameRecords (records ++ new_record i given ∷ []) (records ++ new_record i lits ∷ [])
@@ -185,9 +193,9 @@ SameRecords-added records given lits i permuted = record {
 }
 
 -- what adding promises
-pub Adds-from : (old new : Engine) (given lits : List ℕ) (i : ℕ) → KeepsPlaces old new → IsPermutation given lits → new.arena ≡ old.arena ++ new_record i lits ∷ [] → Adds (seen old) (seen new) given i
+pub Adds-from : (old new : Engine) (given lits : List ℕ) (i : ℕ) → KeepsPlaces old new → IsPermutation given lits → SameBodies (old.arena ++ new_record i lits ∷ []) new.arena → Adds (seen old) (seen new) given i
 Adds-from old new given lits i kept permuted arena = record {
-  records = subst (λ (rs : List Record). SameRecords (old.arena ++ new_record i given ∷ []) rs) (sym arena) (SameRecords-added old.arena given lits i permuted);
+  records = SameRecords-trans (old.arena ++ new_record i given ∷ []) (old.arena ++ new_record i lits ∷ []) new.arena (SameRecords-added old.arena given lits i permuted) (SameRecords-bodies (old.arena ++ new_record i lits ∷ []) new.arena arena);
   places = kept.places;
   variables = kept.variables;
   level = ap level_of kept.places;
@@ -199,7 +207,8 @@ seen-kept old new kept arena =
     let places = kept.places in
     let variables = kept.variables in
     let level : level_of new.places.list ≡ level_of old.places.list = ap level_of kept.places in
-    cc (places, variables, level, arena)
+    let moves = kept.moves in
+    cc (places, variables, level, arena, moves)
 
 -- literals of the first variables
 pub codes_in_range : (lits : List ℕ) (variables : ℕ) → AreInRange lits variables → (lit : ℕ) → Contains lits lit → lit < 2 * variables

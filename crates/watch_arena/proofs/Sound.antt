@@ -1,6 +1,5 @@
 -- What keeps an engine sound.
 use Rattle.std.proofs.Common.{◌≡◌, ◌≢◌, ◌∙◌, ℕ, ◌+◌, ◌-◌, ◌*◌, ◌<◌, List, [], ◌∷◌, ◌++◌, length, get_or, set, take, Some, refl, sym, ap, subst, arith, inl, inr, length-set, length-take, get_or-set_same, get_or-set_other, get_or-take}
-use Rattle.std.specs.List.{Contains}
 use Rattle.std.proofs.lemmas.Bool.{cases_lt}
 use Rattle.std.proofs.lemmas.List.{take-append-le, take_all, take-take, length_push}
 use Rattle.lits_core.specs.Literals.{negation_of}
@@ -8,14 +7,11 @@ use Rattle.lits_core.proofs.LiteralLemmas.{negation-injective, negation-below}
 use Rattle.clause_arena.specs.Records.{Record, record_at}
 use Rattle.watch_arena.specs.declared.places.Place.{Place}
 use Rattle.watch_arena.specs.declared.engine.Engine.{Engine}
-use Rattle.watch_arena.specs.Lists.{list_at}
 use Rattle.watch_arena.specs.Places.{place_at, no_place, level_of}
-use Rattle.watch_arena.specs.Trails.{SameRecords}
-use Rattle.watch_arena.specs.Engines.{mark_of, IsReasonBelow, AreReasoned, IsWatched, IsSettledAt, AreLevelled, with_watch, without_watch, with_watch_moved, CanMove, CanMark, IsSound, IsAgreed, IsStale, IsShortMet, HasNoFresh, shorts_of, with_place, without_last}
+use Rattle.watch_arena.specs.Engines.{mark_of, IsReasonBelow, AreReasoned, IsWatched, IsSettledAt, AreLevelled, CanMark, IsSound, AllAgree, IsShortMet, HasNoFresh, with_place, without_last}
 use Rattle.watch_arena.proofs.Marks.{MarksGrow, MarksGrow-set, MarksGrow-unset, AreMarked-push, AreMarked-pop, place_at-push, place_at-new, mark-in_range}
 use Rattle.watch_arena.proofs.Settled.{IsSettledAt-grown, IsSettledAt-shrunk, IsReasonBelow-grown, IsReasonBelow-shrunk}
-use Rattle.watch_arena.proofs.Watching.{list_at-other, live_within, contains_at, index_of}
-use Rattle.watch_arena.proofs.Moved.{Move, moved, fresh, SameRecords-swap, AreReasoned-same, RecordsInRange-same, AreShortOrWatched-moved, IsSettledAt-moved, AreFiled-moved, AreFiled-dropped}
+use Rattle.watch_arena.proofs.Watching.{contains_at}
 
 -- levels after one more place
 pub AreLevelled-push : (places : List Place) (p : Place) → AreLevelled places → p.level ≡ level_of (places ++ p ∷ []) → AreLevelled (places ++ p ∷ [])
@@ -56,12 +52,13 @@ IsSound-marked e p s m lt =
     let range = m.range in
     let g = MarksGrow-set e.marks p.lit (length e.places.list) (omega arith) m.not_true in
     let now : List ℕ = set e.marks p.lit (length e.places.list + 1) in
-    let shorts : List ℕ = list_at e.watches (shorts_of e.variables) in
+    let shorts : List ℕ = e.shorts in
     let count : length (e.places.list ++ p ∷ []) ≡ length e.places.list + 1 = length_push e.places.list p in
     let heads = s.heads in let firsts = s.firsts in
     let head = s.now.within in
     record {
       few = s.few;
+      no_pairs = s.no_pairs;
       room = s.room;
       lists = s.lists;
       heads = length-set e.heads (length e.places.list) e.head ∙ s.heads;
@@ -90,98 +87,12 @@ IsSound-marked e p s m lt =
       ];
     }
 
--- a move, by its parts
-pub Move-of : (e : Engine) (at slot k lit other i : ℕ) → CanMove e at slot k lit other i → Move e.arena e.marks at slot k lit other
-Move-of e at slot k lit other i m = record {
-  live = m.live;
-  slot_is = m.slot_is;
-  third = m.third;
-  within = m.within;
-  lit_is = m.lit_is;
-  other_is = m.other_is;
-  differ = m.differ;
-  lit_false = m.lit_false;
-  new_differs = m.new_differs;
-  new_not_false = m.new_not_false;
-}
-
--- the records after it are the same ones
-pub SameRecords-moved : (e : Engine) (at slot k lit other i : ℕ) → CanMove e at slot k lit other i → SameRecords e.arena (moved e.arena at slot k)
-SameRecords-moved e at slot k lit other i m =
-    let small = m.slot_is in let third = m.third in let within = m.within in
-    SameRecords-swap e.arena at slot k (live_within e.arena at m.live) (omega arith) m.within
-
--- neither list is that of the short ones
-pub lit_range : (e : Engine) (at slot k lit other i : ℕ) → IsSound e → CanMove e at slot k lit other i → (lit < 2 * e.variables) × (fresh e.arena at k < 2 * e.variables) × (fresh e.arena at k ≢ lit)
-lit_range e at slot k lit other i s m =
-    let small = m.slot_is in let third = m.third in let within = m.within in
-    let here : lit < 2 * e.variables = s.in_range at lit (contains_at (record_at e.arena at).lits slot lit (omega arith) m.lit_is) in
-    let there : fresh e.arena at k < 2 * e.variables = s.in_range at (fresh e.arena at k) (contains_at (record_at e.arena at).lits k (fresh e.arena at k) m.within refl) in
-    (here, there, λ same. absurd (let none : mark_of e.marks (negation_of lit) ≡ 0 = ap (λ (l : ℕ). mark_of e.marks (negation_of l)) (sym same) ∙ m.new_not_false in let pos = m.lit_false in omega arith))
-
--- the list of the short ones after lists of literals changed
-pub shorts-moved : (e : Engine) (at slot k lit other i : ℕ) → IsSound e → CanMove e at slot k lit other i → list_at (without_watch (with_watch e.watches (fresh e.arena at k) at) lit i) (shorts_of e.variables) ≡ list_at e.watches (shorts_of e.variables)
-shorts-moved e at slot k lit other i s m =
-    let range = lit_range e at slot k lit other i s m in
-    let here = range.0 in let there = range.1 in
-    let ne1 : shorts_of e.variables ≢ lit = omega arith in
-    let ne2 : shorts_of e.variables ≢ fresh e.arena at k = omega arith in
-    list_at-other (with_watch e.watches (fresh e.arena at k) at) lit (shorts_of e.variables) _ ne1 ∙ list_at-other e.watches (fresh e.arena at k) (shorts_of e.variables) _ ne2
-
--- a watch moves
-pub IsSound-moved : (e : Engine) (at slot k lit other i : ℕ) → IsSound e → CanMove e at slot k lit other i → IsSound (with_watch_moved e at slot k lit i)
-IsSound-moved e at slot k lit other i s m =
-    let mv = Move-of e at slot k lit other i m in
-    let same = SameRecords-moved e at slot k lit other i m in
-    let range = lit_range e at slot k lit other i s m in
-    let here = range.0 in let there = range.1 in
-    let lists = s.lists in
-    let shorts_same = shorts-moved e at slot k lit other i s m in
-    record {
-      few = s.few;
-      room = s.room;
-      lists = length-set (with_watch e.watches (fresh e.arena at k) at) lit _ ∙ length-set e.watches (fresh e.arena at k) _ ∙ s.lists;
-      heads = s.heads;
-      firsts = s.firsts;
-      marked = s.marked;
-      in_range = RecordsInRange-same e.arena (moved e.arena at slot k) e.variables same s.in_range;
-      reasoned = AreReasoned-same e.arena (moved e.arena at slot k) e.marks e.places.list same s.reasoned;
-      kinds = AreShortOrWatched-moved e.arena e.marks at slot k lit other mv s.kinds;
-      filed = AreFiled-moved e.arena e.watches e.marks at slot k lit other i mv (omega arith) (omega arith) range.2 m.entry_within m.entry_is s.filed;
-      levelled = s.levelled;
-      now = subst (λ (shorts : List ℕ). IsSettledAt (moved e.arena at slot k) shorts e.marks e.head e.first (length e.places.list)) (sym shorts_same)
-          (IsSettledAt-moved e.arena (list_at e.watches (shorts_of e.variables)) e.marks at slot k lit other e.head e.first (length e.places.list) mv s.marked.apart s.now);
-      saved = λ q lt. subst (λ (shorts : List ℕ). IsSettledAt (moved e.arena at slot k) shorts e.marks (get_or e.heads q 0) (get_or e.firsts q 0) q) (sym shorts_same)
-          (IsSettledAt-moved e.arena (list_at e.watches (shorts_of e.variables)) e.marks at slot k lit other (get_or e.heads q 0) (get_or e.firsts q 0) q mv s.marked.apart (s.saved q lt));
-    }
-
--- a stale entry goes
-pub IsSound-dropped : (e : Engine) (lit i : ℕ) → IsSound e → lit < 2 * e.variables → i < length (list_at e.watches lit) → IsStale e lit (get_or (list_at e.watches lit) i 0) → IsSound (record e { watches = without_watch e.watches lit i })
-IsSound-dropped e lit i s range within stale =
-    let lists = s.lists in
-    let ne : shorts_of e.variables ≢ lit = omega arith in
-    let shorts_same : list_at (without_watch e.watches lit i) (shorts_of e.variables) ≡ list_at e.watches (shorts_of e.variables) = list_at-other e.watches lit (shorts_of e.variables) _ ne in
-    record {
-      few = s.few;
-      room = s.room;
-      lists = length-set e.watches lit _ ∙ s.lists;
-      heads = s.heads;
-      firsts = s.firsts;
-      marked = s.marked;
-      in_range = s.in_range;
-      reasoned = s.reasoned;
-      kinds = s.kinds;
-      filed = AreFiled-dropped e.arena e.watches lit i (omega arith) within stale s.filed;
-      levelled = s.levelled;
-      now = subst (λ (shorts : List ℕ). IsSettledAt e.arena shorts e.marks e.head e.first (length e.places.list)) (sym shorts_same) s.now;
-      saved = λ q lt. subst (λ (shorts : List ℕ). IsSettledAt e.arena shorts e.marks (get_or e.heads q 0) (get_or e.firsts q 0) q) (sym shorts_same) (s.saved q lt);
-    }
-
 -- all clauses of the literal at the head were visited
-pub IsSound-advanced : (e : Engine) (lit : ℕ) → IsSound e → e.head < length e.places.list → mark_of e.marks (negation_of lit) ≡ e.head + 1 → ((i : ℕ) → i < length (list_at e.watches lit) → IsAgreed e lit (get_or (list_at e.watches lit) i 0)) → IsSound (record e { head = e.head + 1 })
+pub IsSound-advanced : (e : Engine) (lit : ℕ) → IsSound e → e.head < length e.places.list → mark_of e.marks (negation_of lit) ≡ e.head + 1 → AllAgree e lit → IsSound (record e { head = e.head + 1 })
 IsSound-advanced e lit s below at_head agreed =
     record {
       few = s.few;
+      no_pairs = s.no_pairs;
       room = s.room;
       lists = s.lists;
       heads = s.heads;
@@ -205,10 +116,7 @@ IsSound-advanced e lit s below at_head agreed =
               let index : mark_of e.marks (negation_of a) - 1 ≡ mark_of e.marks (negation_of lit) - 1 = omega arith in
               let same : negation_of a ≡ negation_of lit = sym one.1 ∙ ap (λ (n : ℕ). (place_at e.places.list n).lit) index ∙ two.1 in
               let is : a ≡ lit = negation-injective a lit same in
-              let entry = index_of (list_at e.watches lit) at (subst (λ (l : ℕ). Contains (list_at e.watches l) at) is (s.filed at a b live w)) in
-              let met = agreed entry.0 entry.1 in
-              let met_at : IsAgreed e lit at = subst (λ (r : ℕ). IsAgreed e lit r) entry.2 met in
-              met_at b live (subst (λ (l : ℕ). IsWatched (record_at e.arena at).lits l b) is w)
+              agreed at b live (subst (λ (l : ℕ). IsWatched (record_at e.arena at).lits l b) is w)
         ];
         alone = s.now.alone;
       };
@@ -216,10 +124,11 @@ IsSound-advanced e lit s below at_head agreed =
     }
 
 -- a short clause was visited
-pub IsSound-first_advanced : (e : Engine) → IsSound e → e.first < length (list_at e.watches (shorts_of e.variables)) → IsShortMet e (get_or (list_at e.watches (shorts_of e.variables)) e.first 0) → IsSound (record e { first = e.first + 1 })
+pub IsSound-first_advanced : (e : Engine) → IsSound e → e.first < length e.shorts → IsShortMet e (get_or e.shorts e.first 0) → IsSound (record e { first = e.first + 1 })
 IsSound-first_advanced e s below met =
     record {
       few = s.few;
+      no_pairs = s.no_pairs;
       room = s.room;
       lists = s.lists;
       heads = s.heads;
@@ -243,7 +152,7 @@ IsSound-first_advanced e s below met =
               | inl before ↦ one.settled before
               | inr late ↦
                   let e_is : one.index ≡ e.first = omega arith in
-                  let found : get_or (list_at e.watches (shorts_of e.variables)) e.first 0 ≡ at = ap (λ (n : ℕ). get_or (list_at e.watches (shorts_of e.variables)) n 0) (sym e_is) ∙ one.found in
+                  let found : get_or e.shorts e.first 0 ≡ at = ap (λ (n : ℕ). get_or e.shorts n 0) (sym e_is) ∙ one.found in
                   let met_at : IsShortMet e at = subst (λ (r : ℕ). IsShortMet e r) found met in
                   met_at live short
             ];
@@ -258,7 +167,7 @@ pub IsSound-popped : (e : Engine) → IsSound e → 0 < length e.places.list →
 IsSound-popped e s some =
     let last : ℕ = length e.places.list - 1 in
     let lit : ℕ = (place_at e.places.list (length e.places.list - 1)).lit in
-    let shorts : List ℕ = list_at e.watches (shorts_of e.variables) in
+    let shorts : List ℕ = e.shorts in
     let at_last : mark_of e.marks (place_at e.places.list (length e.places.list - 1)).lit ≡ length e.places.list - 1 + 1 = s.marked.back (length e.places.list - 1) (omega arith) in
     let lt : (place_at e.places.list (length e.places.list - 1)).lit < length e.marks = mark-in_range e.marks (place_at e.places.list (length e.places.list - 1)).lit (omega arith) in
     let g = MarksGrow-unset e.marks (place_at e.places.list (length e.places.list - 1)).lit (length e.places.list - 1) lt at_last in
@@ -267,6 +176,7 @@ IsSound-popped e s some =
     let kept : (q : ℕ) → q < length e.places.list - 1 → place_at (take (length e.places.list - 1) e.places.list) q ≡ place_at e.places.list q = λ q below. get_or-take (length e.places.list - 1) e.places.list q no_place below in
     record {
       few = s.few;
+      no_pairs = s.no_pairs;
       room = s.room;
       lists = s.lists;
       heads = s.heads;

@@ -10,11 +10,11 @@ use Rattle.std.proofs.lemmas.List.Sums.{sum_by-take-le}
 use Rattle.clause_arena.specs.Records.{Record, record_at, forgotten}
 use Rattle.watch_arena.specs.declared.places.Place.{Place}
 use Rattle.watch_arena.specs.declared.engine.Engine.{Engine}
-use Rattle.watch_arena.specs.Lists.{list_at}
 use Rattle.watch_arena.specs.Places.{place_at, no_place, level_of, is_assumed}
 use Rattle.watch_arena.specs.Trails.{places_up_to}
-use Rattle.watch_arena.specs.Engines.{AreLevelled, IsReasonBelow, IsSettledAt, IsShortSettled, IsWatched, IsShort, IsSound, Undoes, shorts_of, without_last}
+use Rattle.watch_arena.specs.Engines.{AreLevelled, IsReasonBelow, IsSettledAt, IsShortSettled, IsWatched, IsShort, IsSound, Undoes, without_last}
 use Rattle.watch_arena.proofs.Watching.{record_at-same, record_at-other, live_within}
+use Rattle.watch_arena.proofs.Walked.{AreChains-forgotten}
 use Rattle.watch_arena.proofs.Sound.{IsSound-popped}
 use Rattle.watch_arena.proofs.Visiting.{level_of-push}
 
@@ -95,6 +95,7 @@ IsSound-forgotten e at s live no_reason =
     } in
     record {
       few = s.few;
+      no_pairs = s.no_pairs;
       room = s.room;
       lists = s.lists;
       heads = s.heads;
@@ -105,10 +106,10 @@ IsSound-forgotten e at s live no_reason =
           let ne : b ≢ at = λ z. no_reason p below (is ∙ ap Some z) in
           subst (λ (r : Record). IsReasonBelow r e.marks p (place_at e.places.list p).lit) (sym (other b ne)) (s.reasoned p b below is);
       kinds = λ b on. subst (λ (ls : List ℕ). IsShort ls ⊎ IsWatched ls (get_or ls 0 0) (get_or ls 1 0)) (sym (lits b)) (s.kinds b (was_live b on));
-      filed = λ b x y on w. s.filed b x y (was_live b on) (subst (λ (ls : List ℕ). IsWatched ls x y) (lits b) w);
+      filed = AreChains-forgotten e.arena e.chains at lt s.filed;
       levelled = s.levelled;
-      now = settled (list_at e.watches (shorts_of e.variables)) e.head e.first (length e.places.list) s.now;
-      saved = λ p below. settled (list_at e.watches (shorts_of e.variables)) (get_or e.heads p 0) (get_or e.firsts p 0) p (s.saved p below);
+      now = settled e.shorts e.head e.first (length e.places.list) s.now;
+      saved = λ p below. settled e.shorts (get_or e.heads p 0) (get_or e.firsts p 0) p (s.saved p below);
     }
 
 -- undone so far
@@ -118,9 +119,10 @@ pub record Undone (old new : Engine) (level : ℕ) : Type 0 where
   pub variables : new.variables ≡ old.variables
   pub places : places_up_to new.places.list level ≡ places_up_to old.places.list level
   pub level_left : level ≤ level_of new.places.list
+  pub moves : new.moves ≡ old.moves
 
 pub Undone-refl : (e : Engine) (level : ℕ) → IsSound e → level ≤ level_of e.places.list → Undone e e level
-Undone-refl e level s le = record { sound = s; arena = refl; variables = refl; places = refl; level_left = le }
+Undone-refl e level s le = record { sound = s; arena = refl; variables = refl; places = refl; level_left = le; moves = refl }
 
 -- one place more
 pub Undone-last : (old new : Engine) (level : ℕ) → Undone old new level → level < level_of new.places.list → Undone old (without_last new) level
@@ -133,6 +135,7 @@ Undone-last old new level u above =
       variables = u.variables;
       places = places_up_to-last new.places.list level u.sound.levelled some above ∙ u.places;
       level_left = omega arith;
+      moves = u.moves;
     }
 
 -- all of them
@@ -144,4 +147,5 @@ Undoes-from old new level u le =
       variables = u.variables;
       places = sym (places_up_to-all new.places.list level u.sound.levelled le) ∙ u.places;
       level_is = omega arith;
+      moves = u.moves;
     }

@@ -1,21 +1,20 @@
 -- What comes of the visit of a clause that watches a literal.
-use Rattle.std.proofs.Common.{◌≡◌, ◌≢◌, ◌∙◌, ℕ, zero, suc, ◌+◌, ◌-◌, ◌*◌, ◌^◌, ◌<◌, ◌≤◌, true, false, cond, List, [], ◌∷◌, ◌++◌, length, get_or, set, take, Option, Some, None, refl, sym, ap, subst, arith, inl, inr, length-set, length-take, add-zero, min, get_or-set_same, get_or-take}
-use Rattle.std.specs.List.{swap_remove, Contains}
+use Rattle.std.proofs.Common.{◌≡◌, ◌≢◌, ◌∙◌, ℕ, zero, suc, ◌+◌, ◌-◌, ◌*◌, ◌^◌, ◌<◌, ◌≤◌, true, false, cond, List, [], ◌∷◌, ◌++◌, length, get_or, set, take, Option, Some, None, refl, sym, ap, subst, arith, inl, inr, length-take, add-zero, min, get_or-set_same, get_or-take}
+use Rattle.std.specs.List.{Contains}
 use Rattle.std.proofs.lemmas.Bool.{cases_eq, cases_lt}
 use Rattle.std.proofs.lemmas.List.{take-append-le, take_all, take-take, get_or_past, get_or_default, length_push}
 use Rattle.std.proofs.lemmas.List.Sums.{sum_by-append}
 use Rattle.lits_core.specs.Literals.{negation_of, variable_of}
 use Rattle.lits_core.proofs.LiteralLemmas.{negation-below, same_variable, negation-negation}
-use Rattle.clause_arena.specs.Records.{Record, record_at, with_lits_swapped}
+use Rattle.clause_arena.specs.Records.{record_at}
 use Rattle.watch_arena.specs.declared.places.Place.{Place}
 use Rattle.watch_arena.specs.declared.engine.Engine.{Engine}
-use Rattle.watch_arena.specs.Lists.{list_at}
 use Rattle.watch_arena.specs.Places.{place_at, no_place, level_of, is_assumed}
-use Rattle.watch_arena.specs.Engines.{mark_of, TrueBelow, AreMarked, IsReasonBelow, IsWatched, with_watch, without_watch, with_watch_moved, CanMove, CanMark, IsSound, IsAgreed, AllAgree, IsStale, HasNoFresh, IsFresh, IsSlot, IsFalse, Steps, Visits, Advances, shorts_of, with_place}
+use Rattle.watch_arena.specs.Engines.{mark_of, TrueBelow, AreMarked, IsReasonBelow, IsWatched, CanMark, IsSound, IsAgreed, AllAgree, HasNoFresh, IsFalse, Steps, Visits, Advances, with_place}
 use Rattle.watch_arena.proofs.Marks.{MarksGrow-set, TrueBelow-grown, place_at-push, place_at-new}
-use Rattle.watch_arena.proofs.Watching.{list_at-same, list_at-other, record_at-other, IsWatched-only, IsWatched-at, contains_at, index_of, get_or-swap_remove, length-swap_remove}
-use Rattle.watch_arena.proofs.Moved.{moved, fresh, SameRecords-refl, SameRecords-trans, Move-is}
-use Rattle.watch_arena.proofs.Sound.{IsSound-marked, IsSound-moved, IsSound-dropped, IsSound-advanced, SameRecords-moved, Move-of, shorts-moved, lit_range, lit-in_range}
+use Rattle.watch_arena.proofs.Watching.{IsWatched-only, IsWatched-at, contains_at, index_of}
+use Rattle.watch_arena.proofs.Moved.{SameRecords-refl, SameRecords-trans}
+use Rattle.watch_arena.proofs.Sound.{IsSound-marked, IsSound-advanced, lit-in_range}
 use Rattle.watch_arena.proofs.Pigeons.{at_most}
 
 -- while a literal is unassigned there is room for a place
@@ -73,7 +72,7 @@ Steps-refl e = record {
   implied = λ p from below. absurd (omega arith);
   marks = λ lit pos. refl;
   variables = refl;
-  alone = refl;
+  shorts = refl;
 }
 
 pub Visits-refl : (e : Engine) (lit : ℕ) → IsSound e → Visits e e lit
@@ -95,7 +94,7 @@ Steps-trans a b c s t =
       ];
       marks = λ lit pos. let first = s.marks lit pos in t.marks lit (omega arith) ∙ first;
       variables = t.variables ∙ s.variables;
-      alone = t.alone ∙ s.alone;
+      shorts = t.shorts ∙ s.shorts;
     }
 
 pub Visits-trans : (a b c : Engine) (lit : ℕ) → Visits a b lit → Visits b c lit → Visits a c lit
@@ -106,6 +105,14 @@ Visits-trans a b c lit s t = record {
   first = t.first ∙ s.first;
   agreed = λ at x. t.agreed at (s.agreed at x);
 }
+
+-- a slot of a live clause at which it watches a literal
+pub record IsSlot (e : Engine) (at lit slot : ℕ) : Type 0 where
+  pub slot_is : slot < 2
+  pub live : (record_at e.arena at).live ≡ true
+  pub two : 2 ≤ length (record_at e.arena at).lits
+  pub lit_is : get_or (record_at e.arena at).lits slot 0 ≡ lit
+  pub differ : lit ≢ get_or (record_at e.arena at).lits (1 - slot) 0
 
 -- the pair that a clause watches, by a slot
 pub IsWatched-slot : (e : Engine) (at lit slot : ℕ) → IsSlot e at lit slot → IsWatched (record_at e.arena at).lits lit (get_or (record_at e.arena at).lits (1 - slot) 0)
@@ -182,7 +189,7 @@ Steps-marked e p s m implied =
       implied = λ q from below. let e_is : q ≡ length e.places.list = omega arith in ap is_assumed (ap (place_at (e.places.list ++ p ∷ [])) e_is ∙ place_at-new e.places.list p) ∙ implied;
       marks = g.kept;
       variables = refl;
-      alone = refl;
+      shorts = refl;
     }
 
 pub Visits-marked : (e : Engine) (p : Place) (lit : ℕ) → IsSound e → CanMark e p → is_assumed p ≡ false → Visits e (with_place e p) lit
@@ -197,82 +204,6 @@ Visits-marked e p lit s m implied =
       head = refl;
       first = refl;
       agreed = λ at a other live w. TrueBelow-grown e.marks (set e.marks p.lit (length e.places.list + 1)) (length e.places.list) (length e.places.list) (length (e.places.list ++ p ∷ [])) other g (omega arith) (a other live w);
-    }
-
--- the watch of a clause moved
-pub CanMove-from_slot : (e : Engine) (at lit slot k i : ℕ) → IsSlot e at lit slot → IsFresh e at (get_or (record_at e.arena at).lits (1 - slot) 0) k → 0 < mark_of e.marks (negation_of lit) → i < length (list_at e.watches lit) → get_or (list_at e.watches lit) i 0 ≡ at → CanMove e at slot k lit (get_or (record_at e.arena at).lits (1 - slot) 0) i
-CanMove-from_slot e at lit slot k i p f lit_false within entry = record {
-  live = p.live;
-  slot_is = p.slot_is;
-  third = f.third;
-  within = f.within;
-  lit_is = p.lit_is;
-  other_is = refl;
-  differ = p.differ;
-  lit_false = lit_false;
-  new_differs = f.differs;
-  new_not_false = f.not_false;
-  entry_within = within;
-  entry_is = entry;
-}
-
-pub Steps-moved : (e : Engine) (at slot k lit other i : ℕ) → IsSound e → CanMove e at slot k lit other i → Steps e (with_watch_moved e at slot k lit i)
-Steps-moved e at slot k lit other i s m = record {
-  records = SameRecords-moved e at slot k lit other i m;
-  places = take_all (length e.places.list) e.places.list (omega arith);
-  implied = λ p from below. absurd (omega arith);
-  marks = λ l pos. refl;
-  variables = refl;
-  alone = shorts-moved e at slot k lit other i s m;
-}
-
-pub Visits-moved : (e : Engine) (at slot k lit other i : ℕ) → IsSound e → CanMove e at slot k lit other i → Visits e (with_watch_moved e at slot k lit i) lit
-Visits-moved e at slot k lit other i s m = record {
-  sound = IsSound-moved e at slot k lit other i s m;
-  steps = Steps-moved e at slot k lit other i s m;
-  head = refl;
-  first = refl;
-  agreed = λ b a o live w. elim (cases_eq b at) [
-    | inl z ↦
-        let v : IsWatched (record_at (moved e.arena at slot k) at).lits lit o = subst (λ (n : ℕ). IsWatched (record_at (moved e.arena at slot k) n).lits lit o) z w in
-        elim (IsWatched-only (record_at (moved e.arena at slot k) at).lits (fresh e.arena at k) other lit o (Move-is e.arena e.marks at slot k lit other (Move-of e at slot k lit other i m)) v) [
-          | inl q ↦ absurd ((lit_range e at slot k lit other i s m).2 (sym q.0))
-          | inr q ↦ absurd (m.differ q.0)
-        ]
-    | inr ne ↦
-        let same : record_at (moved e.arena at slot k) b ≡ record_at e.arena b = record_at-other e.arena at b (with_lits_swapped (record_at e.arena at) slot k) ne in
-        a o (sym (ap (λ (r : Record). r.live) same) ∙ live) (subst (λ (r : Record). IsWatched r.lits lit o) same w)
-  ];
-}
-
--- the list that the watch left
-pub Gone-moved : (e : Engine) (at slot k lit other i : ℕ) → IsSound e → CanMove e at slot k lit other i → list_at (without_watch (with_watch e.watches (fresh e.arena at k) at) lit i) lit ≡ swap_remove (list_at e.watches lit) i 0
-Gone-moved e at slot k lit other i s m =
-    let range = lit_range e at slot k lit other i s m in
-    let here = range.0 in
-    let lists = s.lists in
-    let size : length (with_watch e.watches (fresh e.arena at k) at) ≡ length e.watches = length-set e.watches (fresh e.arena at k) _ in
-    list_at-same (with_watch e.watches (fresh e.arena at k) at) lit _ (omega arith)
-    ∙ ap (λ (xs : List ℕ). swap_remove xs i 0) (list_at-other e.watches (fresh e.arena at k) lit _ (λ z. range.2 (sym z)))
-
--- a stale entry dropped
-pub Visits-dropped : (e : Engine) (lit i : ℕ) → IsSound e → lit < 2 * e.variables → i < length (list_at e.watches lit) → IsStale e lit (get_or (list_at e.watches lit) i 0) → Visits e (record e { watches = without_watch e.watches lit i }) lit
-Visits-dropped e lit i s range within stale =
-    let lists = s.lists in
-    let ne : shorts_of e.variables ≢ lit = omega arith in
-    record {
-      sound = IsSound-dropped e lit i s range within stale;
-      steps = record {
-        records = SameRecords-refl e.arena;
-        places = take_all (length e.places.list) e.places.list (omega arith);
-        implied = λ p from below. absurd (omega arith);
-        marks = λ l pos. refl;
-        variables = refl;
-        alone = list_at-other e.watches lit (shorts_of e.variables) _ ne;
-      };
-      head = refl;
-      first = refl;
-      agreed = λ at a. a;
     }
 
 -- the sizes of the columns, where a literal may become true
@@ -322,27 +253,6 @@ CanMark-from_visit e at lit slot other level s p is lit_false not_true not_false
     (subst (λ (o : ℕ). HasNoFresh e at o (length (record_at e.arena at).lits)) is none)
     at_level)
 
--- one more entry agrees
-pub AllAgree-kept : (old new : Engine) (lit i : ℕ) → Visits old new lit → new.watches ≡ old.watches → IsAgreed new lit (get_or (list_at old.watches lit) i 0) → AllAgree old lit i → AllAgree new lit (i + 1)
-AllAgree-kept old new lit i v same here all j lt =
-    let lists : list_at new.watches lit ≡ list_at old.watches lit = ap (λ (ls : List (List ℕ)). list_at ls lit) same in
-    elim (cases_lt j i) [
-      | inl below ↦ subst (λ (xs : List ℕ). IsAgreed new lit (get_or xs j 0)) (sym lists) (v.agreed (get_or (list_at old.watches lit) j 0) (all j below))
-      | inr late ↦
-          let is : i ≡ j = omega arith in
-          subst (λ (xs : List ℕ). IsAgreed new lit (get_or xs j 0)) (sym lists) (subst (λ (n : ℕ). IsAgreed new lit (get_or (list_at old.watches lit) n 0)) is here)
-    ]
-
--- an entry goes
-pub AllAgree-gone : (old new : Engine) (lit i : ℕ) → Visits old new lit → i < length (list_at old.watches lit) → list_at new.watches lit ≡ swap_remove (list_at old.watches lit) i 0 → AllAgree old lit i → AllAgree new lit i
-AllAgree-gone old new lit i v within is all j lt =
-    let entry : get_or (list_at new.watches lit) j 0 ≡ get_or (list_at old.watches lit) j 0 = ap (λ (xs : List ℕ). get_or xs j 0) is ∙ get_or-swap_remove (list_at old.watches lit) i j lt within in
-    subst (λ (at : ℕ). IsAgreed new lit at) (sym entry) (v.agreed (get_or (list_at old.watches lit) j 0) (all j lt))
-
--- how long the list is then
-pub length-gone : (old new : Engine) (lit i : ℕ) → i < length (list_at old.watches lit) → list_at new.watches lit ≡ swap_remove (list_at old.watches lit) i 0 → length (list_at new.watches lit) ≡ length (list_at old.watches lit) - 1
-length-gone old new lit i within is = ap length is ∙ length-swap_remove (list_at old.watches lit) i within
-
 -- the literal stays one of the first variables, and false
 pub Visits-range : (old new : Engine) (lit l : ℕ) → Visits old new lit → l < 2 * old.variables → l < 2 * new.variables
 Visits-range old new lit l v lt = let same = v.steps.variables in omega arith
@@ -351,7 +261,7 @@ pub Visits-false : (old new : Engine) (lit l : ℕ) → Visits old new lit → 0
 Visits-false old new lit l v pos = let same = v.steps.marks l pos in omega arith
 
 -- the head moves on
-pub IsSound-head : (old new : Engine) (lit : ℕ) → IsSound old → Visits old new lit → old.head < length old.places.list → (place_at old.places.list old.head).lit ≡ negation_of lit → AllAgree new lit (length (list_at new.watches lit)) → IsSound (record new { head = new.head + 1 })
+pub IsSound-head : (old new : Engine) (lit : ℕ) → IsSound old → Visits old new lit → old.head < length old.places.list → (place_at old.places.list old.head).lit ≡ negation_of lit → AllAgree new lit → IsSound (record new { head = new.head + 1 })
 IsSound-head old new lit s v below is agree =
     let at : mark_of old.marks (negation_of lit) ≡ old.head + 1 = ap (mark_of old.marks) (sym is) ∙ s.marked.back old.head below in
     let kept = v.steps.marks (negation_of lit) (omega arith) in
@@ -398,11 +308,11 @@ pub Advances-visits : (old new : Engine) (lit : ℕ) → Visits old new lit → 
 Advances-visits old new lit v = record { sound = v.sound; steps = v.steps; first = v.first }
 
 -- the head moved on
-pub Advances-head : (old new : Engine) (lit : ℕ) → IsSound old → Visits old new lit → old.head < length old.places.list → (place_at old.places.list old.head).lit ≡ negation_of lit → AllAgree new lit (length (list_at new.watches lit)) → Advances old (record new { head = new.head + 1 })
+pub Advances-head : (old new : Engine) (lit : ℕ) → IsSound old → Visits old new lit → old.head < length old.places.list → (place_at old.places.list old.head).lit ≡ negation_of lit → AllAgree new lit → Advances old (record new { head = new.head + 1 })
 Advances-head old new lit s v below is agree =
     record {
       sound = IsSound-head old new lit s v below is agree;
-      steps = record { records = v.steps.records; places = v.steps.places; implied = v.steps.implied; marks = v.steps.marks; variables = v.steps.variables; alone = v.steps.alone };
+      steps = record { records = v.steps.records; places = v.steps.places; implied = v.steps.implied; marks = v.steps.marks; variables = v.steps.variables; shorts = v.steps.shorts };
       first = v.first;
     }
 

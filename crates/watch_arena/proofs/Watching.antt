@@ -1,14 +1,12 @@
 -- A clause's watch moves from one literal to another.
-use Rattle.std.proofs.Common.{◌≡◌, ◌≢◌, ◌∙◌, ◌⊎◌, ℕ, ◌-◌, ◌<◌, ◌≤◌, true, false, List, [], ◌∷◌, ◌++◌, length, get_or, set, refl, sym, ap, subst, arith, inl, inr, length-set, length-take, get_or-set_same, get_or-set_other, get_or-take}
-use Rattle.std.specs.List.{swap, swap_remove}
+use Rattle.std.proofs.Common.{◌≡◌, ◌≢◌, ◌∙◌, ◌⊎◌, ℕ, ◌-◌, ◌<◌, ◌≤◌, true, false, List, [], ◌∷◌, ◌++◌, length, get_or, set, refl, sym, ap, arith, inl, inr, get_or-set_same, get_or-set_other}
+use Rattle.std.specs.List.{swap}
 use Rattle.std.specs.List.{Contains}
 use Rattle.std.proofs.lemmas.Bool.{cases_eq, cases_lt}
-use Rattle.std.proofs.lemmas.List.{get_or_past, get_or_default}
+use Rattle.std.proofs.lemmas.List.{get_or_append_left, get_or_push, get_or_past, get_or_default, length_push}
 use Rattle.std.proofs.lemmas.List.Edits.{Swapped, swapped_from_swap, length-swap}
-use Rattle.std.proofs.lemmas.List.Elements.{Contains-push, Contains-append_left}
 use Rattle.clause_arena.specs.Records.{Record, record_at, no_record}
-use Rattle.watch_arena.specs.Lists.{list_at, with_list}
-use Rattle.watch_arena.specs.Engines.{IsWatched, IsShort, with_watch, without_watch}
+use Rattle.watch_arena.specs.Engines.{IsWatched, IsShort}
 
 -- an element by its index
 pub contains_at : (xs : List ℕ) (k x : ℕ) → k < length xs → get_or xs k 0 ≡ x → Contains xs x
@@ -18,77 +16,23 @@ contains_at xs k x lt is = (k, lt, get_or_default xs k x 0 lt ∙ is)
 pub index_of : (xs : List ℕ) (x : ℕ) → Contains xs x → (k : ℕ) × (k < length xs) × (get_or xs k 0 ≡ x)
 index_of xs x c = (c.0, c.1, get_or_default xs c.0 0 x c.1 ∙ c.2)
 
--- below the place of a removal
-pub get_or-swap_remove : (xs : List ℕ) (i j : ℕ) → j < i → i < length xs → get_or (swap_remove xs i 0) j 0 ≡ get_or xs j 0
-get_or-swap_remove xs i j lt within =
-    let ne : j ≢ i = omega arith in
-    get_or-take (length xs - 1) (set xs i (get_or xs (length xs - 1) 0)) j 0 (omega arith) ∙ get_or-set_other xs i j (get_or xs (length xs - 1) 0) 0 ne
-
--- how many are left
-pub length-swap_remove : (xs : List ℕ) (i : ℕ) → i < length xs → length (swap_remove xs i 0) ≡ length xs - 1
-length-swap_remove xs i within = simp (length-take, length-set) (omega arith)
-
--- an element other than the one removed
-pub Contains-swap_remove : (xs : List ℕ) (i x : ℕ) → i < length xs → get_or xs i 0 ≢ x → Contains xs x → Contains (swap_remove xs i 0) x
-Contains-swap_remove xs i x within differs c =
-    let at = index_of xs x c in
-    let k = at.0 in
-    let below = at.1 in
-    let last = get_or xs (length xs - 1) 0 in
-    let other : k ≢ i = λ e. differs (ap (λ (n : ℕ). get_or xs n 0) (sym e) ∙ at.2) in
-    let size = length-swap_remove xs i within in
-    elim (cases_eq k (length xs - 1)) [
-      | inl e ↦
-          let room : i < length xs - 1 = omega arith in
-          contains_at (swap_remove xs i 0) i x (omega arith)
-          (get_or-take (length xs - 1) (set xs i last) i 0 room ∙ get_or-set_same xs i last 0 within ∙ ap (λ (n : ℕ). get_or xs n 0) (sym e) ∙ at.2)
-      | inr ne ↦
-          contains_at (swap_remove xs i 0) k x (omega arith)
-          (get_or-take (length xs - 1) (set xs i last) k 0 (omega arith) ∙ get_or-set_other xs i k last 0 other ∙ at.2)
-    ]
-
--- the lists after one of them was changed
-pub list_at-same : (lists : List (List ℕ)) (l : ℕ) (xs : List ℕ) → l < length lists → list_at (with_list lists l xs) l ≡ xs
-list_at-same lists l xs lt = get_or-set_same lists l xs [] lt
-
-pub list_at-other : (lists : List (List ℕ)) (l m : ℕ) (xs : List ℕ) → m ≢ l → list_at (with_list lists l xs) m ≡ list_at lists m
-list_at-other lists l m xs ne = get_or-set_other lists l m xs [] ne
-
--- a clause stays in a list where another clause is taken out of one
-pub Contains-without_watch : (lists : List (List ℕ)) (lit i l x : ℕ) → lit < length lists → i < length (list_at lists lit) → (l ≡ lit → get_or (list_at lists lit) i 0 ≢ x) → Contains (list_at lists l) x → Contains (list_at (without_watch lists lit i) l) x
-Contains-without_watch lists lit i l x lt within differs c =
-    elim (cases_eq l lit) [
-      | inl e ↦
-          let here : Contains (list_at lists lit) x = subst (λ (n : ℕ). Contains (list_at lists n) x) e c in
-          let there = Contains-swap_remove (list_at lists lit) i x within (differs e) here in
-          let now : Contains (list_at (without_watch lists lit i) lit) x = subst (λ (ys : List ℕ). Contains ys x) (sym (list_at-same lists lit (swap_remove (list_at lists lit) i 0) lt)) there in
-          subst (λ (n : ℕ). Contains (list_at (without_watch lists lit i) n) x) (sym e) now
-      | inr ne ↦ subst (λ (ys : List ℕ). Contains ys x) (sym (list_at-other lists lit l (swap_remove (list_at lists lit) i 0) ne)) c
-    ]
-
--- a clause stays in a list where one is added
-pub Contains-with_watch : (lists : List (List ℕ)) (lit at l x : ℕ) → lit < length lists → Contains (list_at lists l) x → Contains (list_at (with_watch lists lit at) l) x
-Contains-with_watch lists lit at l x lt c =
-    elim (cases_eq l lit) [
-      | inl e ↦
-          let here : Contains (list_at lists lit) x = subst (λ (n : ℕ). Contains (list_at lists n) x) e c in
-          let there = Contains-append_left (list_at lists lit) (at ∷ []) x here in
-          let now : Contains (list_at (with_watch lists lit at) lit) x = subst (λ (ys : List ℕ). Contains ys x) (sym (list_at-same lists lit (list_at lists lit ++ at ∷ []) lt)) there in
-          subst (λ (n : ℕ). Contains (list_at (with_watch lists lit at) n) x) (sym e) now
-      | inr ne ↦ subst (λ (ys : List ℕ). Contains ys x) (sym (list_at-other lists lit l (list_at lists lit ++ at ∷ []) ne)) c
-    ]
-
--- and the one that is added stands there
-pub Contains-watch_added : (lists : List (List ℕ)) (lit at : ℕ) → lit < length lists → Contains (list_at (with_watch lists lit at) lit) at
-Contains-watch_added lists lit at lt =
-    subst (λ (ys : List ℕ). Contains ys at) (sym (list_at-same lists lit (list_at lists lit ++ at ∷ []) lt)) (Contains-push (list_at lists lit) at)
-
 -- the records after one of them was changed
 pub record_at-same : (records : List Record) (at : ℕ) (r : Record) → at < length records → record_at (set records at r) at ≡ r
 record_at-same records at r lt = get_or-set_same records at r no_record lt
 
 pub record_at-other : (records : List Record) (at b : ℕ) (r : Record) → b ≢ at → record_at (set records at r) b ≡ record_at records b
 record_at-other records at b r ne = get_or-set_other records at b r no_record ne
+
+-- a record of the list with one more at its end
+pub record_at-put : (records : List Record) (r : Record) (at : ℕ) → at ≢ length records → record_at (records ++ r ∷ []) at ≡ record_at records at
+record_at-put records r at ne =
+    elim (cases_lt at (length records)) [
+      | inl lt ↦ get_or_append_left records (r ∷ []) no_record at lt
+      | inr ge ↦ let size = length_push records r in get_or_past (records ++ r ∷ []) at no_record (omega arith) ∙ sym (get_or_past records at no_record ge)
+    ]
+
+pub record_at-new : (records : List Record) (r : Record) → record_at (records ++ r ∷ []) (length records) ≡ r
+record_at-new records r = get_or_push records r no_record (length records) refl
 
 -- a live record is one of the list
 pub live_within : (records : List Record) (at : ℕ) → (record_at records at).live ≡ true → at < length records

@@ -1,13 +1,13 @@
 -- How a trail is kept, by the parts of its invariant. A mark of a literal is the number of its place and one more, or 0 where it is not true.
-use Rattle.std.specs.Prelude.{◌≡◌, ◌≢◌, ◌⊎◌, ℕ, ◌+◌, ◌-◌, ◌*◌, ◌^◌, ◌<◌, ◌≤◌, true, false, List, [], ◌∷◌, ◌++◌, length, take, slice_index, slice_set, Some, Contains}
-use Rattle.std.specs.List.{swap_remove}
+use Rattle.std.specs.Prelude.{◌≡◌, ◌≢◌, ◌⊎◌, ℕ, ◌+◌, ◌-◌, ◌*◌, ◌^◌, ◌<◌, ◌≤◌, true, false, List, [], ◌∷◌, ◌++◌, length, take, slice_index, slice_set, Option, Some, Contains}
 use Rattle.lits_core.specs.Literals.{negation_of}
-use Rattle.clause_arena.specs.Records.{Record, record_at, with_lits_swapped}
+use Rattle.clause_arena.specs.declared.place.Link.{Link}
+use Rattle.clause_arena.specs.Records.{Record, record_at}
 use Rattle.watch_arena.specs.declared.places.Place.{Place}
 use Rattle.watch_arena.specs.declared.engine.Engine.{Engine}
 use Rattle.watch_arena.specs.declared.engine.Visit.{Visit}
-use Rattle.watch_arena.specs.declared.engine.Visit.TheVariants.{Kept, Gone, False}
-use Rattle.watch_arena.specs.Lists.{list_at, with_list}
+use Rattle.watch_arena.specs.declared.engine.Visit.TheVariants.{Behind, False}
+use Rattle.watch_arena.specs.Chains.{head_of, next_of, linked, exchanged, records_past, chains_past, led, IsChain, Has, AreChains, IsNone}
 use Rattle.watch_arena.specs.Places.{place_at, is_assumed, level_of}
 use Rattle.watch_arena.specs.Trails.{TrailState, SameRecords, places_up_to}
 
@@ -56,11 +56,6 @@ abbrev pub AreShortOrWatched : List Record → Type 0
 AreShortOrWatched records =
     (at : ℕ) → (record_at records at).live ≡ true → IsShort (record_at records at).lits ⊎ IsWatched (record_at records at).lits (slice_index (record_at records at).lits 0) (slice_index (record_at records at).lits 1)
 
--- each live clause stands in the list of each literal that it watches
-abbrev pub AreFiled : List Record → List (List ℕ) → Type 0
-AreFiled records lists =
-    (at a b : ℕ) → (record_at records at).live ≡ true → IsWatched (record_at records at).lits a b → Contains (list_at lists a) at
-
 -- where a watched literal is false by one of the first h places, the other one is true by one of the first n
 abbrev pub AreSettled : List Record → List ℕ → ℕ → ℕ → Type 0
 AreSettled records marks h n =
@@ -92,25 +87,22 @@ AreLevelled places = (p : ℕ) → p < length places → (place_at places p).lev
 abbrev pub RecordsInRange : List Record → ℕ → Type 0
 RecordsInRange records variables = (at lit : ℕ) → Contains (record_at records at).lits lit → lit < 2 * variables
 
--- the number of the list of the short clauses, which stands after those of the literals
-abbrev pub shorts_of : ℕ → ℕ
-shorts_of variables = 2 * variables
-
 -- what is so of an engine between two calls
 pub record IsSound (e : Engine) : Type 0 where
   pub few : e.variables < 2 ^ 32
+  pub no_pairs : e.moves.pairs ≡ []
   pub room : e.variables ≤ e.places.room
-  pub lists : length e.watches ≡ 2 * e.variables + 1
+  pub lists : length e.chains ≡ 2 * e.variables
   pub heads : length e.heads ≡ e.variables
   pub firsts : length e.firsts ≡ e.variables
   pub marked : AreMarked e.marks e.places.list e.variables
   pub in_range : RecordsInRange e.arena e.variables
   pub reasoned : AreReasoned e.arena e.marks e.places.list
   pub kinds : AreShortOrWatched e.arena
-  pub filed : AreFiled e.arena e.watches
+  pub filed : AreChains e.arena e.chains IsNone
   pub levelled : AreLevelled e.places.list
-  pub now : IsSettledAt e.arena (list_at e.watches (shorts_of e.variables)) e.marks e.head e.first (length e.places.list)
-  pub saved : (p : ℕ) → p < length e.places.list → IsSettledAt e.arena (list_at e.watches (shorts_of e.variables)) e.marks (slice_index e.heads p) (slice_index e.firsts p) p
+  pub now : IsSettledAt e.arena e.shorts e.marks e.head e.first (length e.places.list)
+  pub saved : (p : ℕ) → p < length e.places.list → IsSettledAt e.arena e.shorts e.marks (slice_index e.heads p) (slice_index e.firsts p) p
 
 -- one more place, and how far propagation had come before it
 abbrev pub with_place : Engine → Place → Engine
@@ -121,35 +113,12 @@ with_place e p = record e {
   places = record e.places { list = e.places.list ++ p ∷ [] };
 }
 
--- a clause more in a list
-abbrev pub with_watch : List (List ℕ) → ℕ → ℕ → List (List ℕ)
-with_watch lists lit at = with_list lists lit (list_at lists lit ++ at ∷ [])
-
--- a list without one of its clauses; the last one stands in its place
-abbrev pub without_watch : List (List ℕ) → ℕ → ℕ → List (List ℕ)
-without_watch lists lit i = with_list lists lit (swap_remove (list_at lists lit) i 0)
-
--- the watch of a clause on one literal, which stands at a place of that literal's list, moves to the literal at place k of the clause
-abbrev pub with_watch_moved : Engine → ℕ → ℕ → ℕ → ℕ → ℕ → Engine
-with_watch_moved e at slot k lit i = record e {
-  arena = slice_set e.arena at (with_lits_swapped (record_at e.arena at) slot k);
-  watches = without_watch (with_watch e.watches (slice_index (record_at e.arena at).lits k) at) lit i;
+-- the watch of a clause on one literal leaves that literal's chain, where it came behind another entry or first, for the chain of the literal at place k of the clause
+abbrev pub with_watch_moved : Engine → ℕ → Option Link → Link → ℕ → Engine
+with_watch_moved e lit prev x k = record e {
+  arena = linked (exchanged (records_past e.arena prev (next_of e.arena x)) x.at x.slot k) x (head_of (chains_past e.chains lit prev (next_of e.arena x)) (slice_index (record_at e.arena x.at).lits k));
+  chains = slice_set (chains_past e.chains lit prev (next_of e.arena x)) (slice_index (record_at e.arena x.at).lits k) (Some x);
 }
-
--- a clause's watch may move: the literal that it leaves is false, and the one that it comes to is not
-pub record CanMove (e : Engine) (at slot k lit other i : ℕ) : Type 0 where
-  pub live : (record_at e.arena at).live ≡ true
-  pub slot_is : slot < 2
-  pub third : 2 ≤ k
-  pub within : k < length (record_at e.arena at).lits
-  pub lit_is : slice_index (record_at e.arena at).lits slot ≡ lit
-  pub other_is : slice_index (record_at e.arena at).lits (1 - slot) ≡ other
-  pub differ : lit ≢ other
-  pub lit_false : 0 < mark_of e.marks (negation_of lit)
-  pub new_differs : slice_index (record_at e.arena at).lits k ≢ other
-  pub new_not_false : mark_of e.marks (negation_of (slice_index (record_at e.arena at).lits k)) ≡ 0
-  pub entry_within : i < length (list_at e.watches lit)
-  pub entry_is : slice_index (list_at e.watches lit) i ≡ at
 
 -- the last place goes, and propagation has come only as far as before it
 abbrev pub without_last : Engine → Engine
@@ -173,27 +142,35 @@ abbrev pub IsAgreed : Engine → ℕ → ℕ → Type 0
 IsAgreed e lit at =
     (other : ℕ) → (record_at e.arena at).live ≡ true → IsWatched (record_at e.arena at).lits lit other → TrueBelow e.marks (length e.places.list) other
 
--- so for the clauses of the first entries of the literal's list
-abbrev pub AllAgree : Engine → ℕ → ℕ → Type 0
-AllAgree e lit n = (i : ℕ) → i < n → IsAgreed e lit (slice_index (list_at e.watches lit) i)
+-- so for all clauses
+abbrev pub AllAgree : Engine → ℕ → Type 0
+AllAgree e lit = (at : ℕ) → IsAgreed e lit at
 
--- an entry of a literal's list is no watch
-abbrev pub IsStale : Engine → ℕ → ℕ → Type 0
-IsStale e lit at = (other : ℕ) → (record_at e.arena at).live ≡ true → IsWatched (record_at e.arena at).lits lit other → ⊥
+-- a walk along a literal's chain has come behind one entry and before another: what it passed agrees
+pub record IsWalking (e : Engine) (lit : ℕ) (prev cur : Option Link) : Type 0 where
+  pub before : List Link
+  pub rest : List Link
+  pub chain : IsChain e.arena (head_of e.chains lit) (led prev before ++ rest)
+  pub ahead : IsChain e.arena cur rest
+  pub agreed : (x : Link) → Has (led prev before) x → IsAgreed e lit x.at
+
+-- the chain behind an entry stays
+abbrev pub StaysAhead : Engine → Engine → Link → Type 0
+StaysAhead old new x = (rest : List Link) → IsChain old.arena (next_of old.arena x) rest → IsChain new.arena (next_of old.arena x) rest
 
 -- a short clause, if it is live and one, has a true literal
 abbrev pub IsShortMet : Engine → ℕ → Type 0
 IsShortMet e at =
     (record_at e.arena at).live ≡ true → IsShort (record_at e.arena at).lits → (0 < length (record_at e.arena at).lits) × TrueBelow e.marks (length e.places.list) (slice_index (record_at e.arena at).lits 0)
 
--- steps of propagation: the records and the places that were there stay, and each new place is implied
+-- steps of propagation: the records, the places that were there and the list of short clauses stay, and each new place is implied
 pub record Steps (old new : Engine) : Type 0 where
   pub records : SameRecords old.arena new.arena
   pub places : take (length old.places.list) new.places.list ≡ old.places.list
   pub implied : (p : ℕ) → length old.places.list ≤ p → p < length new.places.list → is_assumed (place_at new.places.list p) ≡ false
   pub marks : (lit : ℕ) → 0 < mark_of old.marks lit → mark_of new.marks lit ≡ mark_of old.marks lit
   pub variables : new.variables ≡ old.variables
-  pub alone : list_at new.watches (shorts_of new.variables) ≡ list_at old.watches (shorts_of old.variables)
+  pub shorts : new.shorts ≡ old.shorts
 
 -- a live clause all of whose literals are false, by their marks
 pub record IsFalse (e : Engine) (at : ℕ) : Type 0 where
@@ -208,19 +185,10 @@ pub record Visits (old new : Engine) (lit : ℕ) : Type 0 where
   pub first : new.first ≡ old.first
   pub agreed : (at : ℕ) → IsAgreed old lit at → IsAgreed new lit at
 
--- what came of a visit of an entry of a literal's list
-abbrev pub Outcome : Engine → Engine → ℕ → ℕ → Visit → Type 0
-Outcome old new lit i Kept = (new.watches ≡ old.watches) × IsAgreed new lit (slice_index (list_at old.watches lit) i)
-Outcome old new lit i Gone = list_at new.watches lit ≡ swap_remove (list_at old.watches lit) i 0
-Outcome old new lit i (False at) = IsFalse new at
-
--- a slot of a live clause at which it watches a literal
-pub record IsSlot (e : Engine) (at lit slot : ℕ) : Type 0 where
-  pub slot_is : slot < 2
-  pub live : (record_at e.arena at).live ≡ true
-  pub two : 2 ≤ length (record_at e.arena at).lits
-  pub lit_is : slice_index (record_at e.arena at).lits slot ≡ lit
-  pub differ : lit ≢ slice_index (record_at e.arena at).lits (1 - slot)
+-- what came of a visit of an entry of a literal's chain: the walk goes on with what came behind it, or a clause is false
+abbrev pub Outcome : Engine → Engine → ℕ → Link → Visit → Type 0
+Outcome old new lit x (Behind p) = IsWalking new lit p (next_of old.arena x)
+Outcome old new lit x (False at) = IsFalse new at
 
 -- a literal of a clause, past the watched ones, that is not false and another one than this
 pub record IsFresh (e : Engine) (at other k : ℕ) : Type 0 where
@@ -243,7 +211,7 @@ pub record Advances (old new : Engine) : Type 0 where
 -- propagation has come to the end
 pub record IsDone (e : Engine) : Type 0 where
   pub head : e.head ≡ length e.places.list
-  pub first : e.first ≡ length (list_at e.watches (shorts_of e.variables))
+  pub first : e.first ≡ length e.shorts
 
 -- a literal is not false by one of the first n places
 abbrev pub IsUnseen : List ℕ → ℕ → ℕ → Type 0
@@ -260,18 +228,21 @@ pub record Undoes (old new : Engine) (level : ℕ) : Type 0 where
   pub variables : new.variables ≡ old.variables
   pub places : new.places.list ≡ places_up_to old.places.list level
   pub level_is : level_of new.places.list ≡ level
+  pub moves : new.moves ≡ old.moves
 
--- the places and the number of variables stay
+-- the places, the number of variables and the room to compact stay
 pub record KeepsPlaces (old new : Engine) : Type 0 where
   pub places : new.places.list ≡ old.places.list
   pub variables : new.variables ≡ old.variables
+  pub moves : new.moves ≡ old.moves
 
 -- there is nothing yet
 pub record IsEmpty (e : Engine) (variables : ℕ) : Type 0 where
   pub arena : e.arena ≡ []
   pub places : e.places.list ≡ []
   pub variables_are : e.variables ≡ variables
+  pub spare : e.moves.spare ≡ 0
 
 -- the public part
 abbrev pub seen : Engine → TrailState
-seen e = record { records = e.arena; places = e.places.list; variables = e.variables; level = level_of e.places.list }
+seen e = record { records = e.arena; places = e.places.list; variables = e.variables; level = level_of e.places.list; spare = e.moves.spare }

@@ -1,5 +1,5 @@
 -- What a list of places says of literals. A place holds a literal that is true; the literals are those of lits_core, seen as their codes.
-use Rattle.std.specs.Prelude.{ℕ, ◌==◌, Bool, not, ◌&&◌, ◌||◌, List, count_by, slice_index_or, Option, None, is_none, option_and_then, option_map}
+use Rattle.std.specs.Prelude.{ℕ, ◌==◌, Bool, not, ◌&&◌, ◌||◌, List, count_by, map, slice_index_or, Option, None, is_none, option_and_then, option_map}
 use Rattle.std.specs.List.{list_any, list_all, position_from}
 use Rattle.lits_core.specs.Literals.{negation_of, variable_of, is_negative}
 use Rattle.watch_arena.specs.declared.places.Place.{Place}
@@ -31,6 +31,10 @@ value_of places variable = option_map (λ p. not (is_negative (place_at places p
 -- the reason of a variable, if it has a place with one
 abbrev pub reason_of : List Place → ℕ → Option ℕ
 reason_of places variable = option_and_then (λ p. (place_at places p).reason) (place_of places variable)
+
+-- places with their reasons named anew
+abbrev pub places_with : (ℕ → Option ℕ) → List Place → List Place
+places_with name places = map (λ p. let q : Place = record p { reason = option_and_then name p.reason } in q) places
 
 -- whether a place was assumed
 abbrev pub is_assumed : Place → Bool

@@ -1,16 +1,18 @@
 -- What a trail is seen as, and what its calls promise.
 use Rattle.std.specs.Prelude.{◌≡◌, ◌≢◌, ℕ, ◌+◌, ◌<◌, ◌≤◌, true, false, List, [], ◌∷◌, ◌++◌, length, take, Some, MatchOption, IsPermutation, Contains, nat_le, filter}
 use Rattle.lits_core.specs.Literals.{variable_of}
-use Rattle.clause_arena.specs.Records.{Record, record_at, new_record}
+use Rattle.clause_arena.specs.Records.{Record, record_at, new_record, compacted}
+use Rattle.clause_arena.specs.Movings.{place_after}
 use Rattle.watch_arena.specs.declared.places.Place.{Place}
-use Rattle.watch_arena.specs.Places.{place_at, is_false, level_of, is_false_clause, is_unit_clause}
+use Rattle.watch_arena.specs.Places.{place_at, places_with, is_false, level_of, is_false_clause, is_unit_clause}
 
--- the records of the clauses, the places in the order in which their literals became true, the number of variables, and the level
+-- the records of the clauses, the places in the order in which their literals became true, the number of variables, the level, and for how many records there is room to compact
 pub record TrailState : Type 0 where
   pub records : List Record
   pub places : List Place
   pub variables : ℕ
   pub level : ℕ
+  pub spare : ℕ
 
 -- a record is the reason of a literal: it is live and has the literal, and its other literals are false by these places
 pub record IsReason (records : List Record) (places : List Place) (lit at : ℕ) : Type 0 where
@@ -61,6 +63,13 @@ pub record IsPropagated (t : TrailState) : Type 0 where
 pub record Adds (old new : TrailState) (lits : List ℕ) (id : ℕ) : Type 0 where
   pub records : SameRecords (old.records ++ new_record id lits ∷ []) new.records
   pub places : new.places ≡ old.places
+  pub variables : new.variables ≡ old.variables
+  pub level : new.level ≡ old.level
+
+-- the live records are left, in their order, and each reason is the same record as before
+pub record IsCompacted (old new : TrailState) : Type 0 where
+  pub records : SameRecords (compacted old.records) new.records
+  pub places : new.places ≡ places_with (place_after old.records) old.places
   pub variables : new.variables ≡ old.variables
   pub level : new.level ≡ old.level
 

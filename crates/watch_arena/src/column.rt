@@ -1,3 +1,4 @@
+//! A fixed number of numbers.
 ghost use Rattle.std.specs.Prelude.{◌≡◌, ◌<◌, ◌≤◌, length, replicate, slice_index, slice_set, IfOk};
 
 use std::alloc::{AllocError, Global};

@@ -1,7 +1,10 @@
-ghost use Rattle.std.specs.Prelude.{◌≡◌, ◌<◌, ◌≤◌, ◌-◌, [], ◌∷◌, ◌++◌, length, take, slice_get, slice_index_or, IfOk, OnSome};
+//! The literals that are true, in their order.
+ghost use Rattle.std.specs.Prelude.{◌≡◌, ◌<◌, ◌≤◌, ◌-◌, [], ◌∷◌, ◌++◌, length, take, slice_get, slice_index_or, option_and_then, IfOk, OnSome};
 ghost use Rattle.std.specs.Option.{option_copied};
+ghost use Rattle.clause_arena.specs.Movings.{new_ref};
+ghost use Rattle.watch_arena.specs.Places.{places_with};
 
-use clause_arena::Ref;
+use clause_arena::{Moves, Ref};
 use lits_core::Lit;
 use std::alloc::{AllocError, Global};
 use std::marker::Model;
@@ -66,5 +69,32 @@ impl Places {
         ensures { self.new ≡ record self.old { list = take (length self.old.list - 1) self.old.list } }
     {
         self.list.pop();
+    }
+
+    // Each reason is named as the moves tell.
+    pub(crate) fn mend(&mut self, moves: &Moves)
+        ensures { self.new ≡ record self.old { list = places_with (new_ref moves.now.pairs) self.old.list } }
+    {
+        rename(&mut self.list, moves);
+    }
+}
+
+// The new name of a reason, if there is a reason.
+fn renamed(reason: Option<Ref>, moves: &Moves) -> Option<Ref>
+    ensures { result ≡ option_and_then (new_ref moves.now.pairs) reason }
+{
+    match reason {
+        Some(at) => moves.moved(at),
+        None => None,
+    }
+}
+
+// The same for the reason of each place.
+fn rename(places: &mut [Place], moves: &Moves)
+    ensures { places.new ≡ places_with (new_ref moves.now.pairs) places.old }
+{
+    for at in 0..places.len() {
+        let reason = renamed(places[at].reason, moves);
+        places[at].reason = reason;
     }
 }

@@ -1,3 +1,4 @@
+//! What no clause says, tried on small trails.
 ghost use Rattle.std.specs.Prelude.{◌≡◌, ◌<◌};
 ghost use Rattle.lits_core.specs.Literals.{variable_of};
 
@@ -26,10 +27,10 @@ fn a_chain_ends_in_a_false_clause(rt: HostRuntime) -> Result<(), Fail> {
     add_pair(&mut trail, Lit::new(2, true), Lit::new(3, false), 2)?;
     add_pair(&mut trail, Lit::new(1, true), Lit::new(3, true), 3)?;
     trail.assume(Lit::new(1, false));
-    let found = trail.propagate()?;
+    let found = trail.propagate();
     assert!(rt; found.is_some());
     trail.undo_to(0);
-    let found = trail.propagate()?;
+    let found = trail.propagate();
     assert!(rt; found.is_none());
     for variable in 0..4 {
         assert_eq!(rt; trail.value(variable), None);
@@ -48,7 +49,7 @@ fn a_forgotten_clause_is_not_met(rt: HostRuntime) -> Result<(), Fail> {
     assert!(rt; trail.arena().is_live(third));
     trail.forget(third);
     trail.assume(Lit::new(1, false));
-    let found = trail.propagate()?;
+    let found = trail.propagate();
     assert!(rt; found.is_none());
     assert_eq!(rt; trail.value(2), Some(true));
     assert_eq!(rt; trail.value(3), Some(true));

@@ -1,8 +1,9 @@
+//! The trail, as its users see it.
 ghost use Rattle.std.specs.Prelude.{◌≡◌, ℕ, ◌+◌, ◌<◌, ◌≤◌, ◌∷◌, ◌++◌, [], length, slice_set, true, Some, None, IfOk, OnOk, OnErr, MatchOption};
 ghost use Rattle.lits_core.specs.Literals.{variable_of};
 ghost use Rattle.clause_arena.specs.Records.{record_at, forgotten};
 ghost use Rattle.watch_arena.specs.Places.{place_at, place_of, value_of, reason_of};
-ghost use Rattle.watch_arena.specs.Trails.{IsReason, IsTrail, Propagates, IsConflict, IsPropagated, Adds, AreInRange, IsNoReason, places_up_to};
+ghost use Rattle.watch_arena.specs.Trails.{IsReason, IsTrail, Propagates, IsConflict, IsPropagated, Adds, IsCompacted, AreInRange, IsNoReason, places_up_to};
 
 use crate::engine::Engine;
 use clause_arena::{Arena, Ref};
@@ -36,7 +37,7 @@ impl Model for Trail {
 impl Trail {
     /// No clauses and no places. Variables are the numbers below `variables`; the room for their places is taken here.
     pub fn new(alloc: Global, variables: u32) -> Result<Trail, AllocError>
-        ensures { IfOk result (λ t. t ≡ record { records = []; places = []; variables = variables; level = 0 }) }
+        ensures { IfOk result (λ t. t ≡ record { records = []; places = []; variables = variables; level = 0; spare = 0 }) }
     {
         let engine = Engine::new(alloc, variables)?;
         Ok(Trail { engine, alloc })
@@ -76,10 +77,10 @@ impl Trail {
 
     /// Unit propagation, until a clause is false, which it answers, or no clause is false or unit.
     ///
-    /// After want of memory some literals may be marked, each with its reason, and the call may be made again.
-    pub fn propagate(&mut self) -> Result<Option<Ref>, AllocError>
+    /// It takes no memory.
+    pub fn propagate(&mut self) -> Option<Ref>
         ensures kept { Propagates self.old self.new }
-        ensures found { IfOk result (λ o. MatchOption o (IsPropagated self.new) (λ at. IsConflict self.new at)) }
+        ensures found { MatchOption result (IsPropagated self.new) (λ at. IsConflict self.new at) }
     {
         self.engine.propagate()
     }
@@ -101,6 +102,22 @@ impl Trail {
         self.engine.forget(at);
     }
 
+    /// Makes room to compact all the clauses that there are now.
+    pub fn reserve(&mut self) -> Result<(), AllocError>
+        ensures same { self.new ≡ record self.old { spare = self.new.spare } }
+        ensures room { OnOk result (length self.old.records ≤ self.new.spare) }
+    {
+        self.engine.moves.reserve(&self.engine.arena)
+    }
+
+    /// Drops the clauses that are not live, and names the others anew, in their order. It takes no memory.
+    pub fn compact(&mut self)
+        requires { length self.old.records ≤ self.old.spare }
+        ensures { IsCompacted self.old self.new }
+    {
+        self.engine.compact();
+    }
+
     /// The level: how many literals are assumed.
     pub fn level(&self) -> u32
         ensures { result ≡ self.now.level }
@@ -108,9 +125,8 @@ impl Trail {
         self.engine.level()
     }
 
-    /// Whether a variable is true or false; none where it is unassigned.
+    /// Whether a variable is true or false; none where it is unassigned, as every number past the last variable is.
     pub fn value(&self, variable: u32) -> Option<bool>
-        requires { variable < self.now.variables }
         ensures { result ≡ value_of self.now.places variable }
     {
         match self.engine.place_of(variable) {
@@ -121,7 +137,6 @@ impl Trail {
 
     /// The clause that implied a variable's value; none where it was assumed or is unassigned.
     pub fn reason(&self, variable: u32) -> Option<Ref>
-        requires { variable < self.now.variables }
         ensures { result ≡ reason_of self.now.places variable }
     {
         match self.engine.place_of(variable) {
@@ -146,7 +161,6 @@ impl Trail {
 
     /// The number of a variable's place; none where it is unassigned.
     pub fn place_of(&self, variable: u32) -> Option<usize>
-        requires { variable < self.now.variables }
         ensures { result ≡ place_of self.now.places variable }
     {
         self.engine.place_of(variable)

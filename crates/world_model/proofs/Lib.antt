@@ -8,6 +8,7 @@ pub mod PointAlive
 pub mod PointServed
 pub mod PointPositions
 pub mod PointOnce
+pub mod PointNarrowings
 pub mod OrderPositions
 pub mod OrderLists
 pub mod OrderListings

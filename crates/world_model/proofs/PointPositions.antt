@@ -94,7 +94,7 @@ prefix_is_alive p m rest alive =
 abbrev pub relation_in : Family → ℕ × ℕ → Rel
 relation_in f pair = relation_of (set_of f pair.0) (set_of f pair.1)
 
-has-only : (rel : Rel) → has (only rel) rel ≡ true
+pub has-only : (rel : Rel) → has (only rel) rel ≡ true
 has-only Equals = refl
 has-only Includes = refl
 has-only IncludedIn = refl

@@ -12,7 +12,7 @@ use Rattle.world_model.proofs.Members.{here, none_in}
 use Rattle.world_model.proofs.OrderLists.{IsExactly, Between, between_from}
 use Rattle.world_model.proofs.OrderListings.{listing, node_list}
 use Rattle.world_model.proofs.OrderConflict.{one_least, tight_conflict}
-use Rattle.world_model.proofs.TrialPoints.{alive_by_trial-iff}
+use Rattle.world_model.proofs.TrialPoints.{points-iff, alive_by_trial-iff}
 use Rattle.world_model.proofs.TrialNodes.{nodes_between_exactly}
 use Rattle.world_model.proofs.TrialWorlds.{worlds_exactly, walk}
 
@@ -27,6 +27,7 @@ worlds_right p h from to = worlds_exactly p h from to (nodes_between p from to) 
 
 pub trial_is_right_law : TrialIsRight
 trial_is_right_law = record {
+  points = points-iff;
   alive = alive_by_trial-iff;
   nodes = λ p from to. node_list p from to (nodes_between p from to) (nodes_between_exactly p from to);
   worlds = λ p h from to. listing p from to (worlds_between p from to) (worlds_right p h from to);

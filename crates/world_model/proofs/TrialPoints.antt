@@ -1,6 +1,6 @@
 -- The points found by trial are the points, so that aliveness by trial is aliveness.
 use Rattle.std.proofs.Common.{◌≡◌, ℕ, zero, suc, Bool, true, false, ◌&&◌, ◌↔◌, List, [], ◌∷◌, map, length, refl, arith, IsTrue, eqb-true}
-use Rattle.std.specs.Prelude.{◌==◌}
+use Rattle.std.specs.Prelude.{◌==◌, Contains}
 use Rattle.std.specs.List.{list_all, list_any}
 use Rattle.std.proofs.lemmas.Bool.{and_parts, and_from}
 use Rattle.world_model.specs.Problem.{Problem, concept_count, kept_sums}
@@ -30,10 +30,17 @@ structure_length p bits h =
     (first_of_five (length bits == concept_count p) (point_within p bits) (implies p.switches.sibling (point_apart p bits))
     (implies p.switches.coverage (point_covered p bits)) (list_all (point_sums bits) (kept_sums p)) h)
 
-in_points : (p : Problem) (bits : List Bool) → IsTrue (is_point p bits) → In bits (points_by_trial p)
+pub in_points : (p : Problem) (bits : List Bool) → IsTrue (is_point p bits) → In bits (points_by_trial p)
 in_points p bits h =
     let structure = (and_parts (meets_structure p bits) (list_all (avoids bits) (forced_pairs p)) h).0 in
     In-filter (obeys p (forced_pairs p)) (in_bit_lists (concept_count p) bits (structure_length p bits structure)) h
+
+-- and only points are there
+pub points-iff : (p : Problem) (bits : List Bool) → Contains (points_by_trial p) bits ↔ IsTrue (is_point p bits)
+points-iff p bits = (
+  λ c. (from_filter (obeys p (forced_pairs p)) (bit_lists (concept_count p)) (in_from_contains (points_by_trial p) c)).1,
+  λ h. contains_from_in (in_points p bits h),
+)
 
 alive_from_trial : (p : Problem) → IsTrue (alive_by_trial p) → IsAlive p
 alive_from_trial p h = record {

@@ -1,15 +1,15 @@
 -- The laws that make a search over single points right. Each is the contract of a public function with an empty body.
-use Rattle.std.specs.Prelude.{◌≡◌, ℕ, ◌+◌, ◌-◌, ◌*◌, ◌^◌, ◌<◌, ◌≤◌, ◌↔◌, Bool, true, false, not, List, [], ◌++◌, length, Option, None, Some, Contains, All, IsTrue, slice_get, slice_index_or, set}
+use Rattle.std.specs.Prelude.{◌≡◌, ℕ, ◌+◌, ◌-◌, ◌*◌, ◌^◌, ◌<◌, ◌≤◌, ◌↔◌, Bool, true, false, not, List, [], ◌∷◌, ◌++◌, length, Option, None, Some, Contains, All, IsTrue, slice_get, slice_index_or, set}
 use Rattle.rcc5_core.specs.declared.Rel.{Rel}
 use Rattle.rcc5_core.specs.declared.Rel.TheVariants.{Equals}
-use Rattle.rcc5_core.specs.RelationSet.{only, both_of}
-use Rattle.world_model.specs.Problem.{Problem, is_problem, concept_count, pairs, pair_count}
+use Rattle.rcc5_core.specs.RelationSet.{has, only, both_of}
+use Rattle.world_model.specs.Problem.{Problem, Constraint, is_problem, concept_count, pairs, pair_count, narrowed}
 use Rattle.world_model.specs.Family.{meets, table_of, IsPossibleWorld}
 use Rattle.world_model.specs.Listing.{is_below, ascends, IsListing}
-use Rattle.world_model.specs.Alive.{allowed, all_allow, all_whole, IsAlive, problem_at, family_of, serves}
+use Rattle.world_model.specs.Alive.{allowed, is_point, all_allow, all_whole, IsAlive, problem_at, family_of, serves}
 use Rattle.world_model.specs.Node.{pair_at, IsNode, IsNodeList, IsCut}
 use Rattle.world_model.specs.Questions.{IsMet, IsConsistent, IsLeastConflict}
-use Rattle.world_model.specs.Trial.{alive_by_trial, nodes_between, worlds_between, cut_by_trial}
+use Rattle.world_model.specs.Trial.{points_by_trial, alive_by_trial, nodes_between, worlds_between, cut_by_trial}
 
 -- each pair of concepts, the lower number first, stands in the list of pairs exactly once, and there are n(n-1)/2
 pub record PairsStandOnce : Type 0 where
@@ -48,6 +48,26 @@ pub record PrefixesOfTheAliveAreAlive : Type 0 where
   pub prefixes : (p : Problem) (m rest : List Rel) → IsAlive (problem_at p (m ++ rest)) → IsAlive (problem_at p m)
   pub nodes : (p : Problem) (m rest : List Rel) → IsPossibleWorld p (m ++ rest) → IsNode p m
 
+-- a relation with which a pair alone makes the problem dead makes it dead below any prefix before that pair
+pub record DeadAloneIsDeadBelow : Type 0 where
+  pub below : (p : Problem) (m rest : List Rel) (rel : Rel) → length m < pair_count p → (IsAlive (narrowed p (pair_at p (length m)) (only rel)) → ⊥) →
+      IsAlive (problem_at p (m ++ rel ∷ rest)) → ⊥
+  pub alone : (p : Problem) (m rest : List Rel) (rel : Rel) → length m < pair_count p → IsAlive (problem_at p (m ++ rel ∷ rest)) →
+      IsAlive (narrowed p (pair_at p (length m)) (only rel))
+
+-- a statement leaves out only relations with which its pair alone makes the problem dead
+abbrev pub DropsTheDead : Problem → Constraint → Type 0
+DropsTheDead p c = (rel : Rel) → IsAlive (narrowed p (c.left, c.right) (only rel)) → IsTrue (has c.set rel)
+
+-- the problem with more narrowings
+abbrev pub narrowed_by : Problem → List Constraint → Problem
+narrowed_by p more = record p { narrowings = p.narrowings ++ more }
+
+-- narrowing pairs by such statements keeps the possible worlds
+abbrev pub NarrowingKeepsWorlds : Type 0
+NarrowingKeepsWorlds = (p : Problem) (more : List Constraint) → All (DropsTheDead p) more → (t : List Rel) →
+    IsPossibleWorld (narrowed_by p more) t ↔ IsPossibleWorld p t
+
 -- a position is not above the end, which may be none
 abbrev pub is_not_above_end : List Rel → Option (List Rel) → Bool
 is_not_above_end m None = true
@@ -76,6 +96,7 @@ pub record OneLeastConflict : Type 0 where
 
 -- what the plain way computes is what the definitions say
 pub record TrialIsRight : Type 0 where
+  pub points : (p : Problem) (bits : List Bool) → Contains (points_by_trial p) bits ↔ IsTrue (is_point p bits)
   pub alive : (p : Problem) → IsTrue (alive_by_trial p) ↔ IsAlive p
   pub nodes : (p : Problem) (from : List Rel) (to : Option (List Rel)) → IsNodeList p from to (nodes_between p from to)
   pub worlds : (p : Problem) → IsTrue (is_problem p) → (from : List Rel) (to : Option (List Rel)) → IsListing p from to (worlds_between p from to)

@@ -16,8 +16,8 @@ pub use order_laws::{
     listings_join, nodes_are_bounded, one_least_conflict, one_listing, trial_is_right,
 };
 pub use point_laws::{
-    alive_tables_are_worlds, pairs_stand_once, positions_narrow, prefixes_of_the_alive_are_alive,
-    whole_sets_are_decided,
+    alive_tables_are_worlds, dead_alone_is_dead_below, narrowing_keeps_worlds, pairs_stand_once,
+    positions_narrow, prefixes_of_the_alive_are_alive, whole_sets_are_decided,
 };
 use rcc5_core::RelSet;
 use std::marker::Model;

@@ -1,6 +1,6 @@
 //! The laws that let a search ask for single points in place of families.
 
-ghost use Rattle.world_model.specs.Laws.{PairsStandOnce, PositionsNarrow, WholeSetsAreDecided, AliveTablesAreWorlds, PrefixesOfTheAliveAreAlive};
+ghost use Rattle.world_model.specs.Laws.{PairsStandOnce, PositionsNarrow, WholeSetsAreDecided, AliveTablesAreWorlds, PrefixesOfTheAliveAreAlive, DeadAloneIsDeadBelow, NarrowingKeepsWorlds};
 
 /// Each pair of concepts, the lower number first, stands in the list of pairs exactly once.
 pub fn pairs_stand_once()
@@ -25,4 +25,14 @@ pub fn alive_tables_are_worlds()
 /// A prefix of an alive prefix is alive, and each prefix of a possible world is a node.
 pub fn prefixes_of_the_alive_are_alive()
     ensures { PrefixesOfTheAliveAreAlive }
+{}
+
+/// A relation with which a pair alone makes the problem dead makes it dead below any prefix.
+pub fn dead_alone_is_dead_below()
+    ensures { DeadAloneIsDeadBelow }
+{}
+
+/// Leaving out relations that are dead alone keeps the possible worlds.
+pub fn narrowing_keeps_worlds()
+    ensures { NarrowingKeepsWorlds }
 {}

@@ -253,6 +253,31 @@ passes_next p from to v m stage worlds standing before at leads = by stage leads
         stood false e = last (λ x node after before_end. true≢false (sym (before_by m x to (not-true (is_below x m) (l.least x node after)) before_end) ∙ e))
     by Past l = last (λ x node after before_end. l x node after)
 
+-- no node that is then passed comes behind the visited one
+pub none_behind : (p : Problem) (from : List Rel) (to : Option (List Rel)) (v m : List Rel) (stage : Stage) →
+    IsStanding p from to v → IsTrue (is_before_end v to) → LeadsBy p (IsAfter v) m stage →
+    (x : List Rel) → IsNode p x → IsTrue (is_before_end x (at_by from to m stage)) → is_below v x ≡ false
+none_behind p from to v m stage standing before leads x node passed = case (is_below v x) refl
+  where
+    from_before : IsTrue (is_before_end from to)
+    from_before = before_by from v to (not-true (is_below v from) standing.node.1) before
+
+    last : (IsTrue (is_before_end x to) → ⊥) → IsTrue (is_before_end x (last_place from to)) → ⊥
+    last none = subst (λ b. IsTrue (is_before_end x (if b then to else Some from)) → ⊥) (sym from_before) none
+
+    by : IsTrue (is_below v x) → (stage : Stage) → LeadsBy p (IsAfter v) m stage → IsTrue (is_before_end x (at_by from to m stage)) → ⊥
+    by after Start l = absurd l
+    by after Standing l = stood (is_before_end m to) refl
+      where
+        stood : (b : Bool) → is_before_end m to ≡ b → IsTrue (is_before_end x (if b then Some m else last_place from to)) → ⊥
+        stood true e less = true≢false (sym less ∙ not-true (is_below x m) (l.least x node after))
+        stood false e less = last (λ before_end. true≢false (sym (before_by m x to (not-true (is_below x m) (l.least x node after)) before_end) ∙ e)) less
+    by after Past l = λ less. l x node after
+
+    case : (b : Bool) → is_below v x ≡ b → is_below v x ≡ false
+    case true e = absurd (by e stage leads passed)
+    case false e = e
+
 -- after a visit fewer nodes are left
 pub fewer_left : (p : Problem) (v m : List Rel) (stage : Stage) → IsNode p v → LeadsBy p (IsAfter v) m stage → left_by p m stage < left_by p v Standing
 fewer_left p v m stage node leads = by stage leads

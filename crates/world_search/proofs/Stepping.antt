@@ -1,12 +1,13 @@
 -- What a turn of a walk leaves, as a step of the search.
 use Rattle.std.proofs.Common.{◌≡◌, ◌≢◌, ℕ, ◌<◌, true, false, List, [], ◌∷◌, refl, sym, ap, ◌∙◌, subst, IsTrue}
 use Rattle.std.specs.Prelude.{Option, Some, IfSome, Result, Ok, Err, OnErr, if◌then◌else◌}
+use Rattle.std.proofs.lemmas.Bool.{not_from_false}
 use Rattle.rcc5_core.specs.declared.Rel.{Rel}
 use Rattle.world_model.specs.Problem.{Problem}
 use Rattle.world_model.specs.Family.{meets, table_of, IsPossibleWorld}
-use Rattle.world_model.specs.Listing.{is_before_end}
+use Rattle.world_model.specs.Listing.{is_below, is_before_end}
 use Rattle.world_search.specs.Searching.{SearchState, Passes, FellBy, Came, last_place}
-use Rattle.world_search.specs.Steps.{IsStep}
+use Rattle.world_search.specs.Steps.{IsStep, StandsBehind}
 use Rattle.world_search.specs.declared.step.Step.{Step}
 use Rattle.world_search.specs.declared.step.Step.TheVariants.{World, Spent, End}
 use Rattle.world_search.specs.declared.walk.Stage.{Stage}
@@ -14,7 +15,7 @@ use Rattle.world_search.specs.declared.walk.Stage.TheVariants.{Start, Standing}
 use Rattle.world_search.specs.declared.walk.Walk.{Walk}
 use Rattle.world_search.specs.declared.walk.World.{World as Found}
 use Rattle.world_search.specs.Walking.{place, LeadsBy, LeadsTo, IsAfter, IsStanding, IsPlacedBy, IsPlaced, at_by, state_of, left_by, nodes_left, Knows, AreOpenBeside, IsWorldAt}
-use Rattle.world_search.proofs.Passing.{WorldsAt, stays_put, fell_nowhere, came_join, passes_next, placed_next, fewer_left, at_end_standing}
+use Rattle.world_search.proofs.Passing.{WorldsAt, stays_put, fell_nowhere, came_join, passes_next, none_behind, placed_next, fewer_left, at_end_standing}
 
 -- a walk that stands is at its place
 pub standing_at : (p : Problem) (from : List Rel) (to : Option (List Rel)) (w : Walk) → w.stage ≡ Standing → IsPlaced p from to w → IsStanding p from to (place w)
@@ -93,6 +94,17 @@ came_visit p from to old new before left node worlds standing placed is ahead at
       counted = fell;
     }
 
+-- right behind a visited node
+pub behind_visit : (p : Problem) (from : List Rel) (to : Option (List Rel)) (old new : Walk) (node : List Rel) →
+    old.stage ≡ Standing → IsPlaced p from to old → node ≡ place old → is_before_end node to ≡ true → LeadsTo p (IsAfter node) new →
+    StandsBehind (state_of p from to new) node
+behind_visit p from to old new node standing placed is ahead leads =
+    let there : IsStanding p from to node = subst (IsStanding p from to) (sym is) (standing_at p from to old standing placed) in
+    record {
+      below_end = ahead;
+      last = λ m at passed. not_from_false (is_below node m) (none_behind p from to node (place new) new.stage there ahead leads m at.0 passed);
+    }
+
 pub placed_visit : (p : Problem) (from : List Rel) (to : Option (List Rel)) (old new : Walk) (node : List Rel) →
     old.stage ≡ Standing → IsPlaced p from to old → node ≡ place old → is_before_end node to ≡ true → LeadsTo p (IsAfter node) new → IsPlaced p from to new
 placed_visit p from to old new node standing placed is ahead leads =
@@ -132,6 +144,7 @@ step_join one mid other before between left (World table family) a b = (
   came_join one mid other before between left [] (table ∷ []) a b.0,
   subst (λ p. IsTrue (meets p family)) a.problem b.1,
   subst (λ p. table_of p family ≡ table) a.problem b.2,
+  b.3,
 )
 step_join one mid other before between left (Spent next) a b = (came_join one mid other before between left [] [] a b.0, b.1, b.2)
 step_join one mid other before between left (End last) a b = (came_join one mid other before between left [] [] a b.0, b.1, b.2)

@@ -1,15 +1,23 @@
 -- What a step of a search means.
-use Rattle.std.specs.Prelude.{◌≡◌, ℕ, [], ◌∷◌, Option, Some, Result, Ok, Err, IsTrue}
+use Rattle.std.specs.Prelude.{◌≡◌, ℕ, not, List, [], ◌∷◌, Option, Some, Result, Ok, Err, IsTrue}
+use Rattle.rcc5_core.specs.declared.Rel.{Rel}
 use Rattle.world_model.specs.Family.{meets, table_of}
+use Rattle.world_model.specs.Listing.{is_below, is_before_end}
+use Rattle.world_model.specs.Node.{IsNodeFrom}
 use Rattle.world_search.specs.declared.step.Step.{Step}
 use Rattle.world_search.specs.declared.step.Step.TheVariants.{World, Spent, End}
 use Rattle.world_search.specs.Searching.{SearchState, Came, last_place, IsNodeAtEnd, IsNext}
 
--- the next world with a family that has its table; or no node is left to count and the node is next; or the search is at
+-- a search stands right behind a node: the node is below the end, and no node that is passed comes behind it
+pub record StandsBehind (s : SearchState) (node : List Rel) : Type 0 where
+  pub below_end : IsTrue (is_before_end node s.to)
+  pub last : (m : List Rel) → IsNodeFrom s.problem s.from m → IsTrue (is_before_end m s.at) → IsTrue (not (is_below node m))
+
+-- the next world with a family that has its table, and the search right behind it; or no node is left to count and the node is next; or the search is at
 -- its end, and names the node there
 abbrev pub IsStep : SearchState → SearchState → Option ℕ → Option ℕ → Step → Type 0
 IsStep old new before left (World table family) =
-    Came old new before left (table ∷ []) × IsTrue (meets old.problem family) × (table_of old.problem family ≡ table)
+    Came old new before left (table ∷ []) × IsTrue (meets old.problem family) × (table_of old.problem family ≡ table) × StandsBehind new table
 IsStep old new before left (Spent node) = Came old new before left [] × (left ≡ Some 0) × IsNext new node
 IsStep old new before left (End node) = Came old new before left [] × (new.at ≡ last_place new.from new.to) × IsNodeAtEnd new.problem new.from new.to node
 

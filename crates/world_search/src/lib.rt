@@ -7,6 +7,3 @@ mod walk;
 
 pub use search::Search;
 pub use step::{Nodes, Step, StepFault};
-
-#[cfg(test)]
-mod tests;

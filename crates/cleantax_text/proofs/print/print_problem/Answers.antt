@@ -1,4 +1,4 @@
-use Rattle.std.proofs.Common.{◌≡◌, ◌∙◌, ◌++◌, ap}
+use Rattle.std.proofs.Common.{◌∙◌, ◌++◌, ap}
 use Rattle.cleantax_text.specs.Canonical.{canonical_text}
 use Rattle.cleantax_text.proofs.ReadsBackLemmas.{text_reads_back}
 use Rattle.cleantax_text.proofs.print.print_problem.Goals as goal

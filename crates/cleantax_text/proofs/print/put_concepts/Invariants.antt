@@ -1,5 +1,5 @@
 use Rattle.std.proofs.Common.{◌≡◌, ◌++◌, map, take}
-use Rattle.cleantax_text.specs.Canonical.{spaced, word_of, concept_text, name_of}
+use Rattle.cleantax_text.specs.Canonical.{spaced, concept_text}
 use Rattle.cleantax_text.proofs.print.put_concepts.Given as goal
 
 abbrev pub invariant-loop-concept : goal.invariant-loop-concept

@@ -1,5 +1,5 @@
 use Rattle.std.proofs.Common.{◌≡◌, ◌++◌}
-use Rattle.cleantax_text.specs.Pieces.{headings, families}
+use Rattle.cleantax_text.specs.Pieces.{families}
 use Rattle.cleantax_text.proofs.print.put_families.Given as goal
 
 abbrev pub invariant-loop-concept : goal.invariant-loop-concept

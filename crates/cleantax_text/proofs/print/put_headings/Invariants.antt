@@ -1,5 +1,5 @@
 use Rattle.std.proofs.Common.{◌≡◌, ◌++◌}
-use Rattle.cleantax_text.specs.Pieces.{headings, families}
+use Rattle.cleantax_text.specs.Pieces.{headings}
 use Rattle.cleantax_text.proofs.print.put_headings.Given as goal
 
 abbrev pub invariant-loop-concept : goal.invariant-loop-concept

@@ -1,5 +1,6 @@
 use Rattle.std.proofs.Common.{◌≡◌, ◌++◌, map, take}
-use Rattle.cleantax_text.specs.Canonical.{spaced, word_of, concept_text, name_of}
+use Rattle.constraint_set.specs.Readers.{name_of}
+use Rattle.cleantax_text.specs.Canonical.{spaced}
 use Rattle.cleantax_text.proofs.print.put_names.Given as goal
 
 abbrev pub invariant-loop-concept : goal.invariant-loop-concept

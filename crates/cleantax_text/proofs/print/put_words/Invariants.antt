@@ -1,5 +1,5 @@
 use Rattle.std.proofs.Common.{◌≡◌, ◌++◌, map, take}
-use Rattle.cleantax_text.specs.Canonical.{spaced, word_of, concept_text, name_of}
+use Rattle.cleantax_text.specs.Canonical.{spaced, word_of}
 use Rattle.cleantax_text.proofs.print.put_words.Given as goal
 
 abbrev pub invariant-loop-rel : goal.invariant-loop-rel

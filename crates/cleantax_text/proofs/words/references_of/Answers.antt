@@ -1,4 +1,4 @@
-use Rattle.std.proofs.Common.{◌≡◌, ◌∙◌, refl, sym}
+use Rattle.std.proofs.Common.{◌∙◌, sym}
 use Rattle.cleantax_text.proofs.WordLemmas.{references_step}
 use Rattle.cleantax_text.proofs.words.references_of.Goals as goal
 

@@ -1,4 +1,4 @@
-use Rattle.std.proofs.Common.{◌≡◌, ℕ, ◌<◌, Bool, true, false, length, get_or}
+use Rattle.std.proofs.Common.{◌≡◌, ℕ, ◌<◌, true, false, length, get_or}
 use Rattle.conflict_clause.proofs.notes.unmark.Given as goal
 
 abbrev pub invariant-loop-variable : goal.invariant-loop-variable

@@ -42,7 +42,7 @@ returns-in-Closed-clause-sought c =
     let asker = asker_with p c.place_of.new.solver in
     let placed = subst (λ x. IsPlaced asker p m c.place_of.new.found.items (need_seen p need) x) c.in-Closed.is c.in_ok-place.ensures.placed in
     stopped_at asker p m list i need c.loop-need.found.items c.loop-need.places.items c.in-Closed.id c.loop-need-test.true
-    (get_or_default list i (Region 0 0) need c.loop-need-test.true) c.loop-need.invariant.served placed
+    (get_or_default list i (Region 0 0) need c.loop-need-test.true) (c.requires.range i (Region 0 0) c.loop-need-test.true) c.loop-need.invariant.served placed
 
 pub loop-need-preserved : goal.loop-need-preserved
 loop-need-preserved c =

@@ -1,6 +1,7 @@
 use Rattle.std.proofs.Common.{◌≡◌, Ok, IfOk, sym, ap, subst, ◌∙◌}
 use Rattle.lits_core.specs.declared.Line.TheVariants.{Derive, Forget}
-use Rattle.proof_text.specs.Lines.{HasIds, line_of}
+use Rattle.lits_core.specs.Derivation.{FromOne}
+use Rattle.proof_text.specs.Lines.{line_of}
 use Rattle.proof_text.proofs.TextLemmas.{ids_from}
 use Rattle.proof_text.proofs.LineLemmas.{text_reads, line_text_reads}
 use Rattle.proof_text.proofs.printing.print_line.Goals as goal
@@ -12,7 +13,7 @@ returns-in-Derive-clause-read c =
     let hints = c.list.result.now in
     let line_is : c.args.line.now ≡ Derive id lits hints =
     c.in-Derive.is ∙ ap (λ l. Derive id l c.in-Derive.hints) (sym c.lits.ensures) ∙ ap (λ h. Derive id lits h) (sym c.list.ensures) in
-    let ids : HasIds (Derive id lits hints) = subst HasIds line_is c.requires in
+    let ids : FromOne (Derive id lits hints) = subst FromOne line_is c.requires in
     let bounds = c.print_derive.ensures.ids in
     let reads = text_reads (λ text. text.items) (Derive id lits hints) c.print_derive.result c.print_derive.ensures.text c.print_derive.ensures.literals
     (λ small. ((ids.0, bounds.0), small, ids_from hints ids.1 bounds.1)) in
@@ -22,7 +23,7 @@ pub returns-in-Forget-clause-read : goal.returns-in-Forget-clause-read
 returns-in-Forget-clause-read c =
     let ids = c.list-in-Forget.result.now in
     let line_is : c.args.line.now ≡ Forget ids = c.in-Forget.is ∙ ap Forget (sym c.list-in-Forget.ensures) in
-    let above : HasIds (Forget ids) = subst HasIds line_is c.requires in
+    let above : FromOne (Forget ids) = subst FromOne line_is c.requires in
     let reads = line_text_reads (λ text. text.items) (Forget ids) c.print_forget.result c.print_forget.ensures.text
     (ids_from ids above c.print_forget.ensures.ids) in
     subst (λ line. IfOk c.print_forget.result (λ text. line_of text.items ≡ Ok line)) (sym line_is) reads

@@ -1,4 +1,4 @@
-use Rattle.std.proofs.Common.{◌≡◌, false, true, ◌&&◌, sym, ap, ◌∙◌, drop, arith, ◌+◌, get_or}
+use Rattle.std.proofs.Common.{◌&&◌, sym, ap, ◌∙◌, drop, arith, ◌+◌, get_or}
 use Rattle.std.specs.List.{list_all}
 use Rattle.set_family.specs.Rules.{is_apart, are_apart}
 use Rattle.set_family.proofs.Holding.{apart_at, slice_to_end}

@@ -1,4 +1,4 @@
-use Rattle.std.proofs.Common.{◌≡◌, ◌<◌, ◌≤◌, ◌&&◌, true, length, drop, ◌+◌, arith, sym, ap, ◌∙◌}
+use Rattle.std.proofs.Common.{◌<◌, ◌≤◌, ◌&&◌, length, drop, ◌+◌, arith, sym, ap, ◌∙◌}
 use Rattle.std.specs.List.{list_all, items_where_true}
 use Rattle.set_family.specs.Rules.{articulation_holds}
 use Rattle.set_family.proofs.Holding.{kept_got, kept_skipped, kept_done}

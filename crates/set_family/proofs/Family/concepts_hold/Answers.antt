@@ -1,4 +1,4 @@
-use Rattle.std.proofs.Common.{◌≡◌, ◌<◌, ◌≤◌, arith, sym, ◌∙◌}
+use Rattle.std.proofs.Common.{◌<◌, ◌≤◌, arith, sym, ◌∙◌}
 use Rattle.world_model.specs.Problem.{concept_count}
 use Rattle.set_family.specs.Rules.{rules_at}
 use Rattle.set_family.proofs.Holding.{range_got, range_done}

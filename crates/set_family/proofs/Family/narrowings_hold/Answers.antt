@@ -1,4 +1,4 @@
-use Rattle.std.proofs.Common.{◌≡◌, ◌≤◌, length, arith, sym, ◌∙◌}
+use Rattle.std.proofs.Common.{◌≤◌, length, arith, sym, ◌∙◌}
 use Rattle.world_model.specs.Family.{holds}
 use Rattle.set_family.proofs.Holding.{all_got, all_done}
 use Rattle.set_family.proofs.Family.narrowings_hold.Goals as goal

@@ -1,6 +1,6 @@
-use Rattle.std.proofs.Common.{◌≡◌, ◌≤◌, ◌⊎◌, inl, inr, arith, sym, length, ◌∙◌}
+use Rattle.std.proofs.Common.{inr, arith, sym, ◌∙◌}
 use Rattle.rcc5_core.proofs.Sets.{is_ascending-rest}
-use Rattle.set_family.proofs.Merges.{common_step_left, common_step_right, common_step_both, common_end}
+use Rattle.set_family.proofs.Merges.{common_step_left, common_step_right, common_end}
 use Rattle.set_family.proofs.merge.have_common.Goals as goal
 
 pub merge-preserved-then-a-b : goal.merge-preserved-then-a-b

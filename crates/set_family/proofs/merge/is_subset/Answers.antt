@@ -1,4 +1,4 @@
-use Rattle.std.proofs.Common.{◌≡◌, ◌≤◌, ◌⊎◌, inl, inr, arith, sym, length, ◌∙◌}
+use Rattle.std.proofs.Common.{◌≤◌, ◌⊎◌, inl, inr, arith, sym, length, ◌∙◌}
 use Rattle.rcc5_core.proofs.Sets.{is_ascending-rest}
 use Rattle.set_family.proofs.Merges.{subset_step_lacks, subset_step_right, subset_step_both, subset_end}
 use Rattle.set_family.proofs.merge.is_subset.Goals as goal

@@ -3,9 +3,10 @@ use Rattle.std.specs.Prelude.{IfSome}
 use Rattle.world_model.specs.Listing.{is_before_end}
 use Rattle.world_search.specs.declared.walk.Walk.{Walk}
 use Rattle.world_search.specs.Searching.{Came}
+use Rattle.world_search.specs.Steps.{StandsBehind}
 use Rattle.world_search.specs.Walking.{place, state_of, AreOpenBeside, IsWorldAt}
 use Rattle.world_search.proofs.Passing.{none_there, one_there}
-use Rattle.world_search.proofs.Stepping.{came_same, step_end, step_spent, came_visit, placed_visit, fewer_visit, knows_same, world_there, on_err}
+use Rattle.world_search.proofs.Stepping.{came_same, step_end, step_spent, came_visit, behind_visit, placed_visit, fewer_visit, knows_same, world_there, on_err}
 use Rattle.world_search.proofs.walk.turn.Goals as goal
 
 pub returns-in_err-settle-clause-err : goal.returns-in_err-settle-clause-err
@@ -53,6 +54,9 @@ returns-in-Some-clause-step c =
       rw found.table came,
       found.met,
       found.shown ∙ sym found.table,
+      subst (StandsBehind (state_of p c.args.from.now c.args.to.now c.visit.new.walk)) (sym found.table)
+          (behind_visit p c.args.from.now c.args.to.now c.args.walk.now c.visit.new.walk m
+          c.requires.standing c.requires.placed c.in_ok-settle.ensures.settled (sym c.is_before_end.ensures ∙ c.if-not-is_before_end.false) c.in_ok-world.ensures.on),
     )
 
 pub returns-in-Some-clause-placed : goal.returns-in-Some-clause-placed

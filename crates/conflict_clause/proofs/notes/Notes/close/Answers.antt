@@ -1,4 +1,4 @@
-use Rattle.std.proofs.Common.{◌≡◌, ◌∙◌, ℕ, ap, arith}
+use Rattle.std.proofs.Common.{arith}
 use Rattle.conflict_clause.proofs.Endings.{IsClosing-ended}
 use Rattle.conflict_clause.proofs.notes.Notes.close.Goals as goal
 

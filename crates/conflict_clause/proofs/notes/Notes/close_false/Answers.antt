@@ -1,4 +1,4 @@
-use Rattle.std.proofs.Common.{◌≡◌, ◌∙◌, ℕ, ◌<◌, Some, sym, ap, subst, arith}
+use Rattle.std.proofs.Common.{◌∙◌, ℕ, ◌<◌, Some, sym, ap, subst, arith}
 use Rattle.lits_core.specs.Literals.{variable_of}
 use Rattle.conflict_clause.proofs.AtPlaces.{false_in_range}
 use Rattle.conflict_clause.proofs.Endings.{IsClosing-ended}

@@ -1,4 +1,4 @@
-use Rattle.std.proofs.Common.{◌≡◌, ◌∙◌, ◌<◌, List, ℕ, length, sym, ap, subst, arith}
+use Rattle.std.proofs.Common.{◌∙◌, List, ℕ, sym, subst, arith}
 use Rattle.lits_core.specs.Literals.{negation_of}
 use Rattle.watch_arena.specs.Places.{place_at}
 use Rattle.conflict_clause.specs.Search.{IsArranged}

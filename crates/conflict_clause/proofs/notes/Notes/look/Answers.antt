@@ -1,4 +1,4 @@
-use Rattle.std.proofs.Common.{◌≡◌, ◌∙◌, ◌<◌, length, sym, ap, subst, arith, true}
+use Rattle.std.proofs.Common.{◌≡◌, sym, arith, true}
 use Rattle.lits_core.specs.Literals.{variable_of}
 use Rattle.watch_arena.specs.Places.{place_at}
 use Rattle.conflict_clause.specs.Search.{is_met}

@@ -1,4 +1,4 @@
-use Rattle.std.proofs.Common.{◌≡◌, ◌∙◌, refl, ap, arith}
+use Rattle.std.proofs.Common.{refl, arith}
 use Rattle.conflict_clause.proofs.Looking.{IsLooking-kept, IsLooking-lowered, IsNoted-same}
 use Rattle.conflict_clause.proofs.notes.Notes.meet.Goals as goal
 

@@ -1,10 +1,9 @@
-use Rattle.std.proofs.Common.{◌≡◌, ◌⊎◌, ◌∙◌, ℕ, ◌<◌, Bool, List, true, length, refl, sym, ap, subst, arith, inl, inr, get_or, below_more}
-use Rattle.std.specs.List.{Contains}
+use Rattle.std.proofs.Common.{◌≡◌, ◌∙◌, ℕ, List, true, length, sym, ap, subst, arith, inl, inr, get_or, below_more}
 use Rattle.lits_core.specs.Literals.{variable_of}
 use Rattle.clause_arena.specs.Records.{Record, record_at}
 use Rattle.watch_arena.proofs.Watching.{contains_at, index_of}
 use Rattle.conflict_clause.specs.Search.{is_met}
-use Rattle.conflict_clause.proofs.Looking.{Meets-refl, Meets-trans, literal}
+use Rattle.conflict_clause.proofs.Looking.{Meets-trans, literal}
 use Rattle.conflict_clause.proofs.notes.Notes.meet_all.Goals as goal
 
 pub meet-requires-clause-range : goal.meet-requires-clause-range

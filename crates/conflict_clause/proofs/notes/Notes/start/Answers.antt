@@ -1,4 +1,4 @@
-use Rattle.std.proofs.Common.{◌≡◌, ◌∙◌, ℕ, List, ◌∷◌, ◌++◌, [], ap}
+use Rattle.std.proofs.Common.{◌∙◌, ℕ, List, ◌∷◌, ◌++◌, [], ap}
 use Rattle.clause_arena.specs.Records.{record_at}
 use Rattle.conflict_clause.proofs.AtPlaces.{each_false}
 use Rattle.conflict_clause.proofs.Endings.{IsSearch-started, lower-first, lowest-within}

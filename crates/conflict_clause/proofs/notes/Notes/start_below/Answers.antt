@@ -5,7 +5,6 @@ use Rattle.std.proofs.lemmas.List.Elements.{Contains-push, Contains-push_cases}
 use Rattle.lits_core.specs.Literals.{variable_of}
 use Rattle.clause_arena.specs.Records.{record_at}
 use Rattle.watch_arena.specs.Places.{place_at}
-use Rattle.conflict_clause.specs.Search.{is_met}
 use Rattle.conflict_clause.proofs.Looking.{reason-off}
 use Rattle.conflict_clause.proofs.Endings.{IsSearch-below, none_in}
 use Rattle.conflict_clause.proofs.notes.Notes.start_below.Goals as goal

@@ -34,7 +34,7 @@ returns-clause-sound c =
     subst (λ (t : TrailState). Adds c.go_back.new.self.trail t c.args.lits.now c.in_ok-id.id) (sym (ap (λ (l : Learner). l.trail) same)) c.in_ok-add.ensures.ok in
     let count : c.note_variables.new.self.given ≡ length c.note_variables.new.self.trail.records =
     ap (λ (l : Learner). l.given) same ∙ c.count-self.ensures ∙ ap length c.arena.ensures ∙ ap (λ (l : Learner). length l.trail.records) (sym same) in
-    IsSound-given c.go_back.new.self c.note_variables.new.self c.args.lits.now c.in_ok-id.id c.go_back.ensures.steps.sound none c.in_ok-id.ensures adds count
+    IsSound-given c.go_back.new.self c.note_variables.new.self c.args.lits.now c.in_ok-id.id c.go_back.ensures.steps.sound none c.in_ok-id.ensures (let top = c.max-self.ensures in let last = ap (λ (l : Learner). l.last) same in omega arith) (let top = c.max-self.ensures in let last = ap (λ (l : Learner). l.last) same in omega arith) adds count
     (ap (λ (l : Learner). l.variables) same) (ap (λ (l : Learner). l.analyzer) same) noted.count noted.kept noted.noted
 
 pub returns-clause-id : goal.returns-clause-id
@@ -45,6 +45,7 @@ returns-clause-id c =
     let enough = c.requires.sound.records.enough in
     let count = given-count c.args.self.now.trail.records c.args.self.now.given enough in
     let id = c.in_ok-id.ensures in
+    let given = ap (λ (l : Learner). l.given) back in
     omega arith
 
 pub returns-clause-ok : goal.returns-clause-ok

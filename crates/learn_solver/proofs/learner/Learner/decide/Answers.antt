@@ -11,7 +11,7 @@ use Rattle.learn_solver.proofs.Answering.{IsModel-bits}
 use Rattle.learn_solver.proofs.learner.Learner.decide.Goals as goal
 
 pub returns-in_err-bits-in-None-clause-steps : goal.returns-in_err-bits-in-None-clause-steps
-returns-in_err-bits-in-None-clause-steps c = Steps-kept _ _ c.requires.sound (record { records = refl; trail_variables = refl; variables = refl; analyzer = refl; order = c.pick.ensures.kept; given = refl; waiting = refl })
+returns-in_err-bits-in-None-clause-steps c = Steps-kept _ _ c.requires.sound (record { records = refl; trail_variables = refl; variables = refl; analyzer = refl; order = c.pick.ensures.kept; given = refl; last = refl; waiting = refl })
 
 pub returns-in-Some-clause-steps : goal.returns-in-Some-clause-steps
 returns-in-Some-clause-steps c = Steps-kept _ _ c.requires.sound (record {
@@ -20,6 +20,7 @@ returns-in-Some-clause-steps c = Steps-kept _ _ c.requires.sound (record {
   variables = refl;
   analyzer = refl;
   order = c.pick.ensures.kept;
+  last = refl;
   given = refl;
   waiting = refl;
 })
@@ -34,11 +35,11 @@ returns-in-Some-clause-served c = λ assumptions g all.
     )
 
 pub returns-in_ok-bits-in-None-clause-steps : goal.returns-in_ok-bits-in-None-clause-steps
-returns-in_ok-bits-in-None-clause-steps c = Steps-kept _ _ c.requires.sound (record { records = refl; trail_variables = refl; variables = refl; analyzer = refl; order = c.pick.ensures.kept; given = refl; waiting = refl })
+returns-in_ok-bits-in-None-clause-steps c = Steps-kept _ _ c.requires.sound (record { records = refl; trail_variables = refl; variables = refl; analyzer = refl; order = c.pick.ensures.kept; given = refl; last = refl; waiting = refl })
 
 pub returns-in_ok-bits-in-None-clause-served : goal.returns-in_ok-bits-in-None-clause-served
 returns-in_ok-bits-in-None-clause-served c = λ assumptions g all.
     let picked : Learner = record c.args.self.now { order = c.pick.new.self } in
-    let sound = IsSound-kept c.args.self.now picked c.requires.sound (record { records = refl; trail_variables = refl; variables = refl; analyzer = refl; order = c.pick.ensures.kept; given = refl; waiting = refl }) in
+    let sound = IsSound-kept c.args.self.now picked c.requires.sound (record { records = refl; trail_variables = refl; variables = refl; analyzer = refl; order = c.pick.ensures.kept; given = refl; last = refl; waiting = refl }) in
     let assigned : AreAssigned c.pick.new.self c.args.self.now.trail.places = subst (λ (noted : List Bool). AreAssigned noted c.args.self.now.trail.places) (sym c.pick.ensures.kept) c.in-None.ensures.picked in
     IsModel-bits picked assumptions c.in_ok-bits-in-None.bits c.facts.ensures sound c.requires.propagated assigned c.in_ok-bits-in-None.ensures all

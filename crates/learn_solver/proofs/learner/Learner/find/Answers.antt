@@ -1,33 +1,34 @@
-use Rattle.std.proofs.Common.{◌≡◌, ◌∙◌, ℕ, ◌-◌, ◌<◌, ◌≤◌, true, false, nat_lt, cond, List, length, Option, Some, None, inl, inr, sym, ap, subst, arith, lt-ltb, le-ltb}
+use Rattle.std.proofs.Common.{◌≡◌, ◌∙◌, ◌<◌, ℕ, List, length, Option, Some, None, sym, ap, subst, arith}
 use Rattle.std.specs.Prelude.{MatchOption}
-use Rattle.std.proofs.lemmas.Bool.{cases_lt}
 use Rattle.lits_core.specs.Derivation.{live_clause}
 use Rattle.clause_arena.specs.Records.{Record, record_at}
 use Rattle.learn_solver.specs.States.{state_of}
-use Rattle.learn_solver.specs.Learners.{AreRecords}
-use Rattle.learn_solver.proofs.RecordLemmas.{zero-free, fresh-free, live-numbered}
+use Rattle.learn_solver.proofs.RecordLemmas.{live-at, none-from}
+use Rattle.learn_solver.proofs.Remaining.{nth-some, nth-within, nth-none}
 use Rattle.learn_solver.proofs.learner.Learner.find.Goals as goal
 
--- the record of a number, if there is one, has the live clause of the id that is one more
-numbered : (records : List Record) (given id count : ℕ) (found : Option ℕ) → AreRecords records given → 1 ≤ id → count ≡ length records → found ≡ cond (nat_lt (id - 1) count) (Some (id - 1)) None →
-    MatchOption found (live_clause (state_of records given) id ≡ None) (λ at. at < length records × live_clause (state_of records given) id ≡ Some (record_at records at).lits)
-numbered records given id count found r least size is =
-    let P : Option ℕ → Type 0 = λ o. MatchOption o (live_clause (state_of records given) id ≡ None) (λ at. at < length records × live_clause (state_of records given) id ≡ Some (record_at records at).lits) in
-    elim (cases_lt (id - 1) count) [
-      | inl lt ↦
-          let test : nat_lt (id - 1) count ≡ true = lt-ltb (id - 1) count lt in
-          let here : P (Some (id - 1)) = (omega arith, live-numbered records given id r least (omega arith)) in
-          subst P (sym (is ∙ ap (λ b. cond b (Some (id - 1)) None) test)) here
-      | inr ge ↦
-          let test : nat_lt (id - 1) count ≡ false = le-ltb (id - 1) count ge in
-          let here : P None = fresh-free records given id r (omega arith) in
-          subst P (sym (is ∙ ap (λ b. cond b (Some (id - 1)) None) test)) here
-    ]
+pub returns-in_err-at-clause-clause : goal.returns-in_err-at-clause-clause
+returns-in_err-at-clause-clause c =
+    let l = c.args.self.now in
+    let P : Option ℕ → Type 0 = λ o. MatchOption o (live_clause (state_of l.trail.records l.given) c.args.id ≡ None) (λ at. at < length l.trail.records × live_clause (state_of l.trail.records l.given) c.args.id ≡ Some (record_at l.trail.records at).lits) in
+    let size = ap length c.arena.ensures in
+    let here : P None = none-from l.trail.records l.given c.args.id c.first_from.result c.requires.records c.first_from.ensures.before c.first_from.ensures.from
+    (λ lt. absurd (nth-none c.first_from.result (length c.arena.result.now) c.nth.result c.nth.ensures c.in_err-at.was (omega arith))) in
+    subst P (sym c.from_residual.ensures) here
 
-pub returns-then-id-eq0-clause-clause : goal.returns-then-id-eq0-clause-clause
-returns-then-id-eq0-clause-clause c =
-    let zero : c.args.id ≡ 0 = omega arith in
-    ap (λ n. live_clause (state_of c.args.self.now.trail.records c.args.self.now.given) n) zero ∙ zero-free c.args.self.now.trail.records c.args.self.now.given c.requires.records
+pub returns-then-id_of-id-clause-clause : goal.returns-then-id_of-id-clause-clause
+returns-then-id_of-id-clause-clause c =
+    let l = c.args.self.now in
+    let size = ap length c.arena.ensures in
+    let is = nth-some c.first_from.result (length c.arena.result.now) c.in_ok-at.at c.nth.result c.nth.ensures c.in_ok-at.was in
+    let lt = nth-within c.first_from.result (length c.arena.result.now) c.in_ok-at.at c.nth.result c.nth.ensures c.in_ok-at.was in
+    let within : c.in_ok-at.at < length l.trail.records = omega arith in
+    let id : (record_at l.trail.records c.in_ok-at.at).id ≡ c.args.id = ap (λ (rs : List Record). (record_at rs c.in_ok-at.at).id) (sym c.arena-2.ensures) ∙ sym c.id_of.ensures ∙ c.if-id_of-id.true in
+    (within, subst (λ (i : ℕ). live_clause (state_of l.trail.records l.given) i ≡ Some (record_at l.trail.records c.in_ok-at.at).lits) id (live-at l.trail.records l.given c.in_ok-at.at c.requires.records within))
 
-pub returns-clause-clause : goal.returns-clause-clause
-returns-clause-clause c = numbered c.args.self.now.trail.records c.args.self.now.given c.args.id (length c.arena.result.now) c.nth.result c.requires.records (omega arith) (ap length c.arena.ensures) c.nth.ensures
+pub returns-else-id_of-id-clause-clause : goal.returns-else-id_of-id-clause-clause
+returns-else-id_of-id-clause-clause c =
+    let l = c.args.self.now in
+    let is = nth-some c.first_from.result (length c.arena.result.now) c.in_ok-at.at c.nth.result c.nth.ensures c.in_ok-at.was in
+    let id : c.id_of.result ≡ (record_at l.trail.records c.first_from.result).id = c.id_of.ensures ∙ ap (λ (rs : List Record). (record_at rs c.in_ok-at.at).id) c.arena-2.ensures ∙ ap (λ (n : ℕ). (record_at l.trail.records n).id) is in
+    none-from l.trail.records l.given c.args.id c.first_from.result c.requires.records c.first_from.ensures.before c.first_from.ensures.from (λ lt e. c.if-id_of-id.false (id ∙ e))

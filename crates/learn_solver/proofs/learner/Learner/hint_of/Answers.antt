@@ -1,8 +1,7 @@
 use Rattle.std.proofs.Common.{◌≡◌, ◌≢◌, ◌∙◌, ◌<◌, ◌≤◌, List, length, None, Some, sym, ap, arith}
 use Rattle.std.proofs.lemmas.Bool.{eqb-true, eqb-false, not-true, not-false}
 use Rattle.clause_arena.specs.Records.{Record, record_at}
-use Rattle.learn_solver.specs.declared.showing.Hint.TheVariants.{Falsified, Implies, NotUnit}
-use Rattle.learn_solver.proofs.Hinting.{from-held, from-first, from-same, from-other, from-end, fault-told}
+use Rattle.learn_solver.proofs.Hinting.{from-held, from-first, from-same, from-other, from-end}
 use Rattle.learn_solver.proofs.learner.Learner.hint_of.Goals.{then-not-has+in-None, then-not-has+in-Some+else-ne, else-not-has}
 use Rattle.learn_solver.proofs.learner.Learner.hint_of.Goals as goal
 
@@ -14,7 +13,7 @@ returns-then-ne c =
     let test = c.loop-place-test.true in
     let lt : c.loop-place.place < length (record_at c.args.self.now.trail.records c.args.at).lits = omega arith in
     let ne : c.in-Some.first ≢ c.lit_of-lit.result = eqb-false _ _ (not-true _ (sym c.ne.ensures ∙ c.if-ne.true)) in
-    fault-told c.args.falses.now (record_at c.args.self.now.trail.records c.args.at).lits NotUnit (from-other c.args.falses.now (record_at c.args.self.now.trail.records c.args.at).lits _ _ _ _ _ lt c.lit_of-lit.ensures.is (sym c.has.ensures ∙ c.if-not-has.true) ne c.in-Some.is c.loop-place.invariant)
+    sym (from-other c.args.falses.now (record_at c.args.self.now.trail.records c.args.at).lits _ _ _ _ _ lt c.lit_of-lit.ensures.is (sym c.has.ensures ∙ c.if-not-has.true) ne c.in-Some.is c.loop-place.invariant)
 
 pub loop-place-preserved : goal.loop-place-preserved
 loop-place-preserved c =
@@ -38,7 +37,7 @@ returns-in-None-open c =
     let end = c.len_of-place-end.ensures in
     let test = c.loop-place-test.false in
     let le : length (record_at c.args.self.now.trail.records c.args.at).lits ≤ c.loop-place.place = omega arith in
-    fault-told c.args.falses.now (record_at c.args.self.now.trail.records c.args.at).lits Falsified (from-end c.args.falses.now (record_at c.args.self.now.trail.records c.args.at).lits _ _ None _ le c.in-None-open.is c.loop-place.invariant)
+    sym (from-end c.args.falses.now (record_at c.args.self.now.trail.records c.args.at).lits _ _ None _ le c.in-None-open.is c.loop-place.invariant)
 
 pub returns-in-Some-open : goal.returns-in-Some-open
 returns-in-Some-open c =
@@ -47,4 +46,4 @@ returns-in-Some-open c =
     let end = c.len_of-place-end.ensures in
     let test = c.loop-place-test.false in
     let le : length (record_at c.args.self.now.trail.records c.args.at).lits ≤ c.loop-place.place = omega arith in
-    fault-told c.args.falses.now (record_at c.args.self.now.trail.records c.args.at).lits (Implies c.in-Some-open.lit) (from-end c.args.falses.now (record_at c.args.self.now.trail.records c.args.at).lits _ _ (Some c.in-Some-open.lit) _ le c.in-Some-open.is c.loop-place.invariant)
+    sym (from-end c.args.falses.now (record_at c.args.self.now.trail.records c.args.at).lits _ _ (Some c.in-Some-open.lit) _ le c.in-Some-open.is c.loop-place.invariant)

@@ -10,10 +10,10 @@ use Rattle.learn_solver.proofs.Guidance.{IsGuided-kept, IsGuided-implied}
 use Rattle.learn_solver.proofs.learner.Learner.learn.Goals as goal
 
 pub returns-in_err-learnt-clause-steps : goal.returns-in_err-learnt-clause-steps
-returns-in_err-learnt-clause-steps c = Steps-kept _ _ c.requires.sound (record { records = refl; trail_variables = refl; variables = refl; analyzer = c.learn.ensures.kept; order = refl; given = refl; waiting = refl })
+returns-in_err-learnt-clause-steps c = Steps-kept _ _ c.requires.sound (record { records = refl; trail_variables = refl; variables = refl; analyzer = c.learn.ensures.kept; order = refl; given = refl; last = refl; waiting = refl })
 
 pub note-requires-clause-sound : goal.note-requires-clause-sound
-note-requires-clause-sound c = IsSound-kept _ _ c.requires.sound (record { records = refl; trail_variables = refl; variables = refl; analyzer = c.learn.ensures.kept; order = c.met-2.ensures; given = refl; waiting = refl })
+note-requires-clause-sound c = IsSound-kept _ _ c.requires.sound (record { records = refl; trail_variables = refl; variables = refl; analyzer = c.learn.ensures.kept; order = c.met-2.ensures; given = refl; last = refl; waiting = refl })
 
 pub imply-requires-clause-unassigned : goal.imply-requires-clause-unassigned
 imply-requires-clause-unassigned c =
@@ -35,7 +35,7 @@ imply-requires-clause-reason c =
 
 pub returns-clause-steps : goal.returns-clause-steps
 returns-clause-steps c =
-    Steps-trans _ _ _ (Steps-kept c.args.self.now _ c.requires.sound (record { records = refl; trail_variables = refl; variables = refl; analyzer = c.learn.ensures.kept; order = c.met-2.ensures; given = refl; waiting = refl }))
+    Steps-trans _ _ _ (Steps-kept c.args.self.now _ c.requires.sound (record { records = refl; trail_variables = refl; variables = refl; analyzer = c.learn.ensures.kept; order = c.met-2.ensures; given = refl; last = refl; waiting = refl }))
     (Steps-trans _ _ _ c.in_ok-at.ensures.steps
     (Steps-trans _ _ _ c.go_back.ensures.steps
     (Steps-trail c.go_back.new.self c.imply.new.self c.go_back.ensures.steps.sound (ap (λ (t : TrailState). t.records) c.imply.ensures) (ap (λ (t : TrailState). t.variables) c.imply.ensures))))

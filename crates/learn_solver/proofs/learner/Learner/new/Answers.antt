@@ -15,14 +15,13 @@ none-sound = record {
   enough = omega arith;
   live = λ at lt. absurd (omega arith);
   numbered = λ at lt. absurd (omega arith);
-  apart = λ a b lt within. absurd (omega arith);
+  ascending = λ a b lt within. absurd (omega arith);
   from_one = λ at lt. absurd (omega arith);
-  most = λ at lt. absurd (omega arith);
   follow = λ bits h. refl;
 }
 
 -- a trail with no clauses is seen as the first state
-first-seen : (t : TrailState) (variables : ℕ) (lines : List Line) → t ≡ record { records = []; places = []; variables = variables; level = 0 } → lines ≡ [] → ◌≡◌ {A = SolverState} (record { variables = t.variables; state = state_of t.records 0; waiting = lines; idle = idle_of t.places t.records 0 }) (record { variables = variables; state = first_state []; waiting = []; idle = [] })
+first-seen : (t : TrailState) (variables : ℕ) (lines : List Line) → t ≡ record { records = []; places = []; variables = variables; level = 0; spare = 0 } → lines ≡ [] → ◌≡◌ {A = SolverState} (record { variables = t.variables; state = state_of t.records 0; waiting = lines; idle = idle_of t.places t.records 0 }) (record { variables = variables; state = first_state []; waiting = []; idle = [] })
 unfolding state_of idle_of
 first-seen t variables lines e h = rw (e, h) refl
 
@@ -34,6 +33,7 @@ returns-clause-sound c =
       analyzer = c.in_ok-new-2.ensures ∙ ap (λ (t : TrailState). t.variables) (sym e);
       order = ap length c.in_ok-new-3.ensures ∙ length-replicate c.args.variables false ∙ ap (λ (t : TrailState). t.variables) (sym e);
       records = subst (λ (t : TrailState). AreRecords t.records 0) (sym e) none-sound;
+      last = λ at lt. absurd (let size = ap (λ (t : TrailState). length t.records) e in omega arith);
       noted = λ at lit lt. absurd (omega arith);
     }
 

@@ -1,6 +1,6 @@
 use Rattle.std.proofs.Common.{◌∙◌, refl, sym}
 use Rattle.learn_solver.proofs.SameStates.{SameState-records}
-use Rattle.learn_solver.proofs.RecordLemmas.{AreRecords-same, AreNoted-same}
+use Rattle.learn_solver.proofs.RecordLemmas.{AreRecords-same, AreUpTo-same, AreNoted-same}
 use Rattle.learn_solver.proofs.Guidance.{IsGuided-propagated}
 use Rattle.learn_solver.proofs.Goings.{GoesTo-same}
 use Rattle.learn_solver.proofs.learner.Learner.propagate.Goals as goal
@@ -16,6 +16,7 @@ returns-clause-steps c =
         analyzer = s.analyzer ∙ sym kept.variables;
         order = s.order ∙ sym kept.variables;
         records = AreRecords-same l.trail.records c.propagate.new.self.records l.given s.records kept.records;
+        last = AreUpTo-same l.trail.records c.propagate.new.self.records l.last s.last kept.records;
         noted = AreNoted-same l.trail.records c.propagate.new.self.records l.given l.order s.noted kept.records;
       };
       goes = GoesTo-same _ _ kept.variables refl (SameState-records l.trail.records c.propagate.new.self.records l.given kept.records);

@@ -1,6 +1,6 @@
 use Rattle.std.proofs.Common.{◌∙◌, ◌++◌, ◌∷◌, [], ℕ, ap}
-use Rattle.learn_solver.specs.declared.showing.Hint.TheVariants.{Falsified, Implies, NotUnit}
-use Rattle.learn_solver.proofs.Hinting.{Does-found, HasCome-start, HasCome-next, IsTaught-come, no-fault, unknown-fault, not_unit-fault, end-fault}
+use Rattle.lits_core.specs.declared.Hint.TheVariants.{Falsified, Implies, NotUnit}
+use Rattle.learn_solver.proofs.Hinting.{Does-found, HasCome-start, HasCome-next, IsTaught-come, Suffice-come, no-fault, unknown-fault, not_unit-fault, end-fault}
 use Rattle.learn_solver.proofs.learner.Learner.shown_by.Goals as goal
 
 pub loop-place-init : goal.loop-place-init
@@ -22,6 +22,12 @@ returns-in-Falsified-clause-shown c =
     let does = Does-found c.args.self.now.trail.records c.args.self.now.given c.args.hints.now c.deref.result.now c.loop-place.falses.items c.loop-place.place c.in-Some.at c.hint_of.result Falsified
     c.requires.sound.records c.loop-place-test.true c.in-Some.ensures.clause.0 c.in-Some.ensures.named c.deref.ensures.value c.hint_of.ensures c.in-Falsified.is in
     no-fault c.args.self.now.trail.records c.args.self.now.given c.args.lits.now c.args.hints.now c.loop-place.falses.items c.loop-place.place c.in-Some.at c.requires.sound.records c.loop-place.invariant does
+
+pub returns-in-Falsified-clause-enough : goal.returns-in-Falsified-clause-enough
+returns-in-Falsified-clause-enough c =
+    let does = Does-found c.args.self.now.trail.records c.args.self.now.given c.args.hints.now c.deref.result.now c.loop-place.falses.items c.loop-place.place c.in-Some.at c.hint_of.result Falsified
+    c.requires.sound.records c.loop-place-test.true c.in-Some.ensures.clause.0 c.in-Some.ensures.named c.deref.ensures.value c.hint_of.ensures c.in-Falsified.is in
+    Suffice-come c.args.self.now.trail.records c.args.self.now.given c.args.lits.now c.args.hints.now c.loop-place.falses.items c.loop-place.place c.in-Some.at c.requires.sound.records c.loop-place.invariant does
 
 pub returns-in-NotUnit-clause-fault : goal.returns-in-NotUnit-clause-fault
 returns-in-NotUnit-clause-fault c =

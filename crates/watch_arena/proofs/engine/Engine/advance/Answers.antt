@@ -1,7 +1,4 @@
-use Rattle.std.proofs.Common.{ℕ, Option, length, subst, arith}
-use Rattle.std.specs.Prelude.{MatchOption}
-use Rattle.watch_arena.specs.Lists.{list_at}
-use Rattle.watch_arena.specs.Engines.{AllAgree, IsFalse}
+use Rattle.std.proofs.Common.{arith}
 use Rattle.watch_arena.proofs.Visiting.{head_lit, Advances-head, places_at_most}
 use Rattle.watch_arena.proofs.engine.Engine.advance.Goals as goal
 
@@ -20,7 +17,6 @@ overflow_add-self c =
 
 pub returns-in-None-clause-advances : goal.returns-in-None-clause-advances
 returns-in-None-clause-advances c =
-    let P : Option ℕ → Type 0 = λ o. MatchOption o (AllAgree c.pass.new.self c.negate-lit.result (length (list_at c.pass.new.self.watches c.negate-lit.result))) (λ at. IsFalse c.pass.new.self at) in
     Advances-head c.args.self.now c.pass.new.self c.negate-lit.result c.requires.sound c.pass.ensures.visits c.requires.head
     (head_lit c.args.self.now c.get.result.now c.negate-lit.result c.requires.sound c.requires.head c.get.ensures c.negate-lit.ensures).2
-    (subst P c.in-None.is c.in_ok-at.ensures.outcome)
+    c.in-None.ensures.outcome

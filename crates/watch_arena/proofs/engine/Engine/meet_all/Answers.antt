@@ -14,7 +14,7 @@ loop-self-preserved c = record {
 pub loop-self-smaller : goal.loop-self-smaller
 loop-self-smaller c =
     let on = c.in_default.ensures.outcome in
-    let size = ap length c.visit_short.ensures.steps.alone in
+    let size = ap length c.visit_short.ensures.steps.shorts in
     let test = c.loop-self-test.true in
     let count = c.len.ensures in
     omega arith

@@ -1,57 +1,41 @@
-use Rattle.std.proofs.Common.{◌<◌, ℕ, List, length, subst, ap, arith}
-use Rattle.watch_arena.specs.declared.engine.Visit.{Visit}
-use Rattle.watch_arena.specs.Lists.{list_at}
-use Rattle.watch_arena.specs.Engines.{Outcome}
-use Rattle.watch_arena.proofs.Visiting.{Visits-refl, Visits-trans, AllAgree-kept, AllAgree-gone, length-gone}
+use Rattle.std.proofs.Common.{◌∙◌, Option, subst, sym, ap}
+use Rattle.clause_arena.specs.declared.place.Link.{Link}
+use Rattle.watch_arena.specs.Chains.{head_of}
+use Rattle.watch_arena.specs.Engines.{IsWalking}
+use Rattle.watch_arena.proofs.Visiting.{Visits-refl, Visits-trans, Visits-range}
+use Rattle.watch_arena.proofs.Passing.{IsEntry-walking, IsWalking-head, AllAgree-walked, walk_falls}
 use Rattle.watch_arena.proofs.engine.Engine.pass.Goals as goal
 
-pub returns-in_err-visit-clause-visits : goal.returns-in_err-visit-clause-visits
-returns-in_err-visit-clause-visits c =
-    Visits-trans c.args.self.now c.loop-i.self c.visit.new.self c.args.lit c.loop-i.invariant.visits c.visit.ensures.visits
-
-pub loop-i-init : goal.loop-i-init
-loop-i-init c = record {
+pub loop-cur-init : goal.loop-cur-init
+loop-cur-init c = record {
   visits = Visits-refl c.args.self.now c.args.lit c.requires.sound;
-  agree = λ j lt. absurd (omega arith);
-  within = omega arith;
+  walking = IsWalking-head c.args.self.now c.args.lit c.head-cur.result c.requires.sound c.requires.range (c.head-cur.ensures ∙ ap (head_of c.args.self.now.chains) c.code.ensures);
 }
 
-pub loop-i-preserved-in-Kept : goal.loop-i-preserved-in-Kept
-loop-i-preserved-in-Kept c =
-    let P : Visit → Type 0 = λ v. Outcome c.loop-i.self c.visit.new.self c.args.lit c.loop-i.i v in
-    let o = subst P c.in-Kept.is c.in_ok-visit.ensures.outcome in
-    let same = ap (λ (ls : List (List ℕ)). length (list_at ls c.args.lit)) o.0 in
-    let size = ap (λ (l : ℕ). length (list_at c.loop-i.self.watches l)) c.code.ensures in
-    let count = c.len.ensures in
-    let test = c.loop-i-test.true in
-    record {
-      visits = Visits-trans c.args.self.now c.loop-i.self c.visit.new.self c.args.lit c.loop-i.invariant.visits c.visit.ensures.visits;
-      agree = AllAgree-kept c.loop-i.self c.visit.new.self c.args.lit c.loop-i.i c.visit.ensures.visits o.0 o.1 c.loop-i.invariant.agree;
-      within = omega arith;
-    }
+pub link-next-requires-clause-of_the_list : goal.link-next-requires-clause-of_the_list
+link-next-requires-clause-of_the_list c =
+    (IsEntry-walking c.loop-cur.self c.args.lit c.loop-cur.prev c.loop-cur.cur c.in-Some.link c.loop-cur.invariant.visits.sound (Visits-range c.args.self.now c.loop-cur.self c.args.lit c.args.lit c.loop-cur.invariant.visits c.requires.range) c.in-Some.is c.loop-cur.invariant.walking).within
 
-pub loop-i-preserved : goal.loop-i-preserved
-loop-i-preserved c =
-    let P : Visit → Type 0 = λ v. Outcome c.loop-i.self c.visit.new.self c.args.lit c.loop-i.i v in
-    let o = subst P c.in-Gone.is c.in_ok-visit.ensures.outcome in
-    let size = ap (λ (l : ℕ). length (list_at c.loop-i.self.watches l)) c.code.ensures in
-    let count = c.len.ensures in
-    let test = c.loop-i-test.true in
-    let within : c.loop-i.i < length (list_at c.loop-i.self.watches c.args.lit) = omega arith in
-    let less = length-gone c.loop-i.self c.visit.new.self c.args.lit c.loop-i.i within o in
-    record {
-      visits = Visits-trans c.args.self.now c.loop-i.self c.visit.new.self c.args.lit c.loop-i.invariant.visits c.visit.ensures.visits;
-      agree = AllAgree-gone c.loop-i.self c.visit.new.self c.args.lit c.loop-i.i c.visit.ensures.visits within o c.loop-i.invariant.agree;
-      within = omega arith;
-    }
+pub link-next-requires-clause-slot : goal.link-next-requires-clause-slot
+link-next-requires-clause-slot c =
+    (IsEntry-walking c.loop-cur.self c.args.lit c.loop-cur.prev c.loop-cur.cur c.in-Some.link c.loop-cur.invariant.visits.sound (Visits-range c.args.self.now c.loop-cur.self c.args.lit c.args.lit c.loop-cur.invariant.visits c.requires.range) c.in-Some.is c.loop-cur.invariant.walking).slot_is
 
 pub returns-in-False-clause-visits : goal.returns-in-False-clause-visits
-returns-in-False-clause-visits c =
-    Visits-trans c.args.self.now c.loop-i.self c.visit.new.self c.args.lit c.loop-i.invariant.visits c.visit.ensures.visits
+returns-in-False-clause-visits c = Visits-trans c.args.self.now c.loop-cur.self c.visit.new.self c.args.lit c.loop-cur.invariant.visits c.visit.ensures.visits
+
+pub loop-cur-smaller : goal.loop-cur-smaller
+loop-cur-smaller c =
+    let range = Visits-range c.args.self.now c.loop-cur.self c.args.lit c.args.lit c.loop-cur.invariant.visits c.requires.range in
+    walk_falls c.loop-cur.self c.visit.new.self c.args.lit c.loop-cur.prev c.in-Behind.link c.loop-cur.cur c.in-Some.link c.link-next.result c.loop-cur.invariant.visits.sound c.visit.ensures.visits range c.in-Some.is c.loop-cur.invariant.walking c.link-next.ensures c.in-Behind.ensures.outcome c.visit.ensures.ahead
+
+pub loop-cur-preserved : goal.loop-cur-preserved
+loop-cur-preserved c = record {
+  visits = Visits-trans c.args.self.now c.loop-cur.self c.visit.new.self c.args.lit c.loop-cur.invariant.visits c.visit.ensures.visits;
+  walking = subst (λ (o : Option Link). IsWalking c.visit.new.self c.args.lit c.in-Behind.link o) (sym c.link-next.ensures) c.in-Behind.ensures.outcome;
+}
 
 pub returns-clause-outcome : goal.returns-clause-outcome
-returns-clause-outcome c j lt =
-    let size = ap (λ (l : ℕ). length (list_at c.loop-i.self.watches l)) c.code.ensures in
-    let count = c.len.ensures in
-    let test = c.loop-i-test.false in
-    c.loop-i.invariant.agree j (omega arith)
+returns-clause-outcome c =
+    let range = Visits-range c.args.self.now c.loop-cur.self c.args.lit c.args.lit c.loop-cur.invariant.visits c.requires.range in
+    let w = subst (λ (o : Option Link). IsWalking c.loop-cur.self c.args.lit c.loop-cur.prev o) (c.in_default.is) c.loop-cur.invariant.walking in
+    AllAgree-walked c.loop-cur.self c.args.lit c.loop-cur.prev c.loop-cur.invariant.visits.sound range w

@@ -1,14 +1,13 @@
-use Rattle.std.proofs.Common.{◌-◌, ◌≤◌, length}
-use Rattle.watch_arena.specs.Lists.{list_at}
-use Rattle.watch_arena.specs.Engines.{Visits, AllAgree}
+use Rattle.std.proofs.Common.{◌*◌, length}
+use Rattle.watch_arena.specs.Engines.{Visits, IsWalking}
+use Rattle.watch_arena.proofs.Walked.{count_from}
 use Rattle.watch_arena.proofs.engine.Engine.pass.Given as goal
 
-abbrev pub invariant-loop-i : goal.invariant-loop-i
-invariant-loop-i l = record {
+abbrev pub invariant-loop-cur : goal.invariant-loop-cur
+invariant-loop-cur l = record {
   visits : Visits l.initial.self l.self l.lit;
-  agree : AllAgree l.self l.lit l.i;
-  within : l.i ≤ length (list_at l.self.watches l.lit);
+  walking : IsWalking l.self l.lit l.prev l.cur;
 }
 
-abbrev pub decreases-loop-i : goal.decreases-loop-i
-decreases-loop-i l = length (list_at l.self.watches l.lit) - l.i
+abbrev pub decreases-loop-cur : goal.decreases-loop-cur
+decreases-loop-cur l = count_from (2 * length l.self.arena) l.self.arena l.cur

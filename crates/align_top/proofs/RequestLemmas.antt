@@ -1,0 +1,106 @@
+-- What holds of each request that words make.
+use Rattle.std.proofs.Common.{◌≡◌, ℕ, Bool, true, false, List, [], ◌∷◌, Option, None, Some, Result, Ok, Err, IfSome, IfNone, refl, ap, subst}
+use Rattle.std.specs.Prelude.{not, ◌||◌, ◌&&◌, cond, find, option_map, option_and_then, unwrap_or, bytes_eq}
+use Rattle.std.specs.List.{list_any}
+use Rattle.align_top.specs.declared.Command.{Command}
+use Rattle.align_top.specs.declared.Command.TheVariants as command
+use Rattle.align_top.specs.declared.Key.{Key}
+use Rattle.align_top.specs.declared.Key.TheVariants.{In, Nodes, Worlds, Token, Resume}
+use Rattle.align_top.specs.declared.Operand.{Operand}
+use Rattle.align_top.specs.declared.Request.{Request}
+use Rattle.align_top.specs.declared.UsageKind.{UsageKind}
+use Rattle.align_top.specs.Words.{row_of, number_of, fail_if, need, and_then, command_named, operands_of, same_key, is_given, value_of, limit_of, is_lacking, lacks_token, is_same_value, has_same_name, request_for, request_of}
+use Rattle.align_top.specs.Steps.{IsAskable}
+
+-- a value that comes of some steps comes of each
+need_ok : {X Y : Type 0} (o : Option X) (kind : UsageKind) (further : X → Result Y UsageKind) (y : Y) → need o kind further ≡ Ok y → (x : X) × (further x ≡ Ok y)
+need_ok None kind further y e = cc
+need_ok (Some x) kind further y e = (x, e)
+
+and_ok : {X Y : Type 0} (r : Result X UsageKind) (further : X → Result Y UsageKind) (y : Y) → and_then r further ≡ Ok y → (x : X) × (further x ≡ Ok y)
+and_ok (Ok x) further y e = (x, e)
+and_ok (Err kind) further y e = cc
+
+fail_ok : {Y : Type 0} (test : Bool) (kind : UsageKind) (rest : Result Y UsageKind) (y : Y) → fail_if test kind rest ≡ Ok y → (test ≡ false) × (rest ≡ Ok y)
+fail_ok true kind rest y e = cc
+fail_ok false kind rest y e = (refl, e)
+
+-- what is found is there, and what is there is found
+find_none : (f : Operand → Bool) (operands : List Operand) → find f operands ≡ None → list_any f operands ≡ false
+find_none f [] e = refl
+find_none f (o ∷ os) e = by (f o) (find_none f os) e
+  where
+    by : (b : Bool) → (find f os ≡ None → list_any f os ≡ false) → cond b (Some o) (find f os) ≡ None → (b || list_any f os) ≡ false
+    by true further found = cc
+    by false further rest = further rest
+
+any_none : (f : Operand → Bool) (operands : List Operand) → list_any f operands ≡ false → find f operands ≡ None
+any_none f [] e = refl
+any_none f (o ∷ os) e = by (f o) (any_none f os) e
+  where
+    by : (b : Bool) → (list_any f os ≡ false → find f os ≡ None) → (b || list_any f os) ≡ false → cond b (Some o) (find f os) ≡ None
+    by true further there = cc
+    by false further rest = further rest
+
+map_none : {X Y : Type 0} (f : X → Y) (o : Option X) → option_map f o ≡ None → o ≡ None
+map_none f None e = refl
+map_none f (Some x) e = cc
+
+not_given : (operands : List Operand) (key : Key) → value_of operands key ≡ None → is_given operands key ≡ false
+not_given operands key e = find_none (λ operand. same_key operand.key key) operands (map_none (λ operand. operand.value) (find (λ operand. same_key operand.key key) operands) e)
+
+no_limit : (operands : List Operand) (key : Key) → is_given operands key ≡ false → limit_of operands key ≡ None
+no_limit operands key e =
+    ap (λ (o : Option Operand). option_and_then number_of (option_map (λ operand. operand.value) o)) (any_none (λ operand. same_key operand.key key) operands e)
+
+-- the tests of the whole list, one by one
+second_false : (a b c : Bool) → (a || b || c) ≡ false → b ≡ false
+second_false true b c e = cc
+second_false false true c e = cc
+second_false false false c e = refl
+
+limits_false : (nodes worlds token : Bool) → ((nodes || worlds) && not token) ≡ false → token ≡ false → (nodes ≡ false) × (worlds ≡ false)
+limits_false nodes worlds true h e = cc
+limits_false true worlds false h e = cc
+limits_false false true false h e = cc
+limits_false false false false h e = (refl, refl)
+
+names_apart : (input token resume : Option (List ℕ)) → (input ≡ None → ⊥) → (is_same_value input token || is_same_value input resume || is_same_value token resume) ≡ false
+    → IfSome resume (λ name. bytes_eq (unwrap_or input []) name ≡ false)
+names_apart input token None given same = tt
+names_apart None token (Some name) given same = absurd (given refl)
+names_apart (Some input) token (Some name) given same = second_false (is_same_value (Some input) token) (bytes_eq input name) (is_same_value token (Some name)) same
+
+limited : (operands : List Operand) (token : Option (List ℕ)) → value_of operands Token ≡ token → lacks_token operands ≡ false
+    → IfNone token ((limit_of operands Nodes ≡ None) × (limit_of operands Worlds ≡ None))
+limited operands (Some name) e lacks = tt
+limited operands None e lacks =
+    let none = limits_false (is_given operands Nodes) (is_given operands Worlds) (is_given operands Token) lacks (not_given operands Token e) in
+    (no_limit operands Nodes none.0, no_limit operands Worlds none.1)
+
+input_given : (operands : List Operand) → is_lacking (row_of command.Align) operands ≡ false → value_of operands In ≡ None → ⊥
+input_given operands lacking none = by (is_given operands In) (not_given operands In none) lacking
+  where
+    by : (b : Bool) → b ≡ false → (not b || false) ≡ false → ⊥
+    by true e h = cc
+    by false e h = cc
+
+askable_for : (c : Command) (operands : List Operand) → is_lacking (row_of c) operands ≡ false → lacks_token operands ≡ false → has_same_name operands ≡ false → IsAskable (request_for c operands)
+askable_for command.Align operands lacking lacks same = (
+  names_apart (value_of operands In) (value_of operands Token) (value_of operands Resume) (input_given operands lacking) same,
+  limited operands (value_of operands Token) refl lacks,
+)
+
+ok_same : (a b : Request) (x y : Result Request UsageKind) → x ≡ Ok a → y ≡ Ok b → x ≡ y → a ≡ b
+ok_same a b x y p q e = cc
+
+-- the names that words give are apart, and a limit has a token
+pub askable : (words : List (List ℕ)) (r : Request) → request_of words ≡ Ok r → IsAskable r
+askable [] r e = cc
+askable (word ∷ words) r e =
+    let named = need_ok (command_named word) _ _ r e in
+    let operands = and_ok (operands_of (row_of named.0) [] words) _ r named.1 in
+    let lacking = fail_ok (is_lacking (row_of named.0) operands.0) _ _ r operands.1 in
+    let lacks = fail_ok (lacks_token operands.0) _ _ r lacking.1 in
+    let same = fail_ok (has_same_name operands.0) _ _ r lacks.1 in
+    subst IsAskable (ok_same (request_for named.0 operands.0) r (Ok (request_for named.0 operands.0)) (Ok r) refl refl same.1) (askable_for named.0 operands.0 lacking.0 lacks.0 same.0)

@@ -1,0 +1,17 @@
+use Rattle.std.proofs.Common.{rules, Ok}
+use Rattle.align_top.specs.Run.{store_state}
+use Rattle.align_top.specs.Steps.{start_in}
+use Rattle.align_top.proofs.AskedLemmas.{comes_of, without}
+use Rattle.align_top.proofs.asking.start_under.Goals as goal
+
+pub returns-in-Ok-clause-start : goal.returns-in-Ok-clause-start
+returns-in-Ok-clause-start g c =
+    comes_of (g.S.Store.held c.args.store.now) c.args.name.now c.in_ok-bytes.bytes.items c.deref.result.now (start_in c.args.problem.now) (Ok c.in-Ok.start)
+    c.in_ok-bytes.ensures.front (search rules) c.in-Ok.ensures.start
+
+pub returns-clause-ended : goal.returns-clause-ended
+returns-clause-ended g c =
+    without (store_state (g.S.Store.held c.args.store.now) (g.S.Store.read_faults c.args.store.now) (g.S.Store.write_faults c.args.store.now))
+    (store_state (g.S.Store.held c.bytes_under.new.store) (g.S.Store.read_faults c.bytes_under.new.store) (g.S.Store.write_faults c.bytes_under.new.store))
+    c.args.name.now c.in_ok-bytes.bytes.items c.deref.result.now (start_in c.args.problem.now) c.in-Err.status
+    c.in_ok-bytes.ensures.front (search rules) c.in_ok-bytes.ensures.quiet c.in-Err.ensures.ended

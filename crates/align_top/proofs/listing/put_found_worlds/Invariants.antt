@@ -1,0 +1,17 @@
+use Rattle.std.proofs.Common.{◌≡◌, None, length}
+use Rattle.constraint_set.specs.Shape.{shape_of}
+use Rattle.align_top.specs.Putting.{worlds_from, IsPutTo}
+use Rattle.align_top.proofs.listing.put_found_worlds.Given as goal
+
+abbrev pub decreases-worlds : goal.decreases-worlds
+decreases-worlds g l = length (worlds_from l.order.problem l.search.at)
+
+abbrev pub invariant-worlds : goal.invariant-worlds
+invariant-worlds g l = record {
+  problem : l.search.problem ≡ l.order.problem;
+  from : l.search.from ≡ l.order.start;
+  shape : l.asker.shape ≡ shape_of l.order.problem;
+  unbounded : l.search.to ≡ None;
+  put : IsPutTo l.order l.search.at (g.W.Sink.received l.initial.out) (g.W.Sink.received l.out) l.count l.nodes.left l.worlds;
+  faults : g.W.Sink.faults l.out ≡ g.W.Sink.faults l.initial.out;
+}

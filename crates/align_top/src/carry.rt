@@ -1,0 +1,149 @@
+//! An order carried out: its listing, the token of its cut, and the last line.
+ghost use Rattle.std.specs.Prelude.{◌≡◌, ◌≤◌, ◌++◌, [], ◌∷◌, length, None, Some, option_map, string_bytes, IfOk, IfNone, OnOk};
+ghost use Rattle.outer_store.specs.Bytes.{GrownInPart, added};
+ghost use Rattle.outer_store.specs.Contents.{OthersKept};
+ghost use Rattle.outer_store.specs.Faults.{Rose, IfFailed};
+ghost use Rattle.world_model.specs.Problem.{pair_count};
+ghost use Rattle.world_model.specs.Node.{IsCut};
+ghost use Rattle.constraint_set.specs.Facts.{IsAsRead};
+ghost use Rattle.resume_token.specs.Token.{token_text};
+ghost use Rattle.align_top.specs.Output.{complete_line, cut_line};
+ghost use Rattle.align_top.specs.Run.{store_state, sink_state, IsQuiet, Leaves, LeavesPiece};
+ghost use Rattle.align_top.specs.Steps.{status_at, IsReady, IsCutEnded, IsEnded, IsCarriedOut};
+
+use crate::{Listed, Order, Status, Word, put_line, put_worlds};
+use constraint_set::Problem;
+use outer_store::{Sink, Store, StoreFault};
+use rcc5_core::Position;
+use resume_token::print_token;
+use std::alloc::{AllocError, Global};
+
+fn complete_words(alloc: Global, count: u64) -> Result<String, AllocError>
+    ensures { IfOk result (λ words. string_bytes words ++ 10 ∷ [] ≡ complete_line count) }
+{
+    format!(in alloc; "complete {count}")
+}
+
+fn cut_words(alloc: Global, count: u64) -> Result<String, AllocError>
+    ensures { IfOk result (λ words. string_bytes words ++ 10 ∷ [] ≡ cut_line count) }
+{
+    format!(in alloc; "cut {count}")
+}
+
+// How a whole listing of so many worlds ends.
+fn whole_status(start: &Position, count: u64) -> Status
+    ensures { result ≡ status_at start.now None count }
+{
+    if start.is_empty() && count == 0 {
+        Status::NoWorld
+    } else {
+        Status::Done
+    }
+}
+
+// Puts the last line of a whole listing.
+fn end_whole<W: Sink>(
+    alloc: Global,
+    out: &mut W,
+    start: &Position,
+    count: u64,
+) -> Result<Status, StoreFault>
+    ensures ended { IfOk result (λ status. status ≡ status_at start.now None count) }
+    ensures put { LeavesPiece result (complete_line count) (sink_state (W.received out.old) (W.faults out.old)) (sink_state (W.received out.new) (W.faults out.new)) }
+{
+    let words = complete_words(alloc, count)?;
+    put_line(alloc, out, words.as_bytes())?;
+    Ok(whole_status(start, count))
+}
+
+// Makes a name hold these bytes alone.
+#[tactic(auto, using(crate::proofs::CarryLemmas::write_rules))]
+fn write_file<S: Store>(store: &mut S, name: &str, bytes: &[u8]) -> Result<(), StoreFault>
+    ensures ok { OnOk result (S.held store.new name.now ≡ option_map (λ _. bytes.now) (S.held store.old name.now)) }
+    ensures others { OthersKept name.now (S.held store.old) (S.held store.new) }
+    ensures cause { IfFailed result (Rose (S.write_faults store.old name.now) (S.write_faults store.new name.now)) (IsQuiet (store_state (S.held store.old) (S.read_faults store.old) (S.write_faults store.old)) (store_state (S.held store.new) (S.read_faults store.new) (S.write_faults store.new))) }
+{
+    store.create(name)?;
+    store.append(name, bytes)
+}
+
+// Writes the token of a position.
+fn write_token<S: Store>(
+    alloc: Global,
+    store: &mut S,
+    name: &str,
+    problem: &Problem,
+    position: &Position,
+) -> Result<(), StoreFault>
+    requires problem { IsAsRead problem.now }
+    requires position { length position.now ≤ pair_count problem.now }
+    ensures ok { OnOk result (S.held store.new name.now ≡ option_map (λ _. token_text problem.now position.now) (S.held store.old name.now)) }
+    ensures others { OthersKept name.now (S.held store.old) (S.held store.new) }
+    ensures cause { IfFailed result (Rose (S.write_faults store.old name.now) (S.write_faults store.new name.now)) (IsQuiet (store_state (S.held store.old) (S.read_faults store.old) (S.write_faults store.old)) (store_state (S.held store.new) (S.read_faults store.new) (S.write_faults store.new))) }
+{
+    let token = print_token(alloc, problem, position)?;
+    write_file(store, name, &token)
+}
+
+// Writes the token of a cut, and then puts the last line.
+fn end_cut<S: Store, W: Sink>(
+    alloc: Global,
+    store: &mut S,
+    out: &mut W,
+    problem: &Problem,
+    name: &str,
+    cut: Position,
+    count: u64,
+) -> Result<Status, StoreFault>
+    requires problem { IsAsRead problem.now }
+    requires cut { length cut ≤ pair_count problem.now }
+    ensures { IsCutEnded result problem.now cut count name.now (store_state (S.held store.old) (S.read_faults store.old) (S.write_faults store.old)) (store_state (S.held store.new) (S.read_faults store.new) (S.write_faults store.new)) (sink_state (W.received out.old) (W.faults out.old)) (sink_state (W.received out.new) (W.faults out.new)) }
+{
+    write_token(alloc, store, name, problem, &cut)?;
+    let words = cut_words(alloc, count)?;
+    put_line(alloc, out, words.as_bytes())?;
+    Ok(Status::Cut(cut))
+}
+
+// Ends a listing, by whether it was cut. One that was has a limit, and so a name for its token.
+fn end_listing<S: Store, W: Sink>(
+    alloc: Global,
+    store: &mut S,
+    out: &mut W,
+    order: &Order,
+    token: &Option<Word>,
+    listed: Listed,
+) -> Result<Status, StoreFault>
+    requires ready { IsReady order.now token.now }
+    requires cut { IsCut order.now.problem order.now.start order.now.nodes order.now.worlds listed.cut }
+    ensures { IsEnded result order.now listed.cut listed.count token.now (store_state (S.held store.old) (S.read_faults store.old) (S.write_faults store.old)) (store_state (S.held store.new) (S.read_faults store.new) (S.write_faults store.new)) (sink_state (W.received out.old) (W.faults out.old)) (sink_state (W.received out.new) (W.faults out.new)) }
+{
+    match (listed.cut, token) {
+        (None, _) => end_whole(alloc, out, &order.start, listed.count),
+        (Some(cut), Some(name)) => end_cut(
+            alloc,
+            store,
+            out,
+            &order.problem,
+            name.text(),
+            cut,
+            listed.count,
+        ),
+        (Some(_), None) => unreachable!(),
+    }
+}
+
+/// Puts the listing of an order, writes the token of its cut, if there is one, and puts the last line.
+pub(crate) fn carry_out<S: Store, W: Sink>(
+    alloc: Global,
+    store: &mut S,
+    out: &mut W,
+    order: &Order,
+    token: &Option<Word>,
+) -> Result<Status, StoreFault>
+    requires { IsReady order.now token.now }
+    ensures { IsCarriedOut result order.now token.now (store_state (S.held store.old) (S.read_faults store.old) (S.write_faults store.old)) (store_state (S.held store.new) (S.read_faults store.new) (S.write_faults store.new)) (sink_state (W.received out.old) (W.faults out.old)) (sink_state (W.received out.new) (W.faults out.new)) }
+{
+    let listed = put_worlds(alloc, out, order)?;
+    end_listing(alloc, store, out, order, token, listed)
+}

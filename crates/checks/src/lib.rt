@@ -1,0 +1,17 @@
+//! Tests that set crates beside each other which know nothing of one another, over problems as texts.
+#![tactic(auto)]
+
+#[cfg(test)]
+mod both_askers;
+#[cfg(test)]
+mod few_questions;
+#[cfg(test)]
+mod nodes;
+#[cfg(test)]
+mod plain;
+#[cfg(test)]
+mod problems;
+#[cfg(test)]
+mod searches;
+#[cfg(test)]
+mod solver_and_book;

@@ -1,0 +1,9 @@
+use Rattle.std.proofs.Common.{◌≡◌}
+use Rattle.learn_solver.proofs.Remaining.{ForgottenTo}
+use Rattle.learn_solver.proofs.learner.Learner.forget_idle.Given as goal
+
+abbrev pub invariant-loop-number : goal.invariant-loop-number
+invariant-loop-number l = record {
+  same : l.self ≡ record l.initial.self { trail = l.self.trail };
+  forgets : ForgottenTo l.initial.self.trail l.self.trail l.initial.self.given l.number;
+}

@@ -1,0 +1,223 @@
+-- Rows of which some places have to stay: when places satisfy them, and what is added to them or taken away.
+use Rattle.std.proofs.Common.{◌≡◌, ℕ, ◌<◌, ◌≤◌, ◌↔◌, Bool, true, false, ◌&&◌, not, inl, inr, refl, sym, ap, ◌∙◌, subst}
+use Rattle.std.specs.Prelude.{IsTrue}
+use Rattle.std.specs.List.{list_all}
+use Rattle.std.proofs.lemmas.Bool.{and_from, and_parts, true≢false, false≢true, cases_Bool}
+use Rattle.rcc5_core.specs.declared.Rel.{Rel}
+use Rattle.rcc5_core.specs.declared.Region.{Region}
+use Rattle.rcc5_core.specs.declared.Regions.{Regions}
+use Rattle.rcc5_core.specs.declared.Region.TheVariants.{LeftOnly, Both, RightOnly}
+use Rattle.rcc5_core.specs.Relation.{all_rels}
+use Rattle.rcc5_core.specs.Region.{row_of, all_regions}
+use Rattle.world_model.specs.Family.{implies}
+use Rattle.world_model.proofs.Members.{all_at}
+use Rattle.world_model.proofs.PointSets.{implies_at, In-all_rels, In-all_regions}
+use Rattle.point_table.specs.declared.words.Cells.{Cells}
+use Rattle.point_table.specs.Rows.{SomePlace, BitRows, bit_in, in_cells, all_cells, other_cells}
+use Rattle.point_table.specs.Ladders.{lies_by, is_left_by, is_occupied, AreWithin, Satisfies, AreMet, left_at, IsNarrowed}
+
+-- a place of one row is one of another
+pub some_alike : (f g : ℕ → Bool) → ((k : ℕ) → f k ≡ true → g k ≡ true) → SomePlace f → SomePlace g
+some_alike f g to some = record { place = some.place; passes = to some.place some.passes }
+
+-- a place that three tests pass, by what the tests show
+pub shown_some : (a b f g h : ℕ → Bool) → ((k : ℕ) → a k ≡ f k) → ((k : ℕ) → b k ≡ g k) → SomePlace (λ k. a k && b k && h k) → SomePlace (λ k. f k && g k && h k)
+shown_some a b f g h one other some = record {
+  place = some.place;
+  passes = ap (λ x. x && g some.place && h some.place) (sym (one some.place)) ∙ ap (λ x. a some.place && x && h some.place) (sym (other some.place)) ∙ some.passes;
+}
+
+pub three_parts : (a b c : Bool) → (a && b && c) ≡ true → (a ≡ true) × (b ≡ true) × (c ≡ true)
+three_parts true true true h = (refl, refl, refl)
+three_parts true true false h = absurd (false≢true h)
+three_parts true false c h = absurd (false≢true h)
+three_parts false b c h = absurd (false≢true h)
+
+pub three_from : (a b c : Bool) → a ≡ true → b ≡ true → c ≡ true → (a && b && c) ≡ true
+three_from a b c ha hb hc = and_from (a && b) c (and_from a b ha hb) hc
+
+-- whether both bits of a test of two pass it
+abbrev every : (Bool → Bool) → Bool
+every test = test true && test false
+
+each_at : (test : Bool → Bool) → every test ≡ true → (b : Bool) → test b ≡ true
+each_at test h true = (and_parts (test true) (test false) h).0
+each_at test h false = (and_parts (test true) (test false) h).1
+
+occupied_table : list_all (λ rel. list_all (λ region. every (λ a. every (λ b. implies (is_occupied (row_of rel) region && lies_by region a b) (is_left_by rel a b)))) all_regions) all_rels ≡ true
+occupied_table = refl
+
+-- what lies in a region that a relation occupies may be there by the relation
+occupied_left : (rel : Rel) (region : Region) (a b : Bool) → is_occupied (row_of rel) region ≡ true → lies_by region a b ≡ true → is_left_by rel a b ≡ true
+occupied_left rel region a b occupied lies =
+    let test = λ (rel : Rel) (region : Region) (a b : Bool). implies (is_occupied (row_of rel) region && lies_by region a b) (is_left_by rel a b) in
+    let on_rel = all_at (λ rel. list_all (λ region. every (λ a. every (test rel region a))) all_regions) occupied_table (In-all_rels rel) in
+    let on_region = all_at (λ region. every (λ a. every (test rel region a))) on_rel (In-all_regions region) in
+    let at = each_at (test rel region a) (each_at (λ a. every (test rel region a)) on_region a) b in
+    implies_at (is_occupied (row_of rel) region && lies_by region a b) (is_left_by rel a b) at (and_from (is_occupied (row_of rel) region) (lies_by region a b) occupied lies)
+
+-- the other cells
+others_not : (cells : Cells) (a b : Bool) → in_cells (other_cells cells) a b ≡ not (in_cells cells a b)
+others_not cells true true = refl
+others_not cells true false = refl
+others_not cells false true = refl
+others_not cells false false = refl
+
+-- cells are those that a relation leaves
+abbrev pub AreKept : Cells → Rel → Type 0
+AreKept kept rel = (a b : Bool) → in_cells kept a b ≡ is_left_by rel a b
+
+-- a relation of two sets loses none of some places
+abbrev pub LosesNone : (ℕ → Bool) → (ℕ → Bool) → Rel → (ℕ → Bool) → Type 0
+LosesNone l r rel f = (k : ℕ) → f k ≡ true → is_left_by rel (l k) (r k) ≡ true
+
+-- whether a relation loses places of a row, by a test of the cells that it does not leave
+pub none_lost : (l r : ℕ → Bool) (rel : Rel) (row f : ℕ → Bool) (kept lost : Cells) (met : Bool) → AreKept kept rel → lost ≡ other_cells kept → ((k : ℕ) → row k ≡ f k) →
+    (IsTrue met ↔ SomePlace (λ k. row k && row k && in_cells lost (l k) (r k))) → met ≡ false → LosesNone l r rel f
+none_lost l r rel row f kept lost met are is shows tells missed k h = elim (cases_Bool (is_left_by rel (l k) (r k))) [
+  | inl there ↦ there
+  | inr out ↦
+      let there : row k ≡ true = shows k ∙ h in
+      let in_lost : in_cells lost (l k) (r k) ≡ true = ap (λ cells. in_cells cells (l k) (r k)) is ∙ others_not kept (l k) (r k) ∙ ap not (are (l k) (r k) ∙ out) in
+      absurd (true≢false (sym (tells.1 (record { place = k; passes = three_from (row k) (row k) (in_cells lost (l k) (r k)) there there in_lost })) ∙ missed))
+]
+
+-- a place that is lost
+pub some_lost : (l r : ℕ → Bool) (rel : Rel) (row f : ℕ → Bool) (kept lost : Cells) (met : Bool) → AreKept kept rel → lost ≡ other_cells kept → ((k : ℕ) → row k ≡ f k) →
+    (IsTrue met ↔ SomePlace (λ k. row k && row k && in_cells lost (l k) (r k))) → met ≡ true → LosesNone l r rel f → ⊥
+some_lost l r rel row f kept lost met are is shows tells found none =
+    let some = tells.0 found in
+    let k = some.place in
+    let parts = three_parts (row k) (row k) (in_cells lost (l k) (r k)) some.passes in
+    let out : not (is_left_by rel (l k) (r k)) ≡ true = ap not (sym (are (l k) (r k))) ∙ sym (others_not kept (l k) (r k)) ∙ ap (λ cells. in_cells cells (l k) (r k)) (sym is) ∙ parts.2 in
+    true≢false (sym out ∙ ap not (none k (sym (shows k) ∙ parts.0)))
+
+-- places in the occupied regions are left
+pub met_left : (rows : BitRows) (l r : ℕ → Bool) (rel : Rel) → AreMet (row_of rel) l r (bit_in rows 0) → AreMet (row_of rel) l r (left_at rows l r rel)
+met_left rows l r rel met region occupied =
+    let some = met region occupied in
+    let k = some.place in
+    let parts = and_parts (bit_in rows 0 k) (lies_by region (l k) (r k)) some.passes in
+    record {
+      place = k;
+      passes = and_from (left_at rows l r rel k) (lies_by region (l k) (r k)) (and_from (bit_in rows 0 k) (is_left_by rel (l k) (r k)) parts.0 (occupied_left rel region (l k) (r k) occupied parts.1)) parts.1;
+    }
+
+pub met_mask : (words : Regions) (l r f g : ℕ → Bool) → AreWithin f g → AreMet words l r f → AreMet words l r g
+met_mask words l r f g within met region occupied =
+    some_alike (λ k. f k && lies_by region (l k) (r k)) (λ k. g k && lies_by region (l k) (r k))
+    (λ k h. let parts = and_parts (f k) (lies_by region (l k) (r k)) h in and_from (g k) (lies_by region (l k) (r k)) (within k parts.0) parts.1) (met region occupied)
+
+pub left_within : (rows : BitRows) (l r : ℕ → Bool) (rel : Rel) → AreWithin (left_at rows l r rel) (bit_in rows 0)
+left_within rows l r rel k h = (and_parts (bit_in rows 0 k) (is_left_by rel (l k) (r k)) h).0
+
+-- three regions
+pub met_by_three : (words : Regions) (l r f : ℕ → Bool) → (is_occupied words LeftOnly ≡ true → SomePlace (λ k. f k && lies_by LeftOnly (l k) (r k))) → (is_occupied words Both ≡ true → SomePlace (λ k. f k && lies_by Both (l k) (r k))) →
+    (is_occupied words RightOnly ≡ true → SomePlace (λ k. f k && lies_by RightOnly (l k) (r k))) → AreMet words l r f
+met_by_three words l r f a b c LeftOnly = a
+met_by_three words l r f a b c Both = b
+met_by_three words l r f a b c RightOnly = c
+
+-- more places satisfy what fewer do
+pub satisfies_more : (rows : BitRows) (n : ℕ) (f g : ℕ → Bool) → AreWithin f g → Satisfies rows n f → Satisfies rows n g
+satisfies_more rows n f g within s = record {
+  must = λ k h. within k (s.must k h);
+  open_rows = λ r low small. some_alike (λ k. bit_in rows r k && f k) (λ k. bit_in rows r k && g k)
+      (λ k h. let parts = and_parts (bit_in rows r k) (f k) h in and_from (bit_in rows r k) (g k) parts.0 (within k parts.1)) (s.open_rows r low small);
+}
+
+-- what is left satisfies the rows where none that has to stay is lost and each open row has one
+pub left_satisfies : (rows : BitRows) (l r : ℕ → Bool) (rel : Rel) (kept : Cells) → AreKept kept rel → Satisfies rows rows.count (bit_in rows 0) → LosesNone l r rel (bit_in rows 1) →
+    ((q : ℕ) → 2 ≤ q → q < rows.count → SomePlace (λ k. bit_in rows q k && bit_in rows 0 k && in_cells kept (l k) (r k))) → Satisfies rows rows.count (left_at rows l r rel)
+left_satisfies rows l r rel kept are s none each = record {
+  must = λ k h. and_from (bit_in rows 0 k) (is_left_by rel (l k) (r k)) (s.must k h) (none k h);
+  open_rows = λ q low small.
+      let some = each q low small in
+      let k = some.place in
+      let parts = three_parts (bit_in rows q k) (bit_in rows 0 k) (in_cells kept (l k) (r k)) some.passes in
+      record {
+        place = k;
+        passes = and_from (bit_in rows q k) (left_at rows l r rel k) parts.0 (and_from (bit_in rows 0 k) (is_left_by rel (l k) (r k)) parts.1 (sym (are (l k) (r k)) ∙ parts.2));
+      };
+}
+
+pub left_open : (rows : BitRows) (l r : ℕ → Bool) (rel : Rel) (kept : Cells) → AreKept kept rel → Satisfies rows rows.count (left_at rows l r rel) →
+    (q : ℕ) → 2 ≤ q → q < rows.count → SomePlace (λ k. bit_in rows q k && bit_in rows 0 k && in_cells kept (l k) (r k))
+left_open rows l r rel kept are s q low small =
+    let some = s.open_rows q low small in
+    let k = some.place in
+    let parts = and_parts (bit_in rows q k) (left_at rows l r rel k) some.passes in
+    let both = and_parts (bit_in rows 0 k) (is_left_by rel (l k) (r k)) parts.1 in
+    record { place = k; passes = three_from (bit_in rows q k) (bit_in rows 0 k) (in_cells kept (l k) (r k)) parts.0 both.0 (are (l k) (r k) ∙ both.1) }
+
+pub must_left : (rows : BitRows) (l r : ℕ → Bool) (rel : Rel) → Satisfies rows rows.count (left_at rows l r rel) → LosesNone l r rel (bit_in rows 1)
+must_left rows l r rel s k h = (and_parts (bit_in rows 0 k) (is_left_by rel (l k) (r k)) (s.must k h)).1
+
+-- where no place is lost and the occupied regions have places that have to stay, the rows are as before
+pub same_narrowed : (rows : BitRows) (l r : ℕ → Bool) (rel : Rel) → 2 ≤ rows.count → LosesNone l r rel (bit_in rows 0) → AreMet (row_of rel) l r (bit_in rows 1) → IsNarrowed rows rows l r rel
+same_narrowed rows l r rel two none met = record {
+  rows_two = two;
+  width = refl;
+  mask = λ k. kept (bit_in rows 0 k) (is_left_by rel (l k) (r k)) (none k);
+  owes = λ some within. (
+    λ s. (s, met_mask (row_of rel) l r (bit_in rows 1) some s.must met),
+    λ h. h.0,
+  );
+}
+  where
+    kept : (a b : Bool) → (a ≡ true → b ≡ true) → a ≡ (a && b)
+    kept true b h = sym (h refl)
+    kept false b h = refl
+
+-- a row is met where it has a place that has to stay, or all of a row that is met
+pub needless_by_must : (rows : BitRows) (last : ℕ) (some : ℕ → Bool) → SomePlace (λ k. bit_in rows 1 k && bit_in rows last k) → Satisfies rows last some → SomePlace (λ k. bit_in rows last k && some k)
+needless_by_must rows last some common s =
+    let k = common.place in
+    let parts = and_parts (bit_in rows 1 k) (bit_in rows last k) common.passes in
+    record { place = k; passes = and_from (bit_in rows last k) (some k) parts.1 (s.must k parts.0) }
+
+pub needless_by_other : (rows : BitRows) (last other : ℕ) (some : ℕ → Bool) → 2 ≤ other → other < last → ((k : ℕ) → bit_in rows other k ≡ true → bit_in rows last k ≡ true) → Satisfies rows last some →
+    SomePlace (λ k. bit_in rows last k && some k)
+needless_by_other rows last other some low small inside s =
+    some_alike (λ k. bit_in rows other k && some k) (λ k. bit_in rows last k && some k)
+    (λ k h. let parts = and_parts (bit_in rows other k) (some k) h in and_from (bit_in rows last k) (some k) (inside k parts.0) parts.1) (s.open_rows other low small)
+
+pub not_met : (met : Bool) → met ≡ false → IsTrue met → ⊥
+not_met met off on = true≢false (sym on ∙ off)
+
+-- a common place of two rows, by what they show
+pub shown_common : (a b f g : ℕ → Bool) → ((k : ℕ) → a k ≡ f k) → ((k : ℕ) → b k ≡ g k) → SomePlace (λ k. a k && b k) → SomePlace (λ k. f k && g k)
+shown_common a b f g one other some = record {
+  place = some.place;
+  passes = ap (λ x. x && g some.place) (sym (one some.place)) ∙ ap (λ x. a some.place && x) (sym (other some.place)) ∙ some.passes;
+}
+
+pub met_shown : (words others : Regions) (l r f g : ℕ → Bool) → others ≡ words → AreWithin f g → AreMet others l r f → AreMet words l r g
+met_shown words others l r f g same within met = subst (λ ws. AreMet ws l r g) same (met_mask others l r f g within met)
+
+pub left_all : (rows : BitRows) (l r : ℕ → Bool) (rel : Rel) → LosesNone l r rel (bit_in rows 0) → AreWithin (bit_in rows 0) (left_at rows l r rel)
+left_all rows l r rel none k h = and_from (bit_in rows 0 k) (is_left_by rel (l k) (r k)) h (none k h)
+
+pub in_all : (cells : Cells) (a b : Bool) → cells ≡ all_cells → in_cells cells a b ≡ true
+in_all cells a b is = ap (λ x. in_cells x a b) is ∙ each a b
+  where
+    each : (a b : Bool) → in_cells all_cells a b ≡ true
+    each true true = refl
+    each true false = refl
+    each false true = refl
+    each false false = refl
+
+-- rows that have a place that is left, in any cells
+pub all_open : (rows : BitRows) (sides : ℕ → Bool) (cells : Cells) → cells ≡ all_cells →
+    ((q : ℕ) → 2 ≤ q → q < rows.count → SomePlace (λ k. bit_in rows q k && bit_in rows 0 k && in_cells cells (sides k) (sides k))) →
+    (q : ℕ) → 2 ≤ q → q < rows.count → SomePlace (λ k. bit_in rows q k && bit_in rows 0 k)
+all_open rows sides cells is each q low small =
+    some_alike (λ k. bit_in rows q k && bit_in rows 0 k && in_cells cells (sides k) (sides k)) (λ k. bit_in rows q k && bit_in rows 0 k)
+    (λ k h. (and_parts (bit_in rows q k && bit_in rows 0 k) (in_cells cells (sides k) (sides k)) h).0) (each q low small)
+
+pub open_all : (rows : BitRows) (sides : ℕ → Bool) (cells : Cells) → cells ≡ all_cells →
+    ((q : ℕ) → 2 ≤ q → q < rows.count → SomePlace (λ k. bit_in rows q k && bit_in rows 0 k)) →
+    (q : ℕ) → 2 ≤ q → q < rows.count → SomePlace (λ k. bit_in rows q k && bit_in rows 0 k && in_cells cells (sides k) (sides k))
+open_all rows sides cells is each q low small =
+    some_alike (λ k. bit_in rows q k && bit_in rows 0 k) (λ k. bit_in rows q k && bit_in rows 0 k && in_cells cells (sides k) (sides k))
+    (λ k h. and_from (bit_in rows q k && bit_in rows 0 k) (in_cells cells (sides k) (sides k)) h (in_all cells (sides k) (sides k) is)) (each q low small)

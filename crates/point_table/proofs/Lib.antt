@@ -1,0 +1,10 @@
+pub mod WordBits
+pub mod RowBits
+pub mod PointTests
+pub mod Begins
+pub mod Building
+pub mod Frames
+pub mod Owing
+pub mod Narrowing
+pub mod Serving
+pub mod Ladders

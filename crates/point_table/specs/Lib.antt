@@ -1,0 +1,5 @@
+pub mod Rows
+pub mod Points
+pub mod Growing
+pub mod Table
+pub mod Ladders

@@ -1,0 +1,271 @@
+//! Frames: a row of the points that are left, one of those that have to stay, and rows of which one each has to stay.
+ghost use Rattle.std.specs.Prelude.{◌≡◌, ℕ, ◌+◌, ◌*◌, ◌<◌, ◌≤◌, ◌&&◌, ◌↔◌, Bool, true, length, IsTrue, IfOk, OnOk, IfSome};
+ghost use Rattle.rcc5_core.specs.Region.{row_of};
+ghost use Rattle.point_table.specs.Rows.{has_bit, bit_in, in_cells, SomePlace};
+ghost use Rattle.point_table.specs.Ladders.{lies_by, is_left_by, is_occupied, AreWithin, Satisfies, AreMet, left_at, IsOwing, IsNarrowed};
+
+use crate::rows::Rows;
+use crate::rules::{have_common, is_inside};
+use crate::words::{Cells, first_place, has_single, meets};
+use rcc5_core::{Occupancy, Region, Regions, Rel};
+use std::alloc::{AllocError, Global};
+
+// The cell of a region.
+fn region_cell(region: Region) -> Cells
+    ensures { (left right : Bool) → in_cells result left right ≡ lies_by region left right }
+{
+    let (left_only, both, right_only) = match region {
+        Region::LeftOnly => (true, false, false),
+        Region::Both => (false, true, false),
+        Region::RightOnly => (false, false, true),
+    };
+    Cells {
+        left_only,
+        both,
+        right_only,
+        neither: false,
+    }
+}
+
+// The cells that a relation leaves.
+fn kept_cells(rel: Rel) -> Cells
+    ensures { (left right : Bool) → in_cells result left right ≡ is_left_by rel left right }
+{
+    let row = rel.row();
+    Cells {
+        left_only: row.left_only != Occupancy::Empty,
+        both: row.both != Occupancy::Empty,
+        right_only: row.right_only != Occupancy::Empty,
+        neither: true,
+    }
+}
+
+// Whether words say of a region that it is occupied.
+fn is_occupied(words: Regions, region: Region) -> bool
+    ensures { result ≡ is_occupied words region }
+{
+    words.at(region) == Occupancy::Occupied
+}
+
+// Whether a region has a place of a row, if it has to.
+fn is_met(row: &[u64], left: &[u64], right: &[u64], words: Regions, region: Region) -> bool
+    ensures { IsTrue result ↔ (is_occupied words region ≡ true → SomePlace (λ k. has_bit row.now k && lies_by region (has_bit left.now k) (has_bit right.now k))) }
+{
+    !is_occupied(words, region) || meets(row, row, left, right, region_cell(region))
+}
+
+// Whether all regions have a place of a row that have to.
+fn are_met(row: &[u64], left: &[u64], right: &[u64], words: Regions) -> bool
+    ensures { IsTrue result ↔ AreMet words (has_bit left.now) (has_bit right.now) (has_bit row.now) }
+{
+    if !is_met(row, left, right, words, Region::LeftOnly) {
+        return false;
+    }
+    if !is_met(row, left, right, words, Region::Both) {
+        return false;
+    }
+    is_met(row, left, right, words, Region::RightOnly)
+}
+
+// Whether each row of which one place has to stay has one that is left in some cells of two sets.
+fn open_met(frame: &Rows, left: &[u64], right: &[u64], cells: Cells) -> bool
+    requires { 2 ≤ frame.now.count }
+    ensures { IsTrue result ↔ ((r : ℕ) → 2 ≤ r → r < frame.now.count → SomePlace (λ k. bit_in frame.now r k && bit_in frame.now 0 k && in_cells cells (has_bit left.now k) (has_bit right.now k))) }
+{
+    for row in 2..frame.count() {
+        if !meets(frame.row(row), frame.row(0), left, right, cells) {
+            return false;
+        }
+    }
+    true
+}
+
+// Whether the places that are left satisfy the other rows.
+pub(crate) fn lives(frame: &Rows) -> bool
+    requires { 2 ≤ frame.now.count }
+    ensures { IsTrue result ↔ Satisfies frame.now frame.now.count (bit_in frame.now 0) }
+{
+    let mask = frame.row(0);
+    if !is_inside(frame.row(1), mask) {
+        return false;
+    }
+    open_met(frame, mask, mask, Cells::all())
+}
+
+// Whether the places that a relation of two sets leaves satisfy the other rows and the regions that it occupies.
+pub(crate) fn leads_on(frame: &Rows, left: &[u64], right: &[u64], rel: Rel) -> bool
+    requires two { 2 ≤ frame.now.count }
+    requires lives { Satisfies frame.now frame.now.count (bit_in frame.now 0) }
+    ensures { IsTrue result ↔ (Satisfies frame.now frame.now.count (left_at frame.now (has_bit left.now) (has_bit right.now) rel) × AreMet (row_of rel) (has_bit left.now) (has_bit right.now) (left_at frame.now (has_bit left.now) (has_bit right.now) rel)) }
+{
+    let mask = frame.row(0);
+    if !are_met(mask, left, right, rel.row()) {
+        return false;
+    }
+    let kept = kept_cells(rel);
+    let lost = kept.others();
+    if !meets(mask, mask, left, right, lost) {
+        return true;
+    }
+    let must = frame.row(1);
+    if meets(must, must, left, right, lost) {
+        return false;
+    }
+    open_met(frame, left, right, kept)
+}
+
+// Whether a relation of two sets takes no place away, and has a place that has to stay in each region that it occupies.
+pub(crate) fn is_same(frame: &Rows, left: &[u64], right: &[u64], rel: Rel) -> bool
+    requires { 2 ≤ frame.now.count }
+    ensures { result ≡ true → IsNarrowed frame.now frame.now (has_bit left.now) (has_bit right.now) rel }
+{
+    let mask = frame.row(0);
+    if meets(mask, mask, left, right, kept_cells(rel).others()) {
+        return false;
+    }
+    are_met(frame.row(1), left, right, rel.row())
+}
+
+// Whether a row is met wherever those before it are: it has a place that has to stay, or all of one of them.
+fn is_needless(frame: &Rows, last: usize) -> bool
+    requires { last < frame.now.count }
+    ensures { result ≡ true → (some : ℕ → Bool) → Satisfies frame.now last some → SomePlace (λ k. bit_in frame.now last k && some k) }
+{
+    let row = frame.row(last);
+    if last < 2 {
+        return false;
+    }
+    if have_common(frame.row(1), row) {
+        return true;
+    }
+    for other in 2..last {
+        if is_inside(frame.row(other), row) {
+            return true;
+        }
+    }
+    false
+}
+
+// Drops the last row if it is needless, and takes its place among those that have to stay if it is the only one.
+fn settle(frame: &mut Rows)
+    requires some { 0 < frame.old.width }
+    requires three { 3 ≤ frame.old.count }
+    ensures { IsOwing frame.old frame.new (λ _. Unit {0}) }
+{
+    let last = frame.count() - 1;
+    if is_needless(frame, last) {
+        frame.pop();
+        return;
+    }
+    let row = frame.row(last);
+    if !has_single(row) {
+        return;
+    }
+    let Some(place) = first_place(row) else {
+        return;
+    };
+    frame.pop();
+    frame.set(1, place);
+}
+
+// Adds that one place has to stay of what two rows have in common in some cells of two sets.
+pub(crate) fn add_need(
+    one: &[u64],
+    other: &[u64],
+    left: &[u64],
+    right: &[u64],
+    cells: Cells,
+    frame: &mut Rows,
+) -> Result<(), AllocError>
+    requires some { 0 < frame.old.width }
+    requires width { length one.now ≤ frame.old.width }
+    requires two { 2 ≤ frame.old.count }
+    ensures { OnOk result (IsOwing frame.old frame.new (λ some. SomePlace (λ k. (has_bit one.now k && has_bit other.now k && in_cells cells (has_bit left.now k) (has_bit right.now k)) && some k))) }
+{
+    frame.push(one, other, left, right, cells)?;
+    settle(frame);
+    Ok(())
+}
+
+// Adds that one of some places has to stay in a region, if it has to have one.
+fn add_region(
+    mask: &[u64],
+    left: &[u64],
+    right: &[u64],
+    words: Regions,
+    region: Region,
+    frame: &mut Rows,
+) -> Result<(), AllocError>
+    requires some { 0 < frame.old.width }
+    requires width { length mask.now ≤ frame.old.width }
+    requires two { 2 ≤ frame.old.count }
+    requires mask { AreWithin (bit_in frame.old 0) (has_bit mask.now) }
+    ensures { OnOk result (IsOwing frame.old frame.new (λ some. is_occupied words region ≡ true → SomePlace (λ k. some k && lies_by region (has_bit left.now k) (has_bit right.now k)))) }
+{
+    if is_occupied(words, region) {
+        add_need(mask, mask, left, right, region_cell(region), frame)?;
+    }
+    Ok(())
+}
+
+// Adds that one of some places has to stay in each region that has to have one.
+pub(crate) fn add_regions(
+    mask: &[u64],
+    left: &[u64],
+    right: &[u64],
+    words: Regions,
+    frame: &mut Rows,
+) -> Result<(), AllocError>
+    requires some { 0 < frame.old.width }
+    requires width { length mask.now ≤ frame.old.width }
+    requires two { 2 ≤ frame.old.count }
+    requires mask { AreWithin (bit_in frame.old 0) (has_bit mask.now) }
+    ensures { OnOk result (IsOwing frame.old frame.new (AreMet words (has_bit left.now) (has_bit right.now))) }
+{
+    add_region(mask, left, right, words, Region::LeftOnly, frame)?;
+    add_region(mask, left, right, words, Region::Both, frame)?;
+    add_region(mask, left, right, words, Region::RightOnly, frame)?;
+    Ok(())
+}
+
+// Adds the rows of another frame of which one place each has to stay, as far as they are left in some cells of two sets.
+fn add_open(
+    old: &Rows,
+    left: &[u64],
+    right: &[u64],
+    cells: Cells,
+    frame: &mut Rows,
+) -> Result<(), AllocError>
+    requires some { 0 < frame.old.width }
+    requires width { old.now.width ≡ frame.old.width }
+    requires two { 2 ≤ old.now.count }
+    requires rows { 2 ≤ frame.old.count }
+    ensures { OnOk result (IsOwing frame.old frame.new (λ some. (r : ℕ) → 2 ≤ r → r < old.now.count → SomePlace (λ k. (bit_in old.now r k && bit_in old.now 0 k && in_cells cells (has_bit left.now k) (has_bit right.now k)) && some k))) }
+{
+    for row in 2..old.count() {
+        add_need(old.row(row), old.row(0), left, right, cells, frame)?;
+    }
+    Ok(())
+}
+
+// The frame after two sets were narrowed to a relation.
+pub(crate) fn narrowed(
+    alloc: Global,
+    frame: &Rows,
+    left: &[u64],
+    right: &[u64],
+    rel: Rel,
+) -> Result<Rows, AllocError>
+    requires some { 0 < frame.now.width }
+    requires two { 2 ≤ frame.now.count }
+    ensures { IfOk result (λ next. IsNarrowed frame.now next (has_bit left.now) (has_bit right.now) rel) }
+{
+    let mask = frame.row(0);
+    let kept = kept_cells(rel);
+    let mut next = Rows::new(alloc, frame.width());
+    next.push(mask, mask, left, right, kept)?;
+    next.push_copy(frame.row(1))?;
+    add_regions(mask, left, right, rel.row(), &mut next)?;
+    add_open(frame, left, right, kept, &mut next)?;
+    Ok(next)
+}

@@ -1,0 +1,188 @@
+//! All points of a problem, as a list and as rows of bits.
+ghost use Rattle.std.specs.Prelude.{◌≡◌, ℕ, ◌+◌, ◌*◌, ◌/◌, ◌<◌, ◌≤◌, true, false, [], length, All, IfOk, IfSome, OnOk, slice_index_or};
+ghost use Rattle.world_model.specs.Problem.{concept_count};
+ghost use Rattle.world_model.specs.Alive.{bit_of};
+ghost use Rattle.world_model.specs.Trial.{points_by_trial};
+ghost use Rattle.point_table.specs.Rows.{word_bit, has_bit, bit_in};
+ghost use Rattle.point_table.specs.Points.{AreAllowed};
+ghost use Rattle.point_table.specs.Table.{point_at, AreShown};
+
+use crate::build::{nothing_known, rules_of};
+use crate::grow::{Search, Terms, grow};
+use crate::points::{allowed_sets, pairs_with_empty};
+use crate::rows::Rows;
+use crate::words::{Cells, with_bit};
+use constraint_set::Problem;
+use lits_core::Bits;
+use rcc5_core::RelSet;
+use std::alloc::{AllocError, Global};
+use std::marker::Model;
+
+// All points of a problem, if they are at most so many and are found in so many tries.
+pub(crate) fn all_points(
+    alloc: Global,
+    problem: &Problem,
+    sets: &[RelSet],
+    most: usize,
+    tries: usize,
+) -> Result<Option<Vec<Bits>>, AllocError>
+    requires { AreAllowed problem.now sets.now }
+    ensures { IfOk result (λ found. IfSome found (λ points. points.items ≡ points_by_trial problem.now)) }
+{
+    let _built = problem.taxonomy_count();
+    let pairs = pairs_with_empty(alloc, problem, sets)?;
+    let rules = rules_of(alloc, problem, sets, &pairs)?;
+    let count = problem.concept_count() as usize;
+    let known = nothing_known(alloc, rules.implied.width())?;
+    let terms = Terms {
+        problem,
+        sets,
+        pairs: &pairs,
+        rules: &rules,
+    };
+    let mut search = Search {
+        tried: Vec::new(alloc),
+        points: Vec::new(alloc),
+        most,
+        tries,
+    };
+    if !grow(alloc, &terms, &mut search, &known, count)? {
+        return Ok(None);
+    }
+    Ok(Some(search.points))
+}
+
+// The bits that 64 points have of a concept, from one place on.
+fn word_of(points: &[Bits], concept: usize, from: usize) -> u64
+    requires { All (λ bits. concept < length bits) points.now }
+    ensures { (i : ℕ) → i < 64 → word_bit result i ≡ bit_of (point_at points.now (from + i)) concept }
+{
+    let mut word = 0;
+    for i in 0..64 {
+        if has_point(points, concept, from, i) {
+            word = with_bit(word, i);
+        }
+    }
+    word
+}
+
+// Whether a concept has the point that comes so many places after a place.
+fn has_point(points: &[Bits], concept: usize, from: usize, after: usize) -> bool
+    requires { All (λ bits. concept < length bits) points.now }
+    ensures { result ≡ bit_of (point_at points.now (from + after)) concept }
+{
+    let Some(place) = from.checked_add(after) else {
+        return false;
+    };
+    match points.get(place) {
+        Some(bits) => bits.get(concept),
+        None => false,
+    }
+}
+
+// A concept's row: its bit in each point.
+fn row_of(alloc: Global, points: &[Bits], concept: usize) -> Result<Vec<u64>, AllocError>
+    requires { All (λ bits. concept < length bits) points.now }
+    ensures length { IfOk result (λ row. length row.items ≡ length points.now / 64 + 1) }
+    ensures bits { IfOk result (λ row. (k : ℕ) → has_bit row.items k ≡ bit_of (point_at points.now k) concept) }
+{
+    let width = points.len() / 64 + 1;
+    let mut row = Vec::with_capacity(alloc, width)?;
+    for i in 0..width {
+        row.push(word_of(points, concept, 64 * i))?;
+    }
+    Ok(row)
+}
+
+// The rows of so many concepts.
+pub(crate) fn rows_of(alloc: Global, points: &[Bits], count: usize) -> Result<Rows, AllocError>
+    requires { All (λ bits. length bits ≡ count) points.now }
+    ensures count { IfOk result (λ rows. rows.count ≡ count) }
+    ensures width { IfOk result (λ rows. rows.width ≡ length points.now / 64 + 1) }
+    ensures bits { IfOk result (AreShown points.now) }
+{
+    let mut rows = Rows::new(alloc, points.len() / 64 + 1);
+    for concept in 0..count {
+        let row = row_of(alloc, points, concept)?;
+        rows.push(&row, &row, &row, &row, Cells::all())?;
+    }
+    Ok(rows)
+}
+
+/// All points of a problem, each once, in order, with a row of bits for each concept.
+#[derive(Drop)]
+pub struct PointTable {
+    points: Vec<Bits>,
+    rows: Rows,
+}
+
+impl Model for PointTable {
+    ghost use Rattle.std.specs.Prelude.{Bool, List};
+    ghost use Rattle.point_table.specs.Table.{IsTable};
+
+    ghost Value = { List (List Bool) };
+
+    ghost view = { λ t. t.points.items };
+
+    ghost invariant = { λ t. IsTable t.points.items t.rows };
+}
+
+impl PointTable {
+    /// The points of a problem, if they are at most so many and a search finds them in so many tries.
+    ///
+    /// Both numbers are hints: nothing is said of when there is no table.
+    pub fn of(
+        alloc: Global,
+        problem: &Problem,
+        most: usize,
+        tries: usize,
+    ) -> Result<Option<PointTable>, AllocError>
+        ensures { IfOk result (λ found. IfSome found (λ table. table ≡ points_by_trial problem.now)) }
+    {
+        let sets = allowed_sets(alloc, problem)?;
+        table_of(alloc, problem, &sets, most, tries)
+    }
+
+    /// The points, in order.
+    pub fn points(&self) -> &[Bits]
+        ensures { result.now ≡ self.now }
+    {
+        &self.points
+    }
+
+    // How many words a row has.
+    pub(crate) fn width(&self) -> usize
+        ensures { result ≡ length self.now / 64 + 1 }
+    {
+        self.rows.width()
+    }
+
+    // A concept's row: its bit in each point.
+    pub(crate) fn row(&self, concept: usize) -> Option<&[u64]>
+        ensures { IfSome result (λ row. (k : ℕ) → has_bit row.now k ≡ bit_of (point_at self.now k) concept) }
+    {
+        if concept < self.rows.count() {
+            Some(self.rows.row(concept))
+        } else {
+            None
+        }
+    }
+}
+
+// The table of a problem, by what its pairs allow.
+pub(crate) fn table_of(
+    alloc: Global,
+    problem: &Problem,
+    sets: &[RelSet],
+    most: usize,
+    tries: usize,
+) -> Result<Option<PointTable>, AllocError>
+    requires { AreAllowed problem.now sets.now }
+    ensures { IfOk result (λ found. IfSome found (λ table. table ≡ points_by_trial problem.now)) }
+{
+    let Some(points) = all_points(alloc, problem, sets, most, tries)? else {
+        return Ok(None);
+    };
+    let rows = rows_of(alloc, &points, problem.concept_count() as usize)?;
+    Ok(Some(PointTable { points, rows }))
+}

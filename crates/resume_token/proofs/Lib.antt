@@ -1,0 +1,3 @@
+pub mod PositionLemmas
+pub mod DigestLemmas
+pub mod ReadingLemmas

@@ -1,0 +1,39 @@
+//! The digest of a problem.
+ghost use Rattle.std.specs.Prelude.{◌≡◌, ◌++◌, string_bytes, IfOk, OnOk};
+ghost use Rattle.constraint_set.specs.Facts.{IsAsRead};
+ghost use Rattle.resume_token.specs.Token.{switch_word, switches_line, digest_of};
+
+use cleantax_text::print_problem;
+use constraint_set::Problem;
+use sha2::{Digest, Sha256};
+use std::alloc::{AllocError, Global};
+use world_model::Switches;
+
+fn switch_word(on: bool) -> &'static [u8]
+    ensures { result.now ≡ switch_word on }
+{
+    if on { b"on" } else { b"off" }
+}
+
+fn put_switches(out: &mut Vec<u8>, switches: Switches) -> Result<(), AllocError>
+    ensures { OnOk result (out.new.items ≡ out.old.items ++ switches_line switches) }
+{
+    out.extend_from_slice(b"switches ")?;
+    out.extend_from_slice(switch_word(switches.nonempty))?;
+    out.extend_from_slice(b" ")?;
+    out.extend_from_slice(switch_word(switches.sibling))?;
+    out.extend_from_slice(b" ")?;
+    out.extend_from_slice(switch_word(switches.coverage))?;
+    out.extend_from_slice(b"\n")
+}
+
+/// The digest of a problem, in hexadecimal digits.
+pub(crate) fn digest_of(alloc: Global, problem: &Problem) -> Result<String, AllocError>
+    requires { IsAsRead problem.now }
+    ensures { IfOk result (λ digits. string_bytes digits ≡ digest_of problem.now) }
+{
+    let mut text = print_problem(alloc, problem)?;
+    put_switches(&mut text, problem.switches())?;
+    let digest = Sha256::digest(text.as_slice());
+    hex::encode(alloc, digest.as_slice())
+}

@@ -1,5 +1,0 @@
-use Rattle.small_walk.proofs.Lists.{one_more}
-use Rattle.small_walk.proofs.kept.Goals as goal
-
-pub loop-index-preserved : goal.loop-index-preserved
-loop-index-preserved c = one_more _ _ _ _ _ c.is_kept.ensures c.loop-index.invariant c.in_ok-push.ensures.items

@@ -1,0 +1,57 @@
+use Rattle.std.proofs.Common.{◌≡◌, ℕ, ◌-◌, ◌+◌, length, take, refl, sym, ap, ◌∙◌, subst, arith}
+use Rattle.std.proofs.lemmas.List.{get_or_default}
+use Rattle.std.specs.Prelude.{Some, None}
+use Rattle.rcc5_core.specs.RelationSet.{no_rels, next_of}
+use Rattle.table_walk.specs.declared.way.Stage.TheVariants.{Standing}
+use Rattle.table_walk.specs.declared.way.Way.{Way}
+use Rattle.table_walk.specs.Ahead.{level_at, rel_at, IsAhead}
+use Rattle.table_walk.specs.Ways.{problem_of, LeadOn}
+use Rattle.table_walk.proofs.Going.{drops_last}
+use Rattle.table_walk.proofs.Stepping.{Turned, turned_way, past_way, some_room, leads_dropped}
+use Rattle.table_walk.proofs.way.turn_off.Goals as goal
+
+turned_here : (c : goal.After-way-in-Some-1) → Turned c.args.way.now (record { ladder = c.back_to.new.self; turn = Some c.in-Some.next; levels = c.loop-way.way.levels; stage = Standing })
+turned_here c =
+    let old = c.args.way.now in
+    let levels = c.loop-way.way.levels.items in
+    let k : ℕ = c.len-last.result - 1 in
+    let same = c.loop-way.invariant.ladder in
+    let level : c.index.result.now ≡ level_at levels k = c.index.ensures ∙ get_or_default levels k c.index.result.now (record { depth = 0; set = no_rels }) (omega arith) in
+    let next : next_of (level_at levels k).set (rel_at old.ladder.path (level_at levels k).depth) ≡ Some c.in-Some.next =
+    ap (λ l. next_of (level_at levels k).set (rel_at l.path (level_at levels k).depth)) (sym same) ∙ sym c.next_at.ensures ∙ c.in-Some.is in
+    turned_way old (record { ladder = c.back_to.new.self; turn = Some c.in-Some.next; levels = c.loop-way.way.levels; stage = Standing }) levels k c.in-Some.next
+    c.requires.way c.requires.under_way c.requires.settled (omega arith) c.loop-way.invariant.ahead c.loop-way.invariant.leads next
+    (c.back_to.ensures ∙ (λ i. record { problem = (same i).problem; path = take (level i).depth (same i).path })) refl refl refl
+
+pub returns-in-Some-clause-way : goal.returns-in-Some-clause-way
+returns-in-Some-clause-way c = (turned_here c).way
+
+pub returns-in-Some-clause-passed : goal.returns-in-Some-clause-passed
+returns-in-Some-clause-passed c = (turned_here c).passed
+
+pub returns-in-Some-clause-less : goal.returns-in-Some-clause-less
+returns-in-Some-clause-less c = (turned_here c).less
+
+pub loop-way-preserved : goal.loop-way-preserved
+loop-way-preserved c =
+    let old = c.args.way.now in
+    let p = problem_of old in
+    let levels = c.loop-way.way.levels.items in
+    let k : ℕ = c.len-last.result - 1 in
+    let sized : length levels ≡ k + 1 = omega arith in
+    let none : next_of (level_at levels k).set (rel_at old.ladder.path (level_at levels k).depth) ≡ None =
+    ap (λ l. next_of (level_at levels k).set (rel_at l.path (level_at levels k).depth)) (sym c.loop-way.invariant.ladder) ∙ sym c.next_at.ensures ∙ c.in_default.is in
+    let rest : c.pop.new.self.items ≡ take k levels = c.pop.ensures.rest ∙ ap (λ n. take n levels) (omega arith) in
+    record {
+      ladder = c.loop-way.invariant.ladder;
+      turn = c.loop-way.invariant.turn;
+      stage = c.loop-way.invariant.stage;
+      ahead = subst (λ ls. IsAhead p old.ladder.path ls) (sym rest) (drops_last p old.ladder.path levels k sized c.loop-way.invariant.ahead none);
+      leads = subst (λ ls. LeadOn p old.ladder.path ls) (sym rest) (leads_dropped p old.ladder.path levels k sized c.loop-way.invariant.leads);
+    }
+
+pub returns-clause-passed : goal.returns-clause-passed
+returns-clause-passed c = past_way c.args.way.now c.requires.under_way c.requires.settled c.loop-way.way.levels.items (omega arith) c.loop-way.invariant.ahead
+
+pub returns-clause-less : goal.returns-clause-less
+returns-clause-less c = some_room c.args.way.now c.requires.under_way

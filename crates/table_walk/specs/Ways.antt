@@ -1,0 +1,88 @@
+-- A way along the prefixes of worlds, and what a step of it leaves.
+use Rattle.std.specs.Prelude.{◌≡◌, ℕ, ◌<◌, ◌≤◌, List, [], ◌∷◌, ◌++◌, length, take, Option, Some, None, Contains, IsTrue}
+use Rattle.std.specs.Option.{option_to_list}
+use Rattle.rcc5_core.specs.declared.Rel.{Rel}
+use Rattle.rcc5_core.specs.RelationSet.{has}
+use Rattle.world_model.specs.Problem.{Problem, pair_count, is_problem}
+use Rattle.world_model.specs.Family.{IsPossibleWorld}
+use Rattle.world_model.specs.Listing.{ascends}
+use Rattle.world_model.specs.Alive.{problem_at, IsAlive}
+use Rattle.table_walk.specs.declared.Level.{Level}
+use Rattle.table_walk.specs.declared.way.Stage.{Stage}
+use Rattle.table_walk.specs.declared.way.Stage.TheVariants.{Standing, Told, Past}
+use Rattle.table_walk.specs.declared.way.Way.{Way}
+use Rattle.table_walk.specs.Ahead.{Lists, level_at, Begins, IsAhead, room}
+
+-- the problem of a way
+abbrev pub problem_of : Way → Problem
+problem_of w = w.ladder.problem
+
+-- where a way stands: its path, and the relation that is to be added next
+abbrev pub place : Way → List Rel
+place w = w.ladder.path ++ option_to_list w.turn
+
+-- the relations at each level lead on to alive prefixes
+abbrev pub LeadOn : Problem → List Rel → List Level → Type 0
+LeadOn p m levels = (i : ℕ) → i < length levels → (rel : Rel) → IsTrue (has (level_at levels i).set rel) → IsAlive (problem_at p (take (level_at levels i).depth m ++ rel ∷ []))
+
+-- a way that is not at its end
+pub record IsUnderWay (w : Way) : Type 0 where
+  pub ahead : IsAhead (problem_of w) (place w) w.levels.items
+  pub leads : LeadOn (problem_of w) (place w) w.levels.items
+  pub alive : IsAlive (problem_at (problem_of w) (place w))
+  pub upto : length (place w) ≤ pair_count (problem_of w)
+
+-- a way that stands at a full table which is told
+pub record IsAtTable (w : Way) : Type 0 where
+  pub under_way : IsUnderWay w
+  pub settled : w.turn ≡ None
+  pub full : length w.ladder.path ≡ pair_count (problem_of w)
+
+-- what is so of a way at any time, by its stage
+abbrev pub IsWayBy : Way → Stage → Type 0
+IsWayBy w Standing = IsUnderWay w
+IsWayBy w Told = IsAtTable w
+IsWayBy w Past = Unit {0}
+
+pub record IsWay (w : Way) : Type 0 where
+  pub valid : IsTrue (is_problem (problem_of w))
+  pub by_stage : IsWayBy w w.stage
+
+-- up to where all worlds are told or under the way's feet, and the worlds there
+abbrev pub at_by : List Rel → Stage → Option (List Rel)
+at_by m Standing = Some m
+at_by m Told = Some m
+at_by m Past = None
+
+abbrev pub told_by : List Rel → Stage → List (List Rel)
+told_by m Standing = []
+told_by m Told = m ∷ []
+told_by m Past = []
+
+abbrev pub at_of : Way → Option (List Rel)
+at_of w = at_by (place w) w.stage
+
+abbrev pub told_of : Way → List (List Rel)
+told_of w = told_by (place w) w.stage
+
+-- just these worlds begin with a path
+pub record AreBegun (p : Problem) (m : List Rel) (worlds : List (List Rel)) : Type 0 where
+  pub ascending : IsTrue (ascends worlds)
+  pub sound : (t : List Rel) → Contains worlds t → IsPossibleWorld p t × Begins m t
+  pub complete : (t : List Rel) → IsPossibleWorld p t → Begins m t → Contains worlds t
+
+-- how much is left of a way, by its stage
+abbrev pub left_by : Problem → List Rel → Stage → ℕ
+left_by p m Standing = room (pair_count p) m
+left_by p m Told = room (pair_count p) m
+left_by p m Past = 0
+
+abbrev pub left_of : Way → ℕ
+left_of w = left_by (problem_of w) (place w) w.stage
+
+-- a step from one place to another, past no world
+pub record WentOn (old new : Way) : Type 0 where
+  pub problem : problem_of new ≡ problem_of old
+  pub way : IsWay new
+  pub passed : Lists (problem_of old) (at_of old) (at_of new) []
+  pub untold : told_of new ≡ []

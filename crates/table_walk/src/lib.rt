@@ -1,0 +1,16 @@
+//! The possible worlds of a problem one after the other, along the prefixes that a table of all points shows to be alive.
+#![tactic(auto)]
+
+mod tables;
+mod way;
+
+use rcc5_core::RelSet;
+pub use tables::Tables;
+
+/// A place on a path at which other relations than the one there may lead on.
+#[derive(Clone, Copy, Debug, PartialEq, Eq)]
+pub struct Level {
+    pub depth: usize,
+    /// All relations that lead on there.
+    pub set: RelSet,
+}

@@ -1,0 +1,48 @@
+use Rattle.std.proofs.Common.{◌∙◌, ℕ, List, length, Option, Some, None, sym, subst, ap, arith, rules}
+use Rattle.std.specs.Prelude.{IfSome}
+use Rattle.clause_arena.specs.declared.place.Link.{Link}
+use Rattle.clause_arena.specs.Records.{Record, record_at}
+use Rattle.watch_arena.specs.declared.engine.Engine.{Engine}
+use Rattle.watch_arena.specs.Chains.{IsEntry}
+use Rattle.watch_arena.proofs.Watching.{contains_at}
+use Rattle.watch_arena.proofs.Moved.{fresh}
+use Rattle.watch_arena.proofs.Walked.{IsEntry-exchanged}
+use Rattle.watch_arena.proofs.Leading.{IsAt, IsAt-walking, IsEntry-at, IsEntry-before, length-past}
+use Rattle.watch_arena.proofs.Passing.{IsExchange-past}
+use Rattle.watch_arena.proofs.engine.Engine.move_watch.Goals as goal
+
+pub link-next-requires-clause-slot : goal.link-next-requires-clause-slot
+link-next-requires-clause-slot c =
+    (IsEntry-at c.args.self.now c.args.lit c.args.prev.now c.args.entry c.requires.sound c.requires.range (IsAt-walking c.args.self.now c.args.lit c.args.prev.now c.args.entry c.requires.walking)).slot_is
+
+-- the one before, if any
+entry_before : (e : Engine) (lit : ℕ) (prev : Option Link) (x : Link) → ((p : Link) → IsAt e lit (Some p) x → IsEntry e.arena lit p) → IsAt e lit prev x → IfSome prev (λ p. IsEntry e.arena lit p)
+entry_before e lit (Some p) x f w = f p w
+entry_before e lit None x f w = search rules
+
+pub lead_past-requires-clause-entry : goal.lead_past-requires-clause-entry
+lead_past-requires-clause-entry c =
+    entry_before c.args.self.now c.args.lit c.args.prev.now c.args.entry
+    (λ p w. IsEntry-before c.args.self.now c.args.lit p c.args.entry c.requires.sound c.requires.range w)
+    (IsAt-walking c.args.self.now c.args.lit c.args.prev.now c.args.entry c.requires.walking)
+
+pub swap_lits-requires-clause-first_in_range : goal.swap_lits-requires-clause-first_in_range
+swap_lits-requires-clause-first_in_range c =
+    let p = (IsExchange-past c.args.self.now c.args.lit c.args.k c.args.prev.now c.args.entry c.link-next.result c.lead_past.new.self.arena c.requires.sound c.requires.range (IsAt-walking c.args.self.now c.args.lit c.args.prev.now c.args.entry c.requires.walking) c.requires.fresh c.link-next.ensures (ap (λ (e : Engine). e.arena) c.lead_past.ensures)).0.entry in let small = p.slot_is in let two = p.two in omega arith
+
+pub swap_lits-requires-clause-second_in_range : goal.swap_lits-requires-clause-second_in_range
+swap_lits-requires-clause-second_in_range c = (IsExchange-past c.args.self.now c.args.lit c.args.k c.args.prev.now c.args.entry c.link-next.result c.lead_past.new.self.arena c.requires.sound c.requires.range (IsAt-walking c.args.self.now c.args.lit c.args.prev.now c.args.entry c.requires.walking) c.requires.fresh c.link-next.ensures (ap (λ (e : Engine). e.arena) c.lead_past.ensures)).0.within
+
+pub put_front-requires-clause-range : goal.put_front-requires-clause-range
+put_front-requires-clause-range c =
+    let size = ap (λ (e : Engine). length e.chains) c.lead_past.ensures ∙ length-past c.args.self.now.chains c.args.lit c.args.prev.now c.link-next.result in
+    let lists = c.requires.sound.lists in
+    let range = c.requires.sound.in_range c.args.entry.at c.lit_at-fresh.result (contains_at (record_at c.args.self.now.arena c.args.entry.at).lits c.args.k c.lit_at-fresh.result c.requires.fresh.within (sym c.lit_at-fresh.ensures)) in
+    omega arith
+
+pub put_front-requires-clause-entry : goal.put_front-requires-clause-entry
+put_front-requires-clause-entry c =
+    let both = (IsExchange-past c.args.self.now c.args.lit c.args.k c.args.prev.now c.args.entry c.link-next.result c.lead_past.new.self.arena c.requires.sound c.requires.range (IsAt-walking c.args.self.now c.args.lit c.args.prev.now c.args.entry c.requires.walking) c.requires.fresh c.link-next.ensures (ap (λ (e : Engine). e.arena) c.lead_past.ensures)) in
+    let here = IsEntry-exchanged c.lead_past.new.self.arena c.args.entry c.args.k c.args.lit both.0 in
+    let there = subst (λ (rs : List Record). IsEntry rs (fresh c.lead_past.new.self.arena c.args.entry.at c.args.k) c.args.entry) (sym c.swap_lits.ensures) here in
+    subst (λ (n : ℕ). IsEntry c.swap_lits.new.self n c.args.entry) (both.1 ∙ sym c.lit_at-fresh.ensures) there
