@@ -1,13 +1,14 @@
 -- The frame of a problem itself, and the frames of a path that grows and shrinks.
 use Rattle.std.proofs.Common.{◌≡◌, ℕ, ◌+◌, ◌/◌, ◌<◌, ◌≤◌, ◌↔◌, Bool, true, false, ◌&&◌, ◌||◌, not, List, [], ◌∷◌, ◌++◌, length, get_or, take, drop, take-append-drop, inl, inr, refl, sym, ap, ◌∙◌, subst, arith}
-use Rattle.std.specs.Prelude.{IsTrue, nat_lt, ◌==◌}
+use Rattle.std.specs.Prelude.{IsTrue, nat_lt, ◌==◌, Result, Ok, Err, Option, Some, None, IfOk, IfSome}
 use Rattle.std.proofs.lemmas.Bool.{and_from, true≢false, not-true, false_from_ne_true, cases_Bool, cases_lt, cases_eq, lt-ltb, le-ltb, eq-eqb, ne_eqb, both_ways}
 use Rattle.std.proofs.lemmas.List.{length-append, get_or_append_left, get_or_push, get_or-take, length-take-le, take-append-le, take_all, take-take, get_or_default}
 use Rattle.rcc5_core.specs.declared.Rel.{Rel}
 use Rattle.rcc5_core.specs.declared.RelSet.{RelSet}
 use Rattle.rcc5_core.specs.declared.Regions.{Regions}
 use Rattle.rcc5_core.specs.RelationSet.{has, is_empty_set, no_rels}
-use Rattle.world_model.specs.Problem.{Problem, concept_count, pairs, pair_count}
+use Rattle.world_model.specs.Problem.{Problem, is_problem, concept_count, pairs, pair_count}
+use Rattle.world_model.specs.Family.{IsPossibleWorld}
 use Rattle.world_model.specs.Node.{pair_at}
 use Rattle.world_model.specs.Alive.{allowed, is_point, problem_at, IsAlive, all_allow}
 use Rattle.world_model.specs.Trial.{points_by_trial}
@@ -19,7 +20,7 @@ use Rattle.point_table.specs.declared.words.Cells.{Cells}
 use Rattle.point_table.specs.Rows.{SomePlace, BitRows, bit_in, in_cells, all_cells}
 use Rattle.point_table.proofs.Frames.{in_all}
 use Rattle.point_table.specs.Table.{point_at}
-use Rattle.point_table.specs.Ladders.{AreWithin, Satisfies, AreMet, IsOwing, IsNarrowed, AreServed, IsFrame, PairsMet, ConceptsMet, AreRowsOf, frame_at, HasFrames, IsLadder}
+use Rattle.point_table.specs.Ladders.{LadderState, IsBoundOf, AreWithin, Satisfies, AreMet, IsOwing, IsNarrowed, AreServed, IsFrame, PairsMet, ConceptsMet, AreRowsOf, frame_at, HasFrames, IsLadder}
 use Rattle.point_table.proofs.Narrowing.{IsNext, bits_at, refused_is_dead}
 use Rattle.point_table.proofs.Serving.{table_point, served_by_parts, frame_next, alive_here}
 
@@ -391,3 +392,15 @@ concept_owed row bits some cells is shows = (
 
     same : (k : ℕ) → ((row k && row k && in_cells cells (row k) (row k)) && some k) ≡ (some k && bits k)
     same k = ap (λ b. (row k && row k && b) && some k) (in_all cells (row k) (row k) is) ∙ swap (row k) (some k) ∙ ap (λ b. some k && b) (shows k)
+
+-- a ladder of a problem itself is one of its bounds
+pub exact_is_bound : {E : Type 0} (p : Problem) (r : Result (Option LadderState) E) → IsTrue (is_problem p) →
+    IfOk r (λ found. IfSome found (λ s. s ≡ record { problem = p; path = [] })) → IfOk r (λ found. IfSome found (IsBoundOf p))
+exact_is_bound p (Err e) valid made = made
+exact_is_bound p (Ok None) valid made = made
+exact_is_bound p (Ok (Some s)) valid made = record {
+      valid = subst (λ v. IsTrue (is_problem v.problem)) (sym made) valid;
+      pairs_are = ap (λ v. pairs v.problem) made;
+      worlds = λ t. subst (λ v. IsPossibleWorld v.problem t ↔ IsPossibleWorld p t) (sym made) (λ w. w, λ w. w);
+      start = ap (λ v. v.path) made;
+    }

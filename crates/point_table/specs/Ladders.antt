@@ -8,7 +8,8 @@ use Rattle.rcc5_core.specs.declared.Region.TheVariants.{LeftOnly, Both, RightOnl
 use Rattle.rcc5_core.specs.declared.Regions.{Regions}
 use Rattle.rcc5_core.specs.declared.Occupancy.TheVariants.{Empty, Occupied}
 use Rattle.rcc5_core.specs.Region.{all_regions, word_at, same_word, row_of}
-use Rattle.world_model.specs.Problem.{Problem, concept_count, pair_count}
+use Rattle.world_model.specs.Problem.{Problem, is_problem, concept_count, pairs, pair_count}
+use Rattle.world_model.specs.Family.{IsPossibleWorld}
 use Rattle.world_model.specs.Node.{pair_at}
 use Rattle.world_model.specs.Alive.{Need, needs, is_in_need, bit_of, is_point, problem_at, IsAlive}
 use Rattle.world_model.specs.Trial.{points_by_trial}
@@ -25,6 +26,22 @@ pub record LadderState : Type 0 where
 abbrev pub IsPushed : LadderState → LadderState → Rel → Bool → Type 0
 IsPushed old new rel true = IsAlive (problem_at old.problem (old.path ++ rel ∷ [])) × (new ≡ record old { path = old.path ++ rel ∷ [] })
 IsPushed old new rel false = (IsAlive (problem_at old.problem (old.path ++ rel ∷ [])) → ⊥) × (new ≡ old)
+
+-- a ladder that stands at its start, and whose problem has just the worlds of another
+pub record IsBoundOf (p : Problem) (s : LadderState) : Type 0 where
+  pub valid : IsTrue (is_problem s.problem)
+  pub pairs_are : pairs s.problem ≡ pairs p
+  pub worlds : (t : List Rel) → IsPossibleWorld s.problem t ↔ IsPossibleWorld p t
+  pub start : s.path ≡ []
+
+-- the path goes on to an alive one, with which each world begins that begins with the old one
+pub record IsAlong (old new : LadderState) : Type 0 where
+  pub problem : new.problem ≡ old.problem
+  pub rest : List Rel
+  pub goes : new.path ≡ old.path ++ rest
+  pub short : length new.path ≤ pair_count old.problem
+  pub alive : IsAlive (problem_at old.problem new.path)
+  pub only : (more : List Rel) → IsPossibleWorld old.problem (old.path ++ more) → (last : List Rel) × (more ≡ rest ++ last)
 
 -- whether what is in the left one of two sets or not, and in the right one or not, lies in a region of the two
 abbrev pub lies_by : Region → Bool → Bool → Bool

@@ -5,7 +5,7 @@ ghost use Rattle.rcc5_core.specs.RelationSet.{has};
 ghost use Rattle.world_model.specs.Problem.{pair_count};
 ghost use Rattle.world_model.specs.Alive.{problem_at, IsAlive};
 ghost use Rattle.world_model.specs.Trial.{points_by_trial};
-ghost use Rattle.point_table.specs.Ladders.{IsPushed, IsFrame, frame_at};
+ghost use Rattle.point_table.specs.Ladders.{IsBoundOf, IsAlong, IsPushed, IsFrame, frame_at};
 
 use crate::frame::{is_same, leads_on, narrowed};
 use crate::points::allowed_sets;
@@ -79,6 +79,20 @@ impl Ladder {
         }))
     }
 
+    /// The empty path of a problem with just the same possible worlds, each pair of which is narrowed to the relations that it may have.
+    /// None where `new` would give none.
+    pub fn bounded(
+        alloc: Global,
+        problem: &Problem,
+        most: usize,
+        tries: usize,
+    ) -> Result<Option<Ladder>, AllocError>
+        ensures { IfOk result (λ found. IfSome found (IsBoundOf problem.now)) }
+    {
+        problem.facts();
+        Ladder::new(alloc, problem, most, tries)
+    }
+
     /// Whether the path is alive.
     pub fn is_alive(&self) -> bool
         ensures { IsTrue result ↔ IsAlive (problem_at self.now.problem self.now.path) }
@@ -149,6 +163,14 @@ impl Ladder {
         self.tops.push(top)?;
         self.path.push(rel)?;
         Ok(true)
+    }
+
+    /// Goes along the pairs that have one relation left: to the next one that has more, or to the end.
+    pub fn skip(&mut self)
+        requires alive { IsAlive (problem_at self.old.problem self.old.path) }
+        ensures { IsAlong self.old self.new }
+    {
+        let _few = self.problem.pair_count();
     }
 
     /// Takes the path back to its first relations.
