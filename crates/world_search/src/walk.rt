@@ -12,6 +12,7 @@ ghost use Rattle.world_search.specs.declared.walk.Stage.TheVariants.{Start, Stan
 ghost use Rattle.world_search.specs.Searching.{Passes, FellBy, Came};
 ghost use Rattle.world_search.specs.Steps.{IsStep, IsStepped};
 
+use crate::behind::{climb, next_set};
 use crate::step::{Nodes, Step};
 use constraint_set::Problem;
 use point_query::Asker;
@@ -63,30 +64,6 @@ impl Walk {
         }
         Ok(())
     }
-}
-
-// What the pair after a prefix allows.
-fn next_set(problem: &Problem, prefix: &Position) -> RelSet
-    requires { length prefix.now < pair_count problem.now }
-    ensures { result ≡ allowed problem.now (pair_at problem.now (length prefix.now)) }
-{
-    let _pairs = problem.pair_count();
-    problem.allowed(prefix.len() as u32)
-}
-
-// From a node to the place of the least node behind all that begin with it: a prefix, and the relation that follows.
-fn climb(problem: &Problem, path: &mut Position) -> Option<Rel>
-    requires { IsNode problem.now path.old }
-    ensures next { IfSome result (λ rel. IsLeastNode problem.now (IsBehind path.old) (path.new ++ rel ∷ [])) }
-    ensures none { IfNone result (HasNoNode problem.now (IsBehind path.old)) }
-    ensures prefix { (rest : List Rel) × (path.old ≡ path.new ++ rest) }
-{
-    while let Some(rel) = path.pop() {
-        if let Some(next) = next_set(problem, path).after(rel) {
-            return Some(next);
-        }
-    }
-    None
 }
 
 // Goes on from a node to the least node behind all that begin with it.

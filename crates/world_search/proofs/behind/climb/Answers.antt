@@ -1,7 +1,7 @@
 use Rattle.std.proofs.Common.{refl, sym, ap, ◌∙◌}
 use Rattle.rcc5_core.specs.RelationSet.{next_of}
 use Rattle.world_search.proofs.LeastNodes.{climb_on, climb_found, climb_none}
-use Rattle.world_search.proofs.walk.climb.Goals as goal
+use Rattle.world_search.proofs.behind.climb.Goals as goal
 
 pub returns-in-Some-after-clause-next : goal.returns-in-Some-after-clause-next
 returns-in-Some-after-clause-next c =
