@@ -7,7 +7,7 @@ use Rattle.world_model.specs.Alive.{allowed}
 use Rattle.world_model.specs.Node.{pair_at}
 use Rattle.world_search.specs.Walking.{place}
 use Rattle.world_search.proofs.Leading.{rest_begins, longer_way, leads_to_later, leads_from_behind, none_from_behind}
-use Rattle.world_search.proofs.walk.follow.Goals as goal
+use Rattle.world_search.proofs.first.follow.Goals as goal
 
 pub returns-then-has-clause-ok : goal.returns-then-has-clause-ok
 returns-then-has-clause-ok c =
