@@ -5,7 +5,7 @@ use Rattle.lits_core.specs.Literals.{variable_of, is_negative}
 use Rattle.lits_core.proofs.LiteralLemmas.{variable_of-literal_of, is_negative-literal_of, is_negative-negation, same_variable}
 use Rattle.cert_model.specs.Clauses.{is_so, first_sum_selector}
 use Rattle.cert_model.specs.Forced.{selectors_of}
-use Rattle.point_query.proofs.oracle.is_selector.Goals as goal
+use Rattle.point_query.proofs.reading.is_selector.Goals as goal
 
 -- a literal that is not negative says that its variable is so
 positive : (lit : ℕ) → is_negative lit ≡ false → is_so (variable_of lit) ≡ lit

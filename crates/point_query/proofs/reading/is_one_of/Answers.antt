@@ -1,7 +1,7 @@
 use Rattle.std.proofs.Common.{◌≡◌, ℕ, Option, Some, None, refl, arith}
 use Rattle.std.specs.Prelude.{Contains}
 use Rattle.point_encode.specs.Needs.{lits_there}
-use Rattle.point_query.proofs.oracle.is_one_of.Goals as goal
+use Rattle.point_query.proofs.reading.is_one_of.Goals as goal
 
 -- a literal that is there is one of those that are there
 first_there : (a b : Option ℕ) (lit : ℕ) → a ≡ Some lit → Contains (lits_there a b) lit

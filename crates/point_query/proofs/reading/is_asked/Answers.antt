@@ -3,7 +3,7 @@ use Rattle.std.specs.Prelude.{Contains}
 use Rattle.std.proofs.lemmas.List.Elements.{Contains-append_left, Contains-append_right}
 use Rattle.cert_model.specs.Forced.{selectors_of, need_lits}
 use Rattle.point_query.specs.Stands.{need_at}
-use Rattle.point_query.proofs.oracle.is_asked.Goals as goal
+use Rattle.point_query.proofs.reading.is_asked.Goals as goal
 
 pub returns-then-is_selector : goal.returns-then-is_selector
 returns-then-is_selector c = λ yes.

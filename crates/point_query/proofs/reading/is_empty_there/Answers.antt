@@ -8,7 +8,7 @@ use Rattle.cert_model.specs.Clauses.{is_so}
 use Rattle.cert_model.specs.Forced.{region_number, region_with, selectors_of}
 use Rattle.point_query.specs.Stands.{forced_at}
 use Rattle.point_query.proofs.Assuming.{empty_is_selector}
-use Rattle.point_query.proofs.oracle.is_empty_there.Goals as goal
+use Rattle.point_query.proofs.reading.is_empty_there.Goals as goal
 
 -- the number of the region with a number
 number_with : (part : ℕ) → part < 3 → region_number (region_with part) ≡ part

@@ -6,7 +6,7 @@ use Rattle.lits_core.specs.Literals.{negation_of}
 use Rattle.lits_core.specs.Derivation.{live_clause}
 use Rattle.cert_model.specs.Forced.{asked_of, IsClosedAt}
 use Rattle.point_query.specs.Stands.{need_at}
-use Rattle.point_query.proofs.oracle.closes.Goals as goal
+use Rattle.point_query.proofs.reading.closes.Goals as goal
 
 pub loop-place-preserved : goal.loop-place-preserved
 loop-place-preserved c =

@@ -3,7 +3,7 @@ use Rattle.std.specs.Prelude.{Contains}
 use Rattle.lits_core.specs.Literals.{negation_of}
 use Rattle.cert_model.specs.Forced.{asked_of}
 use Rattle.point_query.specs.Stands.{need_at}
-use Rattle.point_query.proofs.oracle.closes.Given as goal
+use Rattle.point_query.proofs.reading.closes.Given as goal
 
 abbrev pub invariant-loop-place : goal.invariant-loop-place
 invariant-loop-place l = record {

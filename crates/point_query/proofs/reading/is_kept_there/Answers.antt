@@ -1,7 +1,7 @@
 use Rattle.std.proofs.Common.{◌∙◌, false, get_or, sym, ap, arith}
 use Rattle.std.proofs.lemmas.Option.{get_or_from_slice_get}
 use Rattle.point_query.proofs.Assuming.{kept_is_selector}
-use Rattle.point_query.proofs.oracle.is_kept_there.Goals as goal
+use Rattle.point_query.proofs.reading.is_kept_there.Goals as goal
 
 pub returns-then-sum-sum_count : goal.returns-then-sum-sum_count
 returns-then-sum-sum_count c = λ kept m.
