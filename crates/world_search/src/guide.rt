@@ -1,5 +1,5 @@
 //! What tells whether a prefix is alive: a table of points, or an asker.
-ghost use Rattle.std.specs.Prelude.{List, ◌≡◌, ◌↔◌, ◌<◌, ◌≤◌, ◌++◌, [], length, true, IfOk, IsTrue};
+ghost use Rattle.std.specs.Prelude.{List, ◌≡◌, ◌↔◌, ◌<◌, ◌≤◌, ◌++◌, [], length, true, IfOk, IfSome, IsTrue};
 ghost use Rattle.rcc5_core.specs.declared.Rel.{Rel};
 ghost use Rattle.world_model.specs.Problem.{Problem, pair_count};
 ghost use Rattle.world_model.specs.Alive.{problem_at, IsAlive};
@@ -108,6 +108,7 @@ impl Guide {
         ensures alive { IfOk result (λ alive. IsTrue alive ↔ IsAlive (problem_at problem.now prefix.now)) }
         ensures guide { IsGuideOf problem.now prefix.now self.new }
         ensures shape { asker.new.shape ≡ asker.old.shape }
+        ensures unasked { IfSome self.old.ladder (λ _. asker.new ≡ asker.old) }
     {
         match &mut self.ladder {
             Some(ladder) => climb_to(ladder, prefix),
@@ -129,6 +130,7 @@ impl Guide {
         ensures each { IfOk result (AreOpenAfter problem.now prefix.now) }
         ensures guide { IsGuideOf problem.now prefix.now self.new }
         ensures shape { asker.new.shape ≡ asker.old.shape }
+        ensures unasked { IfSome self.old.ladder (λ _. asker.new ≡ asker.old) }
     {
         match &mut self.ladder {
             Some(ladder) => {
