@@ -6,3 +6,4 @@ pub mod After
 pub mod Bare
 pub mod Walks
 pub mod Seeking
+pub mod Remembered

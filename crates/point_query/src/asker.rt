@@ -1,11 +1,12 @@
 //! The asker, as its users see it.
-ghost use Rattle.std.specs.Prelude.{◌≡◌, ◌<◌, ◌≤◌, ◌↔◌, [], ◌∷◌, ◌++◌, length, IfOk, IfSome, IfNone, IsTrue, Contains};
+ghost use Rattle.std.specs.Prelude.{◌≡◌, ◌<◌, ◌≤◌, ◌↔◌, [], ◌∷◌, ◌++◌, length, IfOk, OnOk, OnErr, IfSome, IfNone, IsTrue, Contains};
 ghost use Rattle.rcc5_core.specs.declared.Rel.{Rel};
 ghost use Rattle.rcc5_core.specs.RelationSet.{has};
 ghost use Rattle.world_model.specs.Problem.{pair_count};
 ghost use Rattle.world_model.specs.Alive.{needs, problem_at, IsAlive};
 ghost use Rattle.constraint_set.specs.Shape.{shape_of};
 ghost use Rattle.point_encode.specs.Needs.{need_seen, IsInRange};
+ghost use Rattle.learn_solver.specs.Solving.{IsTidied};
 ghost use Rattle.point_query.specs.Asking.{IsNewAsker, AskerGoes, IsAsker};
 ghost use Rattle.point_query.specs.Answers.{IsFound, IsAliveAnswer, IsProbeAnswer, IsServedByFew};
 ghost use Rattle.point_query.specs.Walks.{IsWalkAt};
@@ -17,7 +18,7 @@ use crate::oracle::Oracle;
 use crate::same::same_problem;
 use crate::walk::Walk;
 use constraint_set::Problem;
-use lits_core::Line;
+use lits_core::{Line, law_derived_clauses_follow};
 use point_encode::Need;
 use rcc5_core::{Position, RelSet};
 use std::alloc::{AllocError, Global};
@@ -191,6 +192,18 @@ impl Asker {
         ensures { result ≡ length self.now.solver.idle }
     {
         self.solver.idle()
+    }
+
+    /// Forgets the clauses that are idle, with one line for them all, and remembers none of them.
+    ///
+    /// It takes all its memory first: where that is wanting, nothing has changed.
+    pub fn tidy(&mut self) -> Result<(), AllocError>
+        ensures kept { AskerGoes self.old self.new }
+        ensures ok { OnOk result (IsTidied self.old.solver self.new.solver) }
+        ensures err { OnErr result (self.new ≡ self.old) }
+    {
+        law_derived_clauses_follow();
+        self.solver.tidy()
     }
 
     /// How many questions went to the solver.

@@ -3,7 +3,7 @@ ghost use Rattle.std.specs.Prelude.{◌<◌};
 ghost use Rattle.world_model.specs.Problem.{concept_count};
 ghost use Rattle.point_query.specs.Walks.{need_count};
 
-use crate::oracle::is_selector;
+use crate::reading::is_selector;
 use crate::stand::{Stand, count_pairs};
 use crate::walk::need_of;
 use constraint_set::Problem;

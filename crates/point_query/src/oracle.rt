@@ -1,14 +1,13 @@
 //! The solver of an asker, with the clauses that closed needs before.
-ghost use Rattle.std.specs.Prelude.{◌≡◌, [], List, ◌+◌, ◌*◌, ◌<◌, ◌≤◌, length, Contains, IfOk, IfSome, IfNone, MatchOption, IsTrue, None, Some};
+ghost use Rattle.std.specs.Prelude.{◌≡◌, [], ◌*◌, ◌<◌, ◌≤◌, length, IfOk, OnOk, OnErr, IfSome, IfNone, MatchOption, IsTrue, None, Some};
 ghost use Rattle.rcc5_core.specs.declared.Rel.{Rel};
 ghost use Rattle.lits_core.specs.Derivation.{live_clause};
-ghost use Rattle.world_model.specs.Problem.{pair_count, concept_count};
+ghost use Rattle.world_model.specs.Problem.{pair_count};
 ghost use Rattle.world_model.specs.Alive.{needs, problem_at, IsAlive};
-ghost use Rattle.cert_model.specs.Clauses.{is_so, first_sum_selector};
-ghost use Rattle.cert_model.specs.Forced.{selectors_of, need_lits, asked_of, IsClosedAt};
-ghost use Rattle.point_encode.specs.Needs.{need_seen, lits_there, IsInRange};
+ghost use Rattle.cert_model.specs.Forced.{selectors_of, IsClosedAt};
+ghost use Rattle.point_encode.specs.Needs.{need_seen, IsInRange};
 ghost use Rattle.watch_arena.specs.Trails.{AreInRange};
-ghost use Rattle.learn_solver.specs.Solving.{GoesTo, IsSolver};
+ghost use Rattle.learn_solver.specs.Solving.{GoesTo, IsSolver, IsTidied};
 ghost use Rattle.point_query.specs.Answers.{IsFound, IsClosed};
 ghost use Rattle.point_query.specs.Queries.{IsSolverOf, asker_with};
 ghost use Rattle.point_query.specs.Stands.{need_at, is_needed};
@@ -16,28 +15,29 @@ ghost use Rattle.point_query.specs.Bare.{IsBare, IsPointIn};
 ghost use Rattle.point_query.specs.Walks.{need_count};
 
 use crate::answers::Found;
+use crate::closings::{Closings, forget_idle};
 use crate::draft::Draft;
 use crate::query::query;
-use crate::stand::{Stand, count_pairs, word_of};
+use crate::reading::closes;
+use crate::stand::{Stand, count_pairs};
 use crate::walk::{count_needs, need_of};
 use cert_model::{clauses_are_points, needs_are_literals};
 use constraint_set::Problem;
 use learn_solver::Solver;
 use lits_core::{Bits, Line, Lit, law_derived_clauses_follow, law_literals_are_sets};
-use point_encode::{Need, need_lits, selectors_of, variable_count};
-use rcc5_core::{Occupancy, Position, Rel};
+use point_encode::{Need, selectors_of, variable_count};
+use rcc5_core::{Position, Rel};
 use std::alloc::{AllocError, Global};
 use std::marker::Model;
-use world_model::positions_narrow;
 
-/// A solver, and for each need the ids of clauses that closed it at some prefix.
+/// A solver, and the clauses that closed needs before.
 ///
-/// A need that one of these clauses closes again costs no question. The ids are hints: what a clause says is read anew.
+/// A need that one of these clauses closes again costs no question.
 #[derive(Drop)]
 pub(crate) struct Oracle {
     solver: Solver,
     draft: Draft,
-    closings: Vec<Vec<u64>>,
+    closings: Closings,
     // For each pair and relation, the need that was found without a point when this relation was added.
     lost: Vec<u32>,
     questions: u64,
@@ -62,7 +62,7 @@ impl Oracle {
         ensures { IfOk result (λ o. o ≡ solver) }
     {
         let draft = Draft::new(alloc, &solver, problem)?;
-        let closings = no_ids(alloc, count_needs(problem))?;
+        let closings = Closings::new(alloc, count_needs(problem))?;
         let relations = 5 * count_pairs(problem) as usize;
         let lost = vec![in alloc; u32::MAX; relations]?;
         Ok(Oracle {
@@ -223,8 +223,7 @@ impl Oracle {
         requires within { number < need_count stand.now.problem }
         ensures { IfSome result (λ id. MatchOption (live_clause self.now.state id) ⊥ (IsClosedAt stand.now.problem stand.now.path (need_at stand.now.problem number))) }
     {
-        let ids = self.closings.get(number as usize)?;
-        for id in ids {
+        for id in self.closings.of(number)? {
             if closes(&self.solver, stand, number, *id) {
                 return Some(*id);
             }
@@ -236,10 +235,7 @@ impl Oracle {
     fn note(&mut self, number: u32, id: u64) -> Result<(), AllocError>
         ensures { self.new ≡ self.old }
     {
-        if (number as usize) < self.closings.len() {
-            self.closings[number as usize].push(id)?;
-        }
-        Ok(())
+        self.closings.note(number, id)
     }
 
     // A point of the prefix in the region with a number, if there is one.
@@ -344,6 +340,15 @@ impl Oracle {
         self.solver.idle()
     }
 
+    // Forgets the clauses that are idle.
+    pub(crate) fn tidy(&mut self) -> Result<(), AllocError>
+        ensures kept { GoesTo self.old self.new }
+        ensures ok { OnOk result (IsTidied self.old self.new) }
+        ensures err { OnErr result (self.new ≡ self.old) }
+    {
+        forget_idle(&mut self.solver, &mut self.closings)
+    }
+
     // What is so of the solver at any time.
     pub(crate) fn facts(&self)
         ensures { IsSolver self.now }
@@ -365,31 +370,6 @@ fn place_of(path: &[Rel]) -> Option<usize> {
     pair.checked_mul(5)?.checked_add(rel)
 }
 
-// So many empty lists.
-fn no_ids(alloc: Global, count: u32) -> Result<Vec<Vec<u64>>, AllocError> {
-    let mut lists = Vec::with_capacity(alloc, count as usize)?;
-    for _number in 0..count {
-        lists.push(Vec::new(alloc))?;
-    }
-    Ok(lists)
-}
-
-// Whether a clause closes the need with a number: it has only negations of what must be true of a point in it.
-fn closes(solver: &Solver, stand: &Stand, number: u32, id: u64) -> bool
-    requires { number < need_count stand.now.problem }
-    ensures { IsTrue result → MatchOption (live_clause solver.now.state id) ⊥ (IsClosedAt stand.now.problem stand.now.path (need_at stand.now.problem number)) }
-{
-    let Some(lits) = solver.clause(id) else {
-        return false;
-    };
-    for place in 0..lits.count() {
-        if !is_asked(stand, number, lits.lit(place).negate()) {
-            return false;
-        }
-    }
-    true
-}
-
 // Whether the variables of literals are below a number.
 fn are_below(lits: &[Lit], count: u32) -> bool
     ensures { IsTrue result → AreInRange lits.now count }
@@ -400,91 +380,4 @@ fn are_below(lits: &[Lit], count: u32) -> bool
         }
     }
     true
-}
-
-// Whether a literal must be true of a point in the need with a number.
-fn is_asked(stand: &Stand, number: u32, lit: Lit) -> bool
-    requires { number < need_count stand.now.problem }
-    ensures { IsTrue result → Contains (asked_of stand.now.problem stand.now.path (need_at stand.now.problem number)) lit }
-{
-    if is_selector(stand, lit) {
-        return true;
-    }
-    is_need_lit(stand.problem(), number, lit)
-}
-
-// Whether a literal says that a point is in the need with a number.
-fn is_need_lit(problem: &Problem, number: u32, lit: Lit) -> bool
-    requires { number < need_count problem.now }
-    ensures { IsTrue result → Contains (need_lits (need_at problem.now number)) lit }
-{
-    let need = need_of(problem, number);
-    let [first, second] = need_lits(problem, need);
-    is_one_of(first, second, lit)
-}
-
-// Whether a literal is one of two, each of which may be missing.
-fn is_one_of(first: Option<Lit>, second: Option<Lit>, lit: Lit) -> bool
-    ensures { IsTrue result → Contains (lits_there first second) lit }
-{
-    if is_it(first, lit) {
-        return true;
-    }
-    is_it(second, lit)
-}
-
-// Whether a literal is there, and this one.
-fn is_it(there: Option<Lit>, lit: Lit) -> bool
-    ensures { IsTrue result → there ≡ Some lit }
-{
-    match there {
-        Some(other) => other == lit,
-        None => false,
-    }
-}
-
-// Whether a literal is a selector that the prefix makes true.
-pub(crate) fn is_selector(stand: &Stand, lit: Lit) -> bool
-    ensures { IsTrue result → Contains (selectors_of stand.now.problem stand.now.path) lit }
-{
-    positions_narrow();
-    let _open = stand.path();
-    if lit.is_negative() {
-        return false;
-    }
-    let problem = stand.problem();
-    let pairs = count_pairs(problem);
-    let concepts = problem.concept_count();
-    let variable = lit.variable();
-    if variable < concepts {
-        return false;
-    }
-    let selector = variable - concepts;
-    if selector < 3 * pairs {
-        return is_empty_there(stand, selector / 3, selector % 3);
-    }
-    is_kept_there(problem, selector - 3 * pairs)
-}
-
-// Whether a region of a pair is forced empty at the prefix.
-fn is_empty_there(stand: &Stand, pair: u32, part: u32) -> bool
-    requires pair { pair < pair_count stand.now.problem }
-    requires part { part < 3 }
-    ensures { IsTrue result → Contains (selectors_of stand.now.problem stand.now.path) (is_so (concept_count stand.now.problem + 3 * pair + part)) }
-{
-    match word_of(stand.forced_at(pair), part) {
-        Occupancy::Empty => true,
-        Occupancy::Occupied | Occupancy::Free => false,
-    }
-}
-
-// Whether the sum with a number is kept.
-fn is_kept_there(problem: &Problem, sum: u32) -> bool
-    ensures { IsTrue result → (m : List Rel) → Contains (selectors_of problem.now m) (is_so (first_sum_selector problem.now + sum)) }
-{
-    let _built = problem.taxonomy_count();
-    if sum < problem.sum_count() {
-        return problem.is_kept(problem.sum_at(sum));
-    }
-    false
 }

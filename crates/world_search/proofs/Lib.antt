@@ -5,5 +5,5 @@ pub mod Leading
 pub mod Serving
 pub mod Passing
 pub mod Stepping
-pub mod Copying
 pub mod OpenChildren
+pub mod Guiding

@@ -1,21 +1,20 @@
 -- What a turn of a walk leaves, as a step of the search.
-use Rattle.std.proofs.Common.{◌≡◌, ◌≢◌, ℕ, ◌<◌, true, false, List, [], ◌∷◌, refl, sym, ap, ◌∙◌, subst, IsTrue}
-use Rattle.std.specs.Prelude.{Option, Some, IfSome, Result, Ok, Err, OnErr, if◌then◌else◌}
+use Rattle.std.proofs.Common.{◌≡◌, ◌≢◌, ℕ, ◌<◌, true, false, List, [], ◌∷◌, ◌++◌, refl, sym, ap, ◌∙◌, subst, append-nil}
+use Rattle.std.specs.Prelude.{Option, Some, IfSome, if◌then◌else◌}
 use Rattle.std.proofs.lemmas.Bool.{not_from_false}
 use Rattle.rcc5_core.specs.declared.Rel.{Rel}
 use Rattle.world_model.specs.Problem.{Problem}
-use Rattle.world_model.specs.Family.{meets, table_of, IsPossibleWorld}
+use Rattle.world_model.specs.Node.{IsNode}
 use Rattle.world_model.specs.Listing.{is_below, is_before_end}
 use Rattle.world_search.specs.Searching.{SearchState, Passes, FellBy, Came, last_place}
-use Rattle.world_search.specs.Steps.{IsStep, StandsBehind}
-use Rattle.world_search.specs.declared.step.Step.{Step}
-use Rattle.world_search.specs.declared.step.Step.TheVariants.{World, Spent, End}
+use Rattle.world_search.specs.Steps.{IsTableStep, StandsBehind}
+use Rattle.world_search.specs.Stopping.{IsAtWorld, IsStop}
+use Rattle.world_search.specs.declared.step.TableStep.TheVariants.{World as Table, Spent, End}
 use Rattle.world_search.specs.declared.walk.Stage.{Stage}
 use Rattle.world_search.specs.declared.walk.Stage.TheVariants.{Start, Standing}
 use Rattle.world_search.specs.declared.walk.Walk.{Walk}
-use Rattle.world_search.specs.declared.walk.World.{World as Found}
-use Rattle.world_search.specs.Walking.{place, LeadsBy, LeadsTo, IsAfter, IsStanding, IsPlacedBy, IsPlaced, at_by, state_of, left_by, nodes_left, Knows, AreOpenBeside, IsWorldAt}
-use Rattle.world_search.proofs.Passing.{WorldsAt, stays_put, fell_nowhere, came_join, passes_next, none_behind, placed_next, fewer_left, at_end_standing}
+use Rattle.world_search.specs.Walking.{place, LeadsBy, LeadsTo, IsAfter, IsStanding, IsPlacedBy, IsPlaced, at_by, state_of, left_by, nodes_left, Knows, AreOpenBeside, waiting}
+use Rattle.world_search.proofs.Passing.{WorldsAt, one_there, stays_put, fell_nowhere, came_join, passes_next, none_behind, placed_next, fewer_left, at_end_standing}
 
 -- a walk that stands is at its place
 pub standing_at : (p : Problem) (from : List Rel) (to : Option (List Rel)) (w : Walk) → w.stage ≡ Standing → IsPlaced p from to w → IsStanding p from to (place w)
@@ -50,23 +49,21 @@ pub came_uncounted : (p : Problem) (from : List Rel) (to : Option (List Rel)) (o
 came_uncounted p from to old new left passed = record { problem = refl; from = refl; to = refl; nodes = []; passed = passed; counted = fell_nowhere left }
 
 -- the end, at a node
-pub step_end : (p : Problem) (from : List Rel) (to : Option (List Rel)) (old new : Walk) (left : Option ℕ) (node : List Rel) →
+pub stop_end : (p : Problem) (from : List Rel) (to : Option (List Rel)) (old new : Walk) (left : Option ℕ) (node : List Rel) →
     new.stage ≡ old.stage → place new ≡ place old → old.stage ≡ Standing → IsPlaced p from to old → node ≡ place old → is_before_end node to ≡ false →
-    IsStep (state_of p from to old) (state_of p from to new) left left (End (Some node))
-step_end p from to old new left node stage same standing placed is after =
+    IsStop p from to new left (End (Some node))
+stop_end p from to old new left node stage same standing placed is after =
     let past : is_before_end (place old) to ≡ false = subst (λ m. is_before_end m to ≡ false) is after in (
-      came_same p from to old new left stage same,
       same_at from to old new stage same ∙ at_last from to (place old) old.stage standing past,
       at_end_standing p from to node (subst (IsStanding p from to) (sym is) (standing_at p from to old standing placed)) after,
     )
 
 -- the next node, where none may be visited
-pub step_spent : (p : Problem) (from : List Rel) (to : Option (List Rel)) (old new : Walk) (left : Option ℕ) (node : List Rel) →
+pub stop_spent : (p : Problem) (from : List Rel) (to : Option (List Rel)) (old new : Walk) (left : Option ℕ) (node : List Rel) →
     new.stage ≡ old.stage → place new ≡ place old → old.stage ≡ Standing → IsPlaced p from to old → node ≡ place old → is_before_end node to ≡ true → left ≡ Some 0 →
-    IsStep (state_of p from to old) (state_of p from to new) left left (Spent node)
-step_spent p from to old new left node stage same standing placed is before spent =
+    IsStop p from to new left (Spent node)
+stop_spent p from to old new left node stage same standing placed is before spent =
     let ahead : is_before_end (place old) to ≡ true = subst (λ m. is_before_end m to ≡ true) is before in (
-      came_same p from to old new left stage same,
       spent,
       record {
         node_is = (subst (IsStanding p from to) (sym is) (standing_at p from to old standing placed)).node;
@@ -124,27 +121,33 @@ knows_same p old new stage same known knows = λ standing.
     let here : IfSome old.open (AreOpenBeside p (place new)) = subst (λ m. IfSome old.open (AreOpenBeside p m)) (sym same) (knows (sym stage ∙ standing)) in
     subst (λ set. IfSome set (AreOpenBeside p (place new))) (sym known) here
 
--- a world that was found
-pub world_there : (p : Problem) (node : List Rel) (world : Found) → IsWorldAt p node world → IsPossibleWorld p node
-world_there p node world at = (world.family, at.met, at.shown)
-
 -- a walk that leads on has begun
 pub leads_begun : (p : Problem) (K : List Rel → Type 0) (w : Walk) → LeadsTo p K w → w.stage ≢ Start
 leads_begun p K w leads start = subst (LeadsBy p K (place w)) start leads
 
--- what is so in any case is so after an error
-pub on_err : {T E P : Type 0} (r : Result T E) → P → OnErr r P
-on_err (Ok x) h = tt
-on_err (Err e) h = h
+-- a walk at a world has settled
+place_is : (p : Problem) (to : Option (List Rel)) (w : Walk) (left : Option ℕ) (table : List Rel) → IsAtWorld p to w left table → place w ≡ w.path
+place_is p to w left table at = ap (λ next. w.path ++ waiting next) at.none_waits ∙ append-nil w.path
 
--- a step after a way past no world
-pub step_join : (one mid other : SearchState) (before between left : Option ℕ) (step : Step) → Came one mid before between [] →
-    IsStep mid other between left step → IsStep one other before left step
-step_join one mid other before between left (World table family) a b = (
-  came_join one mid other before between left [] (table ∷ []) a b.0,
-  subst (λ p. IsTrue (meets p family)) a.problem b.1,
-  subst (λ p. table_of p family ≡ table) a.problem b.2,
-  b.3,
-)
-step_join one mid other before between left (Spent next) a b = (came_join one mid other before between left [] [] a b.0, b.1, b.2)
-step_join one mid other before between left (End last) a b = (came_join one mid other before between left [] [] a b.0, b.1, b.2)
+-- the node at which a walk stops at a world
+pub node_at : (p : Problem) (from : List Rel) (to : Option (List Rel)) (w : Walk) (left : Option ℕ) (table : List Rel) → IsAtWorld p to w left table →
+    IsPlaced p from to w → IsNode p w.path
+node_at p from to w left table at placed = subst (IsNode p) (place_is p to w left table at) (standing_at p from to w at.standing placed).node.0
+
+-- past the world at which a walk stopped
+pub step_world : (p : Problem) (from : List Rel) (to : Option (List Rel)) (one : SearchState) (old new : Walk) (first before left : Option ℕ) (table : List Rel) →
+    IsAtWorld p to old before table → IsPlaced p from to old → LeadsTo p (IsAfter old.path) new → FellBy before left 1 →
+    Came one (state_of p from to old) first before [] → IsTableStep one (state_of p from to new) first left (Table table)
+step_world p from to one old new first before left table at placed leads fell came =
+    let is : table ≡ place old = sym (place_is p to old before table at ∙ at.path_is) in
+    let on : LeadsTo p (IsAfter table) new = subst (λ m. LeadsTo p (IsAfter m) new) at.path_is leads in (
+      came_join one (state_of p from to old) (state_of p from to new) first before left [] (table ∷ []) came
+          (came_visit p from to old new before left table (table ∷ []) at.standing placed is at.below_end (one_there at.world) on fell),
+      behind_visit p from to old new table at.standing placed is at.below_end on,
+    )
+
+pub placed_world : (p : Problem) (from : List Rel) (to : Option (List Rel)) (old new : Walk) (left : Option ℕ) (table : List Rel) →
+    IsAtWorld p to old left table → IsPlaced p from to old → LeadsTo p (IsAfter old.path) new → IsPlaced p from to new
+placed_world p from to old new left table at placed leads =
+    let is : table ≡ place old = sym (place_is p to old left table at ∙ at.path_is) in
+    placed_visit p from to old new table at.standing placed is at.below_end (subst (λ m. LeadsTo p (IsAfter m) new) at.path_is leads)

@@ -1,3 +1,5 @@
+pub mod Guiding
 pub mod Searching
 pub mod Steps
+pub mod Stopping
 pub mod Walking

@@ -1,10 +1,9 @@
 -- Where a walk stands among the nodes.
-use Rattle.std.specs.Prelude.{◌≡◌, ◌≤◌, ◌↔◌, ℕ, Bool, true, false, List, [], ◌∷◌, ◌++◌, Option, Some, None, IfSome, length, IsTrue, not, if◌then◌else◌}
+use Rattle.std.specs.Prelude.{◌≡◌, ◌↔◌, ℕ, Bool, true, false, List, [], ◌∷◌, ◌++◌, Option, Some, None, IfSome, length, IsTrue, not, if◌then◌else◌}
 use Rattle.rcc5_core.specs.declared.Rel.{Rel}
 use Rattle.rcc5_core.specs.declared.RelSet.{RelSet}
 use Rattle.rcc5_core.specs.RelationSet.{has}
-use Rattle.world_model.specs.Problem.{Problem, pair_count}
-use Rattle.world_model.specs.Family.{meets, table_of, IsPossibleWorld}
+use Rattle.world_model.specs.Problem.{Problem}
 use Rattle.world_model.specs.Listing.{is_below, is_before_end}
 use Rattle.world_model.specs.Alive.{problem_at, IsAlive}
 use Rattle.world_model.specs.Node.{IsNode, IsNodeFrom}
@@ -12,7 +11,6 @@ use Rattle.world_model.specs.Trial.{nodes_between}
 use Rattle.world_search.specs.declared.walk.Stage.{Stage}
 use Rattle.world_search.specs.declared.walk.Stage.TheVariants.{Start, Standing, Past}
 use Rattle.world_search.specs.declared.walk.Walk.{Walk}
-use Rattle.world_search.specs.declared.walk.World.{World}
 use Rattle.world_search.specs.Searching.{SearchState, last_place}
 
 -- a position comes behind all that begin with a prefix
@@ -80,12 +78,6 @@ at_by from to m Past = last_place from to
 abbrev pub state_of : Problem → List Rel → Option (List Rel) → Walk → SearchState
 state_of p from to w = record { problem = p; from = from; to = to; at = at_by from to (place w) w.stage }
 
--- a world of the problem, with a family that shows it
-pub record IsWorldAt (p : Problem) (m : List Rel) (world : World) : Type 0 where
-  pub table : world.table ≡ m
-  pub met : IsTrue (meets p world.family)
-  pub shown : table_of p world.family ≡ m
-
 -- nodes from the start on
 abbrev pub IsFrom : List Rel → List Rel → Type 0
 IsFrom from m = IsTrue (not (is_below m from))
@@ -114,11 +106,6 @@ pub record AreOpenBeside (p : Problem) (m : List Rel) (set : RelSet) : Type 0 wh
 abbrev pub Knows : Problem → Walk → Type 0
 Knows p w = w.stage ≡ Standing → IfSome w.open (AreOpenBeside p (place w))
 
--- what a visit of a node finds: a world there, or that there is none
-abbrev pub Finds : Problem → List Rel → Option World → Type 0
-Finds p m None = IsPossibleWorld p m → ⊥
-Finds p m (Some world) = IsWorldAt p m world
-
 -- how many nodes are left to a walk, by its stage
 abbrev pub left_by : Problem → List Rel → Stage → ℕ
 left_by p m Start = 0
@@ -127,9 +114,3 @@ left_by p m Past = 0
 
 unfoldable pub nodes_left : Problem → Walk → ℕ
 nodes_left p w = left_by p (place w) w.stage
-
--- what every search keeps
-pub record IsSearch (p : Problem) (from : List Rel) (to : Option (List Rel)) (w : Walk) : Type 0 where
-  pub within : length from ≤ pair_count p
-  pub placed : IsPlaced p from to w
-  pub knows : Knows p w

@@ -1,9 +1,15 @@
 //! The possible worlds of a problem, one after the other.
 #![tactic(auto)]
 
+mod behind;
+mod first;
+mod guide;
+mod idle;
 mod search;
 mod step;
+mod steps;
 mod walk;
 
+pub use behind::node_behind;
 pub use search::Search;
-pub use step::{Nodes, Step, StepFault};
+pub use step::{Nodes, Step, StepFault, TableStep};

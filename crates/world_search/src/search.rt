@@ -1,12 +1,14 @@
 //! The walk over the nodes.
-ghost use Rattle.std.specs.Prelude.{◌≡◌, ◌≤◌, [], length, IfOk, OnOk, IfSome};
+ghost use Rattle.std.specs.Prelude.{◌≡◌, ◌≤◌, [], length, IfOk, OnOk, OnErr, IfSome};
 ghost use Rattle.world_model.specs.Problem.{pair_count};
 ghost use Rattle.constraint_set.specs.Shape.{shape_of};
-ghost use Rattle.world_search.specs.Searching.{begun};
-ghost use Rattle.world_search.specs.Steps.{IsStepped};
+ghost use Rattle.world_search.specs.Searching.{begun, Came};
+ghost use Rattle.world_search.specs.Steps.{IsStepped, IsTableStep};
 
-use crate::step::{Nodes, Step, StepFault};
-use crate::walk::{Stage, Walk, walk_on};
+use crate::guide::Guide;
+use crate::step::{Nodes, Step, StepFault, TableStep};
+use crate::steps::{family_step, table_step};
+use crate::walk::{Span, Stage, Walk};
 use cert_text::TreeLog;
 use constraint_set::Problem;
 use point_query::Asker;
@@ -21,9 +23,9 @@ use std::marker::Model;
 #[derive(Drop)]
 pub struct Search {
     problem: Problem,
-    from: Position,
-    to: Option<Position>,
+    span: Span,
     walk: Walk,
+    guide: Guide,
     alloc: Global,
 }
 
@@ -32,23 +34,12 @@ impl Model for Search {
 
     ghost Value = { SearchState };
 
-    ghost use Rattle.world_search.specs.Walking.{state_of, IsSearch};
+    ghost use Rattle.world_search.specs.Walking.{state_of};
+    ghost use Rattle.world_search.specs.Guiding.{IsSearch};
 
-    ghost view = { λ s. state_of s.problem s.from s.to s.walk };
+    ghost view = { λ s. state_of s.problem s.span.from s.span.to s.walk };
 
-    ghost invariant = { λ s. IsSearch s.problem s.from s.to s.walk };
-}
-
-// A problem with the same flags.
-fn copy_of(alloc: Global, problem: &Problem) -> Result<Problem, AllocError>
-    ensures { IfOk result (λ copy. copy ≡ problem.now) }
-{
-    let _taxonomies = problem.taxonomy_count();
-    let mut kept = Vec::new(alloc);
-    for index in 0..problem.articulation_count() {
-        kept.push(problem.is_kept(index))?;
-    }
-    problem.restricted(alloc, &kept)
+    ghost invariant = { λ s. IsSearch s.problem s.span.from s.span.to s.walk s.guide };
 }
 
 impl Search {
@@ -63,7 +54,8 @@ impl Search {
         requires to { IfSome to (λ end. length end ≤ pair_count problem.now) }
         ensures { IfOk result (λ search. search ≡ begun problem.now from to) }
     {
-        let problem = copy_of(alloc, problem)?;
+        let problem = problem.copy()?;
+        let guide = Guide::new(alloc, &problem)?;
         let walk = Walk {
             stage: Stage::Start,
             path: Position::new(alloc),
@@ -72,9 +64,9 @@ impl Search {
         };
         Ok(Search {
             problem,
-            from,
-            to,
+            span: Span { from, to },
             walk,
+            guide,
             alloc,
         })
     }
@@ -97,12 +89,35 @@ impl Search {
         ensures to { self.new.to ≡ self.old.to }
         ensures asker { asker.new.shape ≡ asker.old.shape }
         ensures none_waits { OnOk result (asker.new.solver.waiting ≡ []) }
+        ensures few_idle { OnOk result (length asker.new.solver.idle ≤ 1024) }
         ensures log { L.drops log.new ≡ L.drops log.old }
     {
-        let walk = &mut self.walk;
-        let step = walk_on(
-            self.alloc, problem, asker, &self.from, &self.to, walk, nodes,
-        )?;
+        let (guide, walk) = (&mut self.guide, &mut self.walk);
+        let step = family_step(self.alloc, problem, asker, guide, &self.span, walk, nodes)?;
+        asker.clear_lines();
+        Ok(step)
+    }
+
+    /// The same, without a family for a world, which costs more than to find the world.
+    pub fn next_table(
+        &mut self,
+        problem: &Problem,
+        asker: &mut Asker,
+        nodes: &mut Nodes,
+    ) -> Result<TableStep, AllocError>
+        requires problem { self.old.problem ≡ problem.now }
+        requires shape { asker.old.shape ≡ shape_of problem.now }
+        ensures step { IfOk result (IsTableStep self.old self.new nodes.old.left nodes.new.left) }
+        ensures err { OnErr result (Came self.old self.new nodes.old.left nodes.new.left []) }
+        ensures problem { self.new.problem ≡ self.old.problem }
+        ensures from { self.new.from ≡ self.old.from }
+        ensures to { self.new.to ≡ self.old.to }
+        ensures asker { asker.new.shape ≡ asker.old.shape }
+        ensures none_waits { OnOk result (asker.new.solver.waiting ≡ []) }
+        ensures few_idle { OnOk result (length asker.new.solver.idle ≤ 1024) }
+    {
+        let (guide, walk) = (&mut self.guide, &mut self.walk);
+        let step = table_step(self.alloc, problem, asker, guide, &self.span, walk, nodes)?;
         asker.clear_lines();
         Ok(step)
     }

@@ -24,6 +24,17 @@ pub enum Step {
     End(Option<Position>),
 }
 
+/// A step of a search, without a family.
+#[derive(Debug, Drop)]
+pub enum TableStep {
+    /// The next world.
+    World(Position),
+    /// No node may be visited any more, and this one is next.
+    Spent(Position),
+    /// There is no further node below the end. The least node that is not below it and not below the start, if any.
+    End(Option<Position>),
+}
+
 /// Why a step was refused.
 #[derive(Clone, Copy, Debug, PartialEq, Eq, Error)]
 pub enum StepFault {

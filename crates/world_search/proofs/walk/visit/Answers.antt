@@ -1,14 +1,25 @@
-use Rattle.std.proofs.Common.{◌≤◌, length, arith}
+use Rattle.std.proofs.Common.{◌≡◌, length, true≢false, refl, sym, ◌∙◌, arith}
 use Rattle.world_model.specs.Problem.{pair_count}
-use Rattle.world_search.specs.Walking.{place}
-use Rattle.world_search.proofs.Leading.{leads_after, full_childless}
+use Rattle.world_search.proofs.LeastNodes.{node_within}
 use Rattle.world_search.proofs.walk.visit.Goals as goal
-use Rattle.world_search.proofs.walk.visit.Goals.{then-branch+in_ok-enter, else-branch}
 
-pub returns-then-len-pairs-clause-on : goal.returns-then-len-pairs-clause-on
-returns-then-len-pairs-clause-on c = elim c.if-branch.branch [ then-branch+in_ok-enter w ↦ rw w.walk-is w.in_ok-enter.ensures.on | else-branch w ↦ rw w.walk-is w.skip.ensures.on ]
+pub returns-then-not-branch-clause-found : goal.returns-then-not-branch-clause-found
+returns-then-not-branch-clause-found c = (
+  λ none. absurd (true≢false (sym none)),
+  λ world.
+      let p = c.args.problem.now in
+      let m = c.args.walk.now.path in
+      let law = c.alive_tables_are_worlds.ensures in
+      let alive = (law.worlds p c.facts.ensures.valid m (law.full p m world)).0 world in
+      absurd (true≢false (sym (c.in_ok-is_here_alive.ensures.alive.1 alive) ∙ c.if-not-branch.true)),
+)
 
-pub returns-clause-on : goal.returns-clause-on
-returns-clause-on c =
-    let full : pair_count c.args.problem.now ≤ length c.args.walk.now.path = omega arith in
-    leads_after c.args.problem.now c.args.walk.now.path (place c.pass.new.walk) c.pass.new.walk.stage (full_childless c.args.problem.now c.args.walk.now.path full) c.pass.ensures.on
+pub returns-clause-found : goal.returns-clause-found
+returns-clause-found c =
+    let p = c.args.problem.now in
+    let m = c.args.walk.now.path in
+    let within = node_within p m c.requires.node in
+    let full : length m ≡ pair_count p = omega arith in (
+      λ found. (c.alive_tables_are_worlds.ensures.worlds p c.facts.ensures.valid m full).1 (c.in_ok-is_here_alive.ensures.alive.0 c.if-not-branch.false),
+      λ world. refl,
+    )

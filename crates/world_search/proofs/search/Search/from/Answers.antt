@@ -1,5 +1,6 @@
 use Rattle.std.proofs.Common.{◌≤◌, ◌++◌, length, inl, refl, sym, ap, subst}
 use Rattle.world_model.specs.Problem.{pair_count}
+use Rattle.world_search.specs.Guiding.{IsGuideOf}
 use Rattle.world_search.proofs.search.Search.from.Goals as goal
 
 pub invariant_of-result : goal.invariant_of-result
@@ -8,10 +9,11 @@ invariant_of-result c = record {
   placed = record {
     begun = refl;
     unknown = refl;
-    node = inl c.new.ensures;
+    node = inl c.new-2.ensures;
     none_waits = refl;
     rest = c.args.from;
-    begins = ap (λ m. m ++ c.args.from) (sym c.new.ensures);
+    begins = ap (λ m. m ++ c.args.from) (sym c.new-2.ensures);
   };
   knows = λ standing. tt;
+  guided = subst (λ m. IsGuideOf c.in_ok-problem.problem m c.in_ok-guide.guide) (sym c.new-2.ensures) c.in_ok-guide.ensures;
 }

@@ -1,0 +1,26 @@
+use Rattle.std.proofs.Common.{subst}
+use Rattle.world_search.specs.Stopping.{IsAtWorld, IsStop}
+use Rattle.world_search.specs.Walking.{state_of}
+use Rattle.world_search.proofs.Stepping.{step_world, placed_world}
+use Rattle.world_search.proofs.steps.family_step.Goals as goal
+
+pub returns-in_ok-family-in-World-clause-step : goal.returns-in_ok-family-in-World-clause-step
+returns-in_ok-family-in-World-clause-step c =
+    let p = c.args.problem.now in
+    let from = c.args.span.now.from in
+    let to = c.args.span.now.to in
+    let at : IsAtWorld p to c.walk_on.new.walk c.walk_on.new.nodes.left c.in-World.table =
+    subst (IsStop p from to c.walk_on.new.walk c.walk_on.new.nodes.left) c.in-World.is c.in_ok-table.ensures.stop in
+    let step =
+    step_world p from to (state_of p from to c.args.walk.now) c.walk_on.new.walk c.leave.new.walk c.args.nodes.now.left c.walk_on.new.nodes.left c.leave.new.nodes.left
+    c.in-World.table at c.walk_on.ensures.placed c.leave.ensures.on c.leave.ensures.counted c.walk_on.ensures.came in
+    (step, c.in_ok-family-in-World.ensures.met, c.in_ok-family-in-World.ensures.shown)
+
+pub returns-in_ok-family-in-World-clause-placed : goal.returns-in_ok-family-in-World-clause-placed
+returns-in_ok-family-in-World-clause-placed c =
+    let p = c.args.problem.now in
+    let from = c.args.span.now.from in
+    let to = c.args.span.now.to in
+    let at : IsAtWorld p to c.walk_on.new.walk c.walk_on.new.nodes.left c.in-World.table =
+    subst (IsStop p from to c.walk_on.new.walk c.walk_on.new.nodes.left) c.in-World.is c.in_ok-table.ensures.stop in
+    placed_world p from to c.walk_on.new.walk c.leave.new.walk c.walk_on.new.nodes.left c.in-World.table at c.walk_on.ensures.placed c.leave.ensures.on

@@ -1,0 +1,143 @@
+//! What tells whether a prefix is alive: a table of points, or an asker.
+ghost use Rattle.std.specs.Prelude.{List, ◌≡◌, ◌↔◌, ◌<◌, ◌≤◌, ◌++◌, [], length, true, IfOk, IfSome, IsTrue};
+ghost use Rattle.rcc5_core.specs.declared.Rel.{Rel};
+ghost use Rattle.world_model.specs.Problem.{Problem, pair_count};
+ghost use Rattle.world_model.specs.Alive.{problem_at, IsAlive};
+ghost use Rattle.constraint_set.specs.Shape.{shape_of};
+ghost use Rattle.world_search.specs.Walking.{AreOpenAfter};
+ghost use Rattle.world_search.specs.Guiding.{IsLadderOf, IsGuideOf};
+
+use constraint_set::Problem;
+use point_query::Asker;
+use point_table::Ladder;
+use rcc5_core::{Position, RelSet};
+use std::alloc::{AllocError, Global};
+use world_model::prefixes_of_the_alive_are_alive;
+
+/// A table of more points than these is not made.
+const MOST_POINTS: usize = 65_536;
+
+/// The search for points ends after so many steps.
+const MOST_TRIES: usize = 10_000_000;
+
+/// Tells which prefixes are alive: by a table of all points, where the problem has one, and else by an asker.
+///
+/// The table's path is a first part of the prefix that was asked about last. So a prefix with one relation more costs a few
+/// words, however long it is.
+#[derive(Drop)]
+pub(crate) struct Guide {
+    pub ladder: Option<Ladder>,
+}
+
+// Pushes what a prefix has more than a ladder's path, as far as it is alive. Whether all of it is.
+fn climb_to(ladder: &mut Ladder, prefix: &Position) -> Result<bool, AllocError>
+    requires within { length prefix.now ≤ pair_count ladder.old.problem }
+    requires ladder { IsLadderOf ladder.old.problem prefix.now ladder.old }
+    ensures ladder { IsLadderOf ladder.old.problem prefix.now ladder.new }
+    ensures alive { IfOk result (λ alive. IsTrue alive ↔ IsAlive (problem_at ladder.old.problem prefix.now)) }
+    ensures there { IfOk result (λ alive. alive ≡ true → ladder.new.path ≡ prefix.now) }
+{
+    prefixes_of_the_alive_are_alive();
+    if !ladder.is_alive() {
+        return Ok(false);
+    }
+    while ladder.path().len() < prefix.len() {
+        let rel = prefix.at(ladder.path().len());
+        if !ladder.push(rel)? {
+            return Ok(false);
+        }
+    }
+    Ok(true)
+}
+
+// The same, by an asker. Its lines are dropped.
+fn ask(problem: &Problem, asker: &mut Asker, prefix: &Position) -> Result<bool, AllocError>
+    requires shape { asker.old.shape ≡ shape_of problem.now }
+    requires within { length prefix.now ≤ pair_count problem.now }
+    ensures alive { IfOk result (λ alive. IsTrue alive ↔ IsAlive (problem_at problem.now prefix.now)) }
+    ensures shape { asker.new.shape ≡ asker.old.shape }
+{
+    let alive = asker.is_alive(problem, prefix)?;
+    asker.clear_lines();
+    Ok(alive)
+}
+
+// The relations that lead on from an alive prefix to an alive one, by an asker. Its lines are dropped.
+fn ask_after(problem: &Problem, asker: &mut Asker, prefix: &Position) -> Result<RelSet, AllocError>
+    requires shape { asker.old.shape ≡ shape_of problem.now }
+    requires short { length prefix.now < pair_count problem.now }
+    requires alive { IsAlive (problem_at problem.now prefix.now) }
+    ensures each { IfOk result (AreOpenAfter problem.now prefix.now) }
+    ensures shape { asker.new.shape ≡ asker.old.shape }
+{
+    let set = asker.alive_after(problem, prefix)?;
+    asker.clear_lines();
+    Ok(set)
+}
+
+impl Guide {
+    /// A guide at the empty prefix.
+    pub fn new(alloc: Global, problem: &Problem) -> Result<Guide, AllocError>
+        ensures { IfOk result (IsGuideOf problem.now []) }
+    {
+        let ladder = Ladder::new(alloc, problem, MOST_POINTS, MOST_TRIES)?;
+        Ok(Guide { ladder })
+    }
+
+    /// Goes back with a prefix that grew shorter.
+    pub fn back_to(&mut self, prefix: &Position)
+        ensures { (p : Problem) (rest : List Rel) → IsGuideOf p (prefix.now ++ rest) self.old → IsGuideOf p prefix.now self.new }
+    {
+        if let Some(ladder) = &mut self.ladder {
+            if prefix.len() < ladder.path().len() {
+                ladder.back_to(prefix.len());
+            }
+        }
+    }
+
+    /// Whether a prefix is alive.
+    pub fn is_alive(
+        &mut self,
+        problem: &Problem,
+        asker: &mut Asker,
+        prefix: &Position,
+    ) -> Result<bool, AllocError>
+        requires shape { asker.old.shape ≡ shape_of problem.now }
+        requires within { length prefix.now ≤ pair_count problem.now }
+        requires guide { IsGuideOf problem.now prefix.now self.old }
+        ensures alive { IfOk result (λ alive. IsTrue alive ↔ IsAlive (problem_at problem.now prefix.now)) }
+        ensures guide { IsGuideOf problem.now prefix.now self.new }
+        ensures shape { asker.new.shape ≡ asker.old.shape }
+        ensures unasked { IfSome self.old.ladder (λ _. asker.new ≡ asker.old) }
+    {
+        match &mut self.ladder {
+            Some(ladder) => climb_to(ladder, prefix),
+            None => ask(problem, asker, prefix),
+        }
+    }
+
+    /// The relations that lead on from an alive prefix to an alive one.
+    pub fn alive_after(
+        &mut self,
+        problem: &Problem,
+        asker: &mut Asker,
+        prefix: &Position,
+    ) -> Result<RelSet, AllocError>
+        requires shape { asker.old.shape ≡ shape_of problem.now }
+        requires short { length prefix.now < pair_count problem.now }
+        requires alive { IsAlive (problem_at problem.now prefix.now) }
+        requires guide { IsGuideOf problem.now prefix.now self.old }
+        ensures each { IfOk result (AreOpenAfter problem.now prefix.now) }
+        ensures guide { IsGuideOf problem.now prefix.now self.new }
+        ensures shape { asker.new.shape ≡ asker.old.shape }
+        ensures unasked { IfSome self.old.ladder (λ _. asker.new ≡ asker.old) }
+    {
+        match &mut self.ladder {
+            Some(ladder) => {
+                let _alive = climb_to(ladder, prefix)?;
+                Ok(ladder.leads_on())
+            }
+            None => ask_after(problem, asker, prefix),
+        }
+    }
+}

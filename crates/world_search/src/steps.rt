@@ -1,0 +1,234 @@
+//! The steps of a search.
+ghost use Rattle.std.specs.Prelude.{◌≡◌, ◌≢◌, ◌↔◌, ◌<◌, ◌≤◌, Some, None, length, [], IfOk, OnOk, OnErr, IfSome, IfNone, IsTrue};
+ghost use Rattle.world_model.specs.Problem.{pair_count};
+ghost use Rattle.world_model.specs.Family.{meets, table_of, IsPossibleWorld};
+ghost use Rattle.world_model.specs.Listing.{is_before_end};
+ghost use Rattle.world_model.specs.Node.{IsNode};
+ghost use Rattle.constraint_set.specs.Shape.{shape_of};
+ghost use Rattle.world_search.specs.Walking.{LeadsTo, IsAfter, IsPlaced, Knows, state_of, nodes_left};
+ghost use Rattle.world_search.specs.Guiding.{IsGuideOf};
+ghost use Rattle.world_search.specs.Searching.{FellBy, Came};
+ghost use Rattle.world_search.specs.Steps.{IsTableStep, IsStepped};
+ghost use Rattle.world_search.specs.Stopping.{IsStop};
+ghost use Rattle.world_search.specs.declared.walk.Stage.TheVariants.{Start, Standing};
+
+use crate::first::begin;
+use crate::guide::Guide;
+use crate::idle::tidy;
+use crate::step::{Nodes, Step, TableStep};
+use crate::walk::{Span, Stage, Walk, pass, visit};
+use constraint_set::Problem;
+use point_query::Asker;
+use rcc5_core::Position;
+use set_family::Family;
+use std::alloc::{AllocError, Global};
+use std::cmp::Ordering;
+use world_model::alive_tables_are_worlds;
+
+// Whether a position comes before the end, which may be none.
+fn is_before_end(node: &Position, to: &Option<Position>) -> bool
+    ensures { result ≡ is_before_end node.now to.now }
+{
+    match to {
+        None => true,
+        Some(end) => node.compare(end) == Ordering::Less,
+    }
+}
+
+// Whether no node may be visited any more.
+fn is_spent(nodes: &Nodes) -> bool
+    ensures { IsTrue result ↔ (nodes.now.left ≡ Some 0) }
+{
+    matches!(nodes.left, Some(0))
+}
+
+// One node fewer may be visited.
+fn one_less(left: Option<u64>) -> Option<u64>
+    requires { left ≢ Some 0 }
+    ensures { FellBy left result 1 }
+{
+    match left {
+        None => None,
+        Some(left) => Some(left - 1),
+    }
+}
+
+// Visits the node at which a walk stands, if it is below the end and may be visited, and goes on unless it is a world.
+fn turn(
+    alloc: Global,
+    problem: &Problem,
+    asker: &mut Asker,
+    guide: &mut Guide,
+    span: &Span,
+    walk: &mut Walk,
+    nodes: &mut Nodes,
+) -> Result<Option<TableStep>, AllocError>
+    requires shape { asker.old.shape ≡ shape_of problem.now }
+    requires placed { IsPlaced problem.now span.now.from span.now.to walk.old }
+    requires knows { Knows problem.now walk.old }
+    requires standing { walk.old.stage ≡ Standing }
+    requires guide { IsGuideOf problem.now walk.old.path guide.old }
+    ensures stop { IfOk result (λ stop. IfSome stop (IsStop problem.now span.now.from span.now.to walk.new nodes.new.left)) }
+    ensures came { Came (state_of problem.now span.now.from span.now.to walk.old) (state_of problem.now span.now.from span.now.to walk.new) nodes.old.left nodes.new.left [] }
+    ensures placed { IsPlaced problem.now span.now.from span.now.to walk.new }
+    ensures knows { Knows problem.now walk.new }
+    ensures fewer { IfOk result (λ stop. IfNone stop (nodes_left problem.now walk.new < nodes_left problem.now walk.old)) }
+    ensures begun { walk.new.stage ≢ Start }
+    ensures guide { IsGuideOf problem.now walk.new.path guide.new }
+    ensures shape { asker.new.shape ≡ asker.old.shape }
+{
+    walk.settle()?;
+    if !is_before_end(&walk.path, &span.to) {
+        let node = walk.path.copy(alloc)?;
+        return Ok(Some(TableStep::End(Some(node))));
+    }
+    if is_spent(nodes) {
+        let node = walk.path.copy(alloc)?;
+        return Ok(Some(TableStep::Spent(node)));
+    }
+    if visit(problem, asker, guide, walk)? {
+        let table = walk.path.copy(alloc)?;
+        return Ok(Some(TableStep::World(table)));
+    }
+    nodes.left = one_less(nodes.left);
+    Ok(None)
+}
+
+// Visits the next nodes, up to the next world, or until none may be visited or none is left. The world is not passed yet.
+fn walk_on(
+    alloc: Global,
+    problem: &Problem,
+    asker: &mut Asker,
+    guide: &mut Guide,
+    span: &Span,
+    walk: &mut Walk,
+    nodes: &mut Nodes,
+) -> Result<TableStep, AllocError>
+    requires shape { asker.old.shape ≡ shape_of problem.now }
+    requires within { length span.now.from ≤ pair_count problem.now }
+    requires placed { IsPlaced problem.now span.now.from span.now.to walk.old }
+    requires knows { Knows problem.now walk.old }
+    requires guide { IsGuideOf problem.now walk.old.path guide.old }
+    ensures stop { IfOk result (IsStop problem.now span.now.from span.now.to walk.new nodes.new.left) }
+    ensures came { Came (state_of problem.now span.now.from span.now.to walk.old) (state_of problem.now span.now.from span.now.to walk.new) nodes.old.left nodes.new.left [] }
+    ensures placed { IsPlaced problem.now span.now.from span.now.to walk.new }
+    ensures knows { Knows problem.now walk.new }
+    ensures guide { IsGuideOf problem.now walk.new.path guide.new }
+    ensures few { OnOk result (length asker.new.solver.idle ≤ 1024) }
+    ensures shape { asker.new.shape ≡ asker.old.shape }
+{
+    begin(problem, asker, guide, span, walk)?;
+    tidy(asker)?;
+    while walk.stage == Stage::Standing {
+        let stop = turn(alloc, problem, asker, guide, span, walk, nodes)?;
+        tidy(asker)?;
+        if let Some(step) = stop {
+            return Ok(step);
+        }
+    }
+    Ok(TableStep::End(None))
+}
+
+// Passes the full node at which a walk stands.
+fn leave(problem: &Problem, guide: &mut Guide, walk: &mut Walk, nodes: &mut Nodes)
+    requires node { IsNode problem.now walk.old.path }
+    requires full { pair_count problem.now ≤ length walk.old.path }
+    requires some_left { nodes.old.left ≢ Some 0 }
+    requires guide { IsGuideOf problem.now walk.old.path guide.old }
+    ensures on { LeadsTo problem.now (IsAfter walk.old.path) walk.new }
+    ensures unknown { walk.new.open ≡ None }
+    ensures counted { FellBy nodes.old.left nodes.new.left 1 }
+    ensures guide { IsGuideOf problem.now walk.new.path guide.new }
+{
+    pass(problem, guide, walk);
+    nodes.left = one_less(nodes.left);
+}
+
+/// Visits the next nodes, up to the next world, or until none may be visited or none is left.
+pub(crate) fn table_step(
+    alloc: Global,
+    problem: &Problem,
+    asker: &mut Asker,
+    guide: &mut Guide,
+    span: &Span,
+    walk: &mut Walk,
+    nodes: &mut Nodes,
+) -> Result<TableStep, AllocError>
+    requires shape { asker.old.shape ≡ shape_of problem.now }
+    requires within { length span.now.from ≤ pair_count problem.now }
+    requires placed { IsPlaced problem.now span.now.from span.now.to walk.old }
+    requires knows { Knows problem.now walk.old }
+    requires guide { IsGuideOf problem.now walk.old.path guide.old }
+    ensures step { IfOk result (IsTableStep (state_of problem.now span.now.from span.now.to walk.old) (state_of problem.now span.now.from span.now.to walk.new) nodes.old.left nodes.new.left) }
+    ensures err { OnErr result (Came (state_of problem.now span.now.from span.now.to walk.old) (state_of problem.now span.now.from span.now.to walk.new) nodes.old.left nodes.new.left []) }
+    ensures placed { IsPlaced problem.now span.now.from span.now.to walk.new }
+    ensures knows { Knows problem.now walk.new }
+    ensures guide { IsGuideOf problem.now walk.new.path guide.new }
+    ensures few { OnOk result (length asker.new.solver.idle ≤ 1024) }
+    ensures shape { asker.new.shape ≡ asker.old.shape }
+{
+    match walk_on(alloc, problem, asker, guide, span, walk, nodes)? {
+        TableStep::World(table) => {
+            leave(problem, guide, walk, nodes);
+            Ok(TableStep::World(table))
+        }
+        other => Ok(other),
+    }
+}
+
+// A family that shows a possible world.
+fn family_of(
+    alloc: Global,
+    problem: &Problem,
+    asker: &mut Asker,
+    table: &Position,
+) -> Result<Family, AllocError>
+    requires shape { asker.old.shape ≡ shape_of problem.now }
+    requires world { IsPossibleWorld problem.now table.now }
+    ensures met { IfOk result (λ family. IsTrue (meets problem.now family)) }
+    ensures shown { IfOk result (λ family. table_of problem.now family ≡ table.now) }
+    ensures few { OnOk result (length asker.new.solver.idle ≤ 1024) }
+    ensures shape { asker.new.shape ≡ asker.old.shape }
+{
+    alive_tables_are_worlds();
+    problem.facts();
+    let serving = asker.serving(problem, table)?;
+    tidy(asker)?;
+    match serving {
+        Some(points) => Family::from_points(alloc, problem.concept_count(), points.list()),
+        None => unreachable!(),
+    }
+}
+
+/// The same, and a world has a family that shows it.
+pub(crate) fn family_step(
+    alloc: Global,
+    problem: &Problem,
+    asker: &mut Asker,
+    guide: &mut Guide,
+    span: &Span,
+    walk: &mut Walk,
+    nodes: &mut Nodes,
+) -> Result<Step, AllocError>
+    requires shape { asker.old.shape ≡ shape_of problem.now }
+    requires within { length span.now.from ≤ pair_count problem.now }
+    requires placed { IsPlaced problem.now span.now.from span.now.to walk.old }
+    requires knows { Knows problem.now walk.old }
+    requires guide { IsGuideOf problem.now walk.old.path guide.old }
+    ensures step { IsStepped (state_of problem.now span.now.from span.now.to walk.old) (state_of problem.now span.now.from span.now.to walk.new) nodes.old.left nodes.new.left result }
+    ensures placed { IsPlaced problem.now span.now.from span.now.to walk.new }
+    ensures knows { Knows problem.now walk.new }
+    ensures guide { IsGuideOf problem.now walk.new.path guide.new }
+    ensures few { OnOk result (length asker.new.solver.idle ≤ 1024) }
+    ensures shape { asker.new.shape ≡ asker.old.shape }
+{
+    match walk_on(alloc, problem, asker, guide, span, walk, nodes)? {
+        TableStep::World(table) => {
+            let family = family_of(alloc, problem, asker, &table)?;
+            leave(problem, guide, walk, nodes);
+            Ok(Step::World(table, family))
+        }
+        TableStep::Spent(node) => Ok(Step::Spent(node)),
+        TableStep::End(node) => Ok(Step::End(node)),
+    }
+}
