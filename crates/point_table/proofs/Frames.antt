@@ -1,17 +1,14 @@
 -- Rows of which some places have to stay: when places satisfy them, and what is added to them or taken away.
 use Rattle.std.proofs.Common.{◌≡◌, ℕ, ◌<◌, ◌≤◌, ◌↔◌, Bool, true, false, ◌&&◌, not, inl, inr, refl, sym, ap, ◌∙◌, subst}
 use Rattle.std.specs.Prelude.{IsTrue}
-use Rattle.std.specs.List.{list_all}
 use Rattle.std.proofs.lemmas.Bool.{and_from, and_parts, true≢false, false≢true, cases_Bool}
-use Rattle.rcc5_core.specs.declared.Rel.{Rel}
 use Rattle.rcc5_core.specs.declared.Region.{Region}
 use Rattle.rcc5_core.specs.declared.Regions.{Regions}
 use Rattle.rcc5_core.specs.declared.Region.TheVariants.{LeftOnly, Both, RightOnly}
-use Rattle.rcc5_core.specs.Relation.{all_rels}
-use Rattle.rcc5_core.specs.Region.{row_of, all_regions}
-use Rattle.world_model.specs.Family.{implies}
-use Rattle.world_model.proofs.Members.{all_at}
-use Rattle.world_model.proofs.PointSets.{implies_at, In-all_rels, In-all_regions}
+use Rattle.rcc5_core.specs.declared.Occupancy.{Occupancy}
+use Rattle.rcc5_core.specs.declared.Occupancy.TheVariants.{Empty, Occupied, Free}
+use Rattle.rcc5_core.specs.Region.{word_at, same_word, all_regions}
+use Rattle.world_model.proofs.Members.{all_from}
 use Rattle.point_table.specs.declared.words.Cells.{Cells}
 use Rattle.point_table.specs.Rows.{SomePlace, BitRows, bit_in, in_cells, all_cells, other_cells}
 use Rattle.point_table.specs.Ladders.{lies_by, is_left_by, is_occupied, AreWithin, Satisfies, AreMet, left_at, IsNarrowed}
@@ -36,25 +33,41 @@ three_parts false b c h = absurd (false≢true h)
 pub three_from : (a b c : Bool) → a ≡ true → b ≡ true → c ≡ true → (a && b && c) ≡ true
 three_from a b c ha hb hc = and_from (a && b) c (and_from a b ha hb) hc
 
--- whether both bits of a test of two pass it
-abbrev every : (Bool → Bool) → Bool
-every test = test true && test false
+-- a place lies in one region
+one_region : (region other : Region) (a b : Bool) → lies_by region a b ≡ true → lies_by other a b ≡ true → other ≡ region
+one_region LeftOnly LeftOnly a b h e = refl
+one_region Both Both a b h e = refl
+one_region RightOnly RightOnly a b h e = refl
+one_region LeftOnly Both true true h e = absurd (false≢true h)
+one_region LeftOnly Both true false h e = absurd (false≢true e)
+one_region LeftOnly Both false b h e = absurd (false≢true h)
+one_region LeftOnly RightOnly true b h e = absurd (false≢true e)
+one_region LeftOnly RightOnly false b h e = absurd (false≢true h)
+one_region Both LeftOnly true true h e = absurd (false≢true e)
+one_region Both LeftOnly true false h e = absurd (false≢true h)
+one_region Both LeftOnly false b h e = absurd (false≢true h)
+one_region Both RightOnly true b h e = absurd (false≢true e)
+one_region Both RightOnly false b h e = absurd (false≢true h)
+one_region RightOnly LeftOnly true b h e = absurd (false≢true h)
+one_region RightOnly LeftOnly false b h e = absurd (false≢true e)
+one_region RightOnly Both true b h e = absurd (false≢true h)
+one_region RightOnly Both false b h e = absurd (false≢true e)
 
-each_at : (test : Bool → Bool) → every test ≡ true → (b : Bool) → test b ≡ true
-each_at test h true = (and_parts (test true) (test false) h).0
-each_at test h false = (and_parts (test true) (test false) h).1
+-- what lies in a region that is occupied may be there
+occupied_left : (words : Regions) (region : Region) (a b : Bool) → is_occupied words region ≡ true → lies_by region a b ≡ true → is_left_by words a b ≡ true
+occupied_left words region a b occupied lies =
+    all_from (λ other. not (same_word (word_at words other) Empty && lies_by other a b)) all_regions
+    (λ other i. out (same_word (word_at words other) Empty) (lies_by other a b) (λ there. full (word_at words other) (ap (is_occupied words) (one_region region other a b lies there) ∙ occupied)))
+  where
+    full : (word : Occupancy) → same_word word Occupied ≡ true → same_word word Empty ≡ false
+    full Occupied h = refl
+    full Empty h = absurd (false≢true h)
+    full Free h = absurd (false≢true h)
 
-occupied_table : list_all (λ rel. list_all (λ region. every (λ a. every (λ b. implies (is_occupied (row_of rel) region && lies_by region a b) (is_left_by rel a b)))) all_regions) all_rels ≡ true
-occupied_table = refl
-
--- what lies in a region that a relation occupies may be there by the relation
-occupied_left : (rel : Rel) (region : Region) (a b : Bool) → is_occupied (row_of rel) region ≡ true → lies_by region a b ≡ true → is_left_by rel a b ≡ true
-occupied_left rel region a b occupied lies =
-    let test = λ (rel : Rel) (region : Region) (a b : Bool). implies (is_occupied (row_of rel) region && lies_by region a b) (is_left_by rel a b) in
-    let on_rel = all_at (λ rel. list_all (λ region. every (λ a. every (test rel region a))) all_regions) occupied_table (In-all_rels rel) in
-    let on_region = all_at (λ region. every (λ a. every (test rel region a))) on_rel (In-all_regions region) in
-    let at = each_at (test rel region a) (each_at (λ a. every (test rel region a)) on_region a) b in
-    implies_at (is_occupied (row_of rel) region && lies_by region a b) (is_left_by rel a b) at (and_from (is_occupied (row_of rel) region) (lies_by region a b) occupied lies)
+    out : (a b : Bool) → (b ≡ true → a ≡ false) → not (a && b) ≡ true
+    out true true h = absurd (false≢true (sym (h refl)))
+    out true false h = refl
+    out false b h = refl
 
 -- the other cells
 others_not : (cells : Cells) (a b : Bool) → in_cells (other_cells cells) a b ≡ not (in_cells cells a b)
@@ -63,18 +76,18 @@ others_not cells true false = refl
 others_not cells false true = refl
 others_not cells false false = refl
 
--- cells are those that a relation leaves
-abbrev pub AreKept : Cells → Rel → Type 0
-AreKept kept rel = (a b : Bool) → in_cells kept a b ≡ is_left_by rel a b
+-- cells are those that words leave
+abbrev pub AreKept : Cells → Regions → Type 0
+AreKept kept words = (a b : Bool) → in_cells kept a b ≡ is_left_by words a b
 
--- a relation of two sets loses none of some places
-abbrev pub LosesNone : (ℕ → Bool) → (ℕ → Bool) → Rel → (ℕ → Bool) → Type 0
-LosesNone l r rel f = (k : ℕ) → f k ≡ true → is_left_by rel (l k) (r k) ≡ true
+-- what words say of two sets loses none of some places
+abbrev pub LosesNone : (ℕ → Bool) → (ℕ → Bool) → Regions → (ℕ → Bool) → Type 0
+LosesNone l r words f = (k : ℕ) → f k ≡ true → is_left_by words (l k) (r k) ≡ true
 
--- whether a relation loses places of a row, by a test of the cells that it does not leave
-pub none_lost : (l r : ℕ → Bool) (rel : Rel) (row f : ℕ → Bool) (kept lost : Cells) (met : Bool) → AreKept kept rel → lost ≡ other_cells kept → ((k : ℕ) → row k ≡ f k) →
-    (IsTrue met ↔ SomePlace (λ k. row k && row k && in_cells lost (l k) (r k))) → met ≡ false → LosesNone l r rel f
-none_lost l r rel row f kept lost met are is shows tells missed k h = elim (cases_Bool (is_left_by rel (l k) (r k))) [
+-- whether words lose places of a row, by a test of the cells that it does not leave
+pub none_lost : (l r : ℕ → Bool) (words : Regions) (row f : ℕ → Bool) (kept lost : Cells) (met : Bool) → AreKept kept words → lost ≡ other_cells kept → ((k : ℕ) → row k ≡ f k) →
+    (IsTrue met ↔ SomePlace (λ k. row k && row k && in_cells lost (l k) (r k))) → met ≡ false → LosesNone l r words f
+none_lost l r words row f kept lost met are is shows tells missed k h = elim (cases_Bool (is_left_by words (l k) (r k))) [
   | inl there ↦ there
   | inr out ↦
       let there : row k ≡ true = shows k ∙ h in
@@ -83,24 +96,24 @@ none_lost l r rel row f kept lost met are is shows tells missed k h = elim (case
 ]
 
 -- a place that is lost
-pub some_lost : (l r : ℕ → Bool) (rel : Rel) (row f : ℕ → Bool) (kept lost : Cells) (met : Bool) → AreKept kept rel → lost ≡ other_cells kept → ((k : ℕ) → row k ≡ f k) →
-    (IsTrue met ↔ SomePlace (λ k. row k && row k && in_cells lost (l k) (r k))) → met ≡ true → LosesNone l r rel f → ⊥
-some_lost l r rel row f kept lost met are is shows tells found none =
+pub some_lost : (l r : ℕ → Bool) (words : Regions) (row f : ℕ → Bool) (kept lost : Cells) (met : Bool) → AreKept kept words → lost ≡ other_cells kept → ((k : ℕ) → row k ≡ f k) →
+    (IsTrue met ↔ SomePlace (λ k. row k && row k && in_cells lost (l k) (r k))) → met ≡ true → LosesNone l r words f → ⊥
+some_lost l r words row f kept lost met are is shows tells found none =
     let some = tells.0 found in
     let k = some.place in
     let parts = three_parts (row k) (row k) (in_cells lost (l k) (r k)) some.passes in
-    let out : not (is_left_by rel (l k) (r k)) ≡ true = ap not (sym (are (l k) (r k))) ∙ sym (others_not kept (l k) (r k)) ∙ ap (λ cells. in_cells cells (l k) (r k)) (sym is) ∙ parts.2 in
+    let out : not (is_left_by words (l k) (r k)) ≡ true = ap not (sym (are (l k) (r k))) ∙ sym (others_not kept (l k) (r k)) ∙ ap (λ cells. in_cells cells (l k) (r k)) (sym is) ∙ parts.2 in
     true≢false (sym out ∙ ap not (none k (sym (shows k) ∙ parts.0)))
 
 -- places in the occupied regions are left
-pub met_left : (rows : BitRows) (l r : ℕ → Bool) (rel : Rel) → AreMet (row_of rel) l r (bit_in rows 0) → AreMet (row_of rel) l r (left_at rows l r rel)
-met_left rows l r rel met region occupied =
+pub met_left : (rows : BitRows) (l r : ℕ → Bool) (words : Regions) → AreMet words l r (bit_in rows 0) → AreMet words l r (left_at rows l r words)
+met_left rows l r words met region occupied =
     let some = met region occupied in
     let k = some.place in
     let parts = and_parts (bit_in rows 0 k) (lies_by region (l k) (r k)) some.passes in
     record {
       place = k;
-      passes = and_from (left_at rows l r rel k) (lies_by region (l k) (r k)) (and_from (bit_in rows 0 k) (is_left_by rel (l k) (r k)) parts.0 (occupied_left rel region (l k) (r k) occupied parts.1)) parts.1;
+      passes = and_from (left_at rows l r words k) (lies_by region (l k) (r k)) (and_from (bit_in rows 0 k) (is_left_by words (l k) (r k)) parts.0 (occupied_left words region (l k) (r k) occupied parts.1)) parts.1;
     }
 
 pub met_mask : (words : Regions) (l r f g : ℕ → Bool) → AreWithin f g → AreMet words l r f → AreMet words l r g
@@ -108,8 +121,8 @@ met_mask words l r f g within met region occupied =
     some_alike (λ k. f k && lies_by region (l k) (r k)) (λ k. g k && lies_by region (l k) (r k))
     (λ k h. let parts = and_parts (f k) (lies_by region (l k) (r k)) h in and_from (g k) (lies_by region (l k) (r k)) (within k parts.0) parts.1) (met region occupied)
 
-pub left_within : (rows : BitRows) (l r : ℕ → Bool) (rel : Rel) → AreWithin (left_at rows l r rel) (bit_in rows 0)
-left_within rows l r rel k h = (and_parts (bit_in rows 0 k) (is_left_by rel (l k) (r k)) h).0
+pub left_within : (rows : BitRows) (l r : ℕ → Bool) (words : Regions) → AreWithin (left_at rows l r words) (bit_in rows 0)
+left_within rows l r words k h = (and_parts (bit_in rows 0 k) (is_left_by words (l k) (r k)) h).0
 
 -- three regions
 pub met_by_three : (words : Regions) (l r f : ℕ → Bool) → (is_occupied words LeftOnly ≡ true → SomePlace (λ k. f k && lies_by LeftOnly (l k) (r k))) → (is_occupied words Both ≡ true → SomePlace (λ k. f k && lies_by Both (l k) (r k))) →
@@ -127,40 +140,40 @@ satisfies_more rows n f g within s = record {
 }
 
 -- what is left satisfies the rows where none that has to stay is lost and each open row has one
-pub left_satisfies : (rows : BitRows) (l r : ℕ → Bool) (rel : Rel) (kept : Cells) → AreKept kept rel → Satisfies rows rows.count (bit_in rows 0) → LosesNone l r rel (bit_in rows 1) →
-    ((q : ℕ) → 2 ≤ q → q < rows.count → SomePlace (λ k. bit_in rows q k && bit_in rows 0 k && in_cells kept (l k) (r k))) → Satisfies rows rows.count (left_at rows l r rel)
-left_satisfies rows l r rel kept are s none each = record {
-  must = λ k h. and_from (bit_in rows 0 k) (is_left_by rel (l k) (r k)) (s.must k h) (none k h);
+pub left_satisfies : (rows : BitRows) (l r : ℕ → Bool) (words : Regions) (kept : Cells) → AreKept kept words → Satisfies rows rows.count (bit_in rows 0) → LosesNone l r words (bit_in rows 1) →
+    ((q : ℕ) → 2 ≤ q → q < rows.count → SomePlace (λ k. bit_in rows q k && bit_in rows 0 k && in_cells kept (l k) (r k))) → Satisfies rows rows.count (left_at rows l r words)
+left_satisfies rows l r words kept are s none each = record {
+  must = λ k h. and_from (bit_in rows 0 k) (is_left_by words (l k) (r k)) (s.must k h) (none k h);
   open_rows = λ q low small.
       let some = each q low small in
       let k = some.place in
       let parts = three_parts (bit_in rows q k) (bit_in rows 0 k) (in_cells kept (l k) (r k)) some.passes in
       record {
         place = k;
-        passes = and_from (bit_in rows q k) (left_at rows l r rel k) parts.0 (and_from (bit_in rows 0 k) (is_left_by rel (l k) (r k)) parts.1 (sym (are (l k) (r k)) ∙ parts.2));
+        passes = and_from (bit_in rows q k) (left_at rows l r words k) parts.0 (and_from (bit_in rows 0 k) (is_left_by words (l k) (r k)) parts.1 (sym (are (l k) (r k)) ∙ parts.2));
       };
 }
 
-pub left_open : (rows : BitRows) (l r : ℕ → Bool) (rel : Rel) (kept : Cells) → AreKept kept rel → Satisfies rows rows.count (left_at rows l r rel) →
+pub left_open : (rows : BitRows) (l r : ℕ → Bool) (words : Regions) (kept : Cells) → AreKept kept words → Satisfies rows rows.count (left_at rows l r words) →
     (q : ℕ) → 2 ≤ q → q < rows.count → SomePlace (λ k. bit_in rows q k && bit_in rows 0 k && in_cells kept (l k) (r k))
-left_open rows l r rel kept are s q low small =
+left_open rows l r words kept are s q low small =
     let some = s.open_rows q low small in
     let k = some.place in
-    let parts = and_parts (bit_in rows q k) (left_at rows l r rel k) some.passes in
-    let both = and_parts (bit_in rows 0 k) (is_left_by rel (l k) (r k)) parts.1 in
+    let parts = and_parts (bit_in rows q k) (left_at rows l r words k) some.passes in
+    let both = and_parts (bit_in rows 0 k) (is_left_by words (l k) (r k)) parts.1 in
     record { place = k; passes = three_from (bit_in rows q k) (bit_in rows 0 k) (in_cells kept (l k) (r k)) parts.0 both.0 (are (l k) (r k) ∙ both.1) }
 
-pub must_left : (rows : BitRows) (l r : ℕ → Bool) (rel : Rel) → Satisfies rows rows.count (left_at rows l r rel) → LosesNone l r rel (bit_in rows 1)
-must_left rows l r rel s k h = (and_parts (bit_in rows 0 k) (is_left_by rel (l k) (r k)) (s.must k h)).1
+pub must_left : (rows : BitRows) (l r : ℕ → Bool) (words : Regions) → Satisfies rows rows.count (left_at rows l r words) → LosesNone l r words (bit_in rows 1)
+must_left rows l r words s k h = (and_parts (bit_in rows 0 k) (is_left_by words (l k) (r k)) (s.must k h)).1
 
 -- where no place is lost and the occupied regions have places that have to stay, the rows are as before
-pub same_narrowed : (rows : BitRows) (l r : ℕ → Bool) (rel : Rel) → 2 ≤ rows.count → LosesNone l r rel (bit_in rows 0) → AreMet (row_of rel) l r (bit_in rows 1) → IsNarrowed rows rows l r rel
-same_narrowed rows l r rel two none met = record {
+pub same_narrowed : (rows : BitRows) (l r : ℕ → Bool) (words : Regions) → 2 ≤ rows.count → LosesNone l r words (bit_in rows 0) → AreMet words l r (bit_in rows 1) → IsNarrowed rows rows l r words
+same_narrowed rows l r words two none met = record {
   rows_two = two;
   width = refl;
-  mask = λ k. kept (bit_in rows 0 k) (is_left_by rel (l k) (r k)) (none k);
+  mask = λ k. kept (bit_in rows 0 k) (is_left_by words (l k) (r k)) (none k);
   owes = λ some within. (
-    λ s. (s, met_mask (row_of rel) l r (bit_in rows 1) some s.must met),
+    λ s. (s, met_mask words l r (bit_in rows 1) some s.must met),
     λ h. h.0,
   );
 }
@@ -195,8 +208,8 @@ shown_common a b f g one other some = record {
 pub met_shown : (words others : Regions) (l r f g : ℕ → Bool) → others ≡ words → AreWithin f g → AreMet others l r f → AreMet words l r g
 met_shown words others l r f g same within met = subst (λ ws. AreMet ws l r g) same (met_mask others l r f g within met)
 
-pub left_all : (rows : BitRows) (l r : ℕ → Bool) (rel : Rel) → LosesNone l r rel (bit_in rows 0) → AreWithin (bit_in rows 0) (left_at rows l r rel)
-left_all rows l r rel none k h = and_from (bit_in rows 0 k) (is_left_by rel (l k) (r k)) h (none k h)
+pub left_all : (rows : BitRows) (l r : ℕ → Bool) (words : Regions) → LosesNone l r words (bit_in rows 0) → AreWithin (bit_in rows 0) (left_at rows l r words)
+left_all rows l r words none k h = and_from (bit_in rows 0 k) (is_left_by words (l k) (r k)) h (none k h)
 
 pub in_all : (cells : Cells) (a b : Bool) → cells ≡ all_cells → in_cells cells a b ≡ true
 in_all cells a b is = ap (λ x. in_cells x a b) is ∙ each a b

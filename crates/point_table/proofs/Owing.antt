@@ -3,9 +3,8 @@ use Rattle.std.proofs.Common.{◌≡◌, ◌≢◌, ℕ, ◌+◌, ◌*◌, ◌/�
 use Rattle.std.specs.Prelude.{◌==◌}
 use Rattle.std.proofs.lemmas.Bool.{and_from, and_parts, or_cases, true≢false, cases_lt, eqb-true, eq-eqb}
 use Rattle.std.proofs.Math.Bool.{or-true}
-use Rattle.rcc5_core.specs.declared.Rel.{Rel}
+use Rattle.rcc5_core.specs.declared.Regions.{Regions}
 use Rattle.rcc5_core.specs.declared.Region.{Region}
-use Rattle.rcc5_core.specs.Region.{row_of}
 use Rattle.point_table.specs.declared.words.Cells.{Cells}
 use Rattle.point_table.specs.Rows.{has_bit, SomePlace, BitRows, bit_in, in_cells, IsPushed, IsPut, IsPopped}
 use Rattle.point_table.proofs.RowBits.{has_past_end}
@@ -166,11 +165,11 @@ region_owed mask l r cells region some are within = (
 )
 
 -- the rows of a new frame: the places left, those that have to stay, the regions and the open rows
-pub narrowed_from : (old two new : BitRows) (l r : ℕ → Bool) (rel : Rel) (kept : Cells) → AreKept kept rel → two.count ≡ 2 → two.width ≡ old.width →
-    ((k : ℕ) → bit_in two 0 k ≡ left_at old l r rel k) → ((k : ℕ) → bit_in two 1 k ≡ bit_in old 1 k) →
-    IsOwing two new (λ some. AreMet (row_of rel) l r some × ((q : ℕ) → 2 ≤ q → q < old.count → SomePlace (λ k. (bit_in old q k && bit_in old 0 k && in_cells kept (l k) (r k)) && some k))) →
-    IsNarrowed old new l r rel
-narrowed_from old two new l r rel kept are counted wide mask must o = record {
+pub narrowed_from : (old two new : BitRows) (l r : ℕ → Bool) (words : Regions) (kept : Cells) → AreKept kept words → two.count ≡ 2 → two.width ≡ old.width →
+    ((k : ℕ) → bit_in two 0 k ≡ left_at old l r words k) → ((k : ℕ) → bit_in two 1 k ≡ bit_in old 1 k) →
+    IsOwing two new (λ some. AreMet words l r some × ((q : ℕ) → 2 ≤ q → q < old.count → SomePlace (λ k. (bit_in old q k && bit_in old 0 k && in_cells kept (l k) (r k)) && some k))) →
+    IsNarrowed old new l r words
+narrowed_from old two new l r words kept are counted wide mask must o = record {
   rows_two = o.rows_two;
   width = o.width ∙ wide;
   mask = λ k. o.mask k ∙ mask k;
@@ -193,7 +192,7 @@ narrowed_from old two new l r rel kept are counted wide mask must o = record {
             h.1,
             λ q low small. some_alike (λ k. bit_in old q k && some k) (λ k. (bit_in old q k && bit_in old 0 k && in_cells kept (l k) (r k)) && some k) (λ k e.
                 let parts = and_parts (bit_in old q k) (some k) e in
-                let left = and_parts (bit_in old 0 k) (is_left_by rel (l k) (r k)) (within k parts.1) in
+                let left = and_parts (bit_in old 0 k) (is_left_by words (l k) (r k)) (within k parts.1) in
                 and_from (bit_in old q k && bit_in old 0 k && in_cells kept (l k) (r k)) (some k)
                 (three_from (bit_in old q k) (bit_in old 0 k) (in_cells kept (l k) (r k)) parts.0 left.0 (are (l k) (r k) ∙ left.1)) parts.1) (h.0.open_rows q low small),
           ),
@@ -230,10 +229,10 @@ shown_open old n a b some cell one other = (
     same k = ap (λ x. (x && b k && cell k) && some k) (one k) ∙ ap (λ x. (bit_in old n k && x && cell k) && some k) (other k)
 
 -- the row of what is left, as it is pushed
-pub mask_pushed : (old : BitRows) (l r : ℕ → Bool) (rel : Rel) (mask : ℕ → Bool) (kept : Cells) → AreKept kept rel → ((k : ℕ) → mask k ≡ bit_in old 0 k) →
-    (k : ℕ) → (mask k && mask k && in_cells kept (l k) (r k)) ≡ left_at old l r rel k
-mask_pushed old l r rel mask kept are shows k =
-    ap (λ b. (mask k && mask k) && b) (are (l k) (r k)) ∙ twice (mask k) (is_left_by rel (l k) (r k)) ∙ ap (λ b. b && is_left_by rel (l k) (r k)) (shows k)
+pub mask_pushed : (old : BitRows) (l r : ℕ → Bool) (words : Regions) (mask : ℕ → Bool) (kept : Cells) → AreKept kept words → ((k : ℕ) → mask k ≡ bit_in old 0 k) →
+    (k : ℕ) → (mask k && mask k && in_cells kept (l k) (r k)) ≡ left_at old l r words k
+mask_pushed old l r words mask kept are shows k =
+    ap (λ b. (mask k && mask k) && b) (are (l k) (r k)) ∙ twice (mask k) (is_left_by words (l k) (r k)) ∙ ap (λ b. b && is_left_by words (l k) (r k)) (shows k)
   where
     twice : (a b : Bool) → ((a && a) && b) ≡ (a && b)
     twice true b = refl

@@ -1,122 +1,137 @@
--- Frames of a problem and its paths: whether a path is alive, and the frame with one relation more.
-use Rattle.std.proofs.Common.{◌≡◌, ℕ, ◌<◌, ◌↔◌, Bool, true, false, ◌&&◌, List, [], ◌∷◌, ◌++◌, length, refl, sym, ap, ◌∙◌, subst, arith}
+-- Frames of problems and their paths: whether one is alive, and the frame after one pair more was narrowed.
+use Rattle.std.proofs.Common.{◌≡◌, ℕ, ◌<◌, ◌↔◌, Bool, true, false, ◌&&◌, List, [], length, refl, sym, ap, ◌∙◌, subst, arith}
 use Rattle.std.specs.Prelude.{nat_lt}
 use Rattle.std.proofs.lemmas.Bool.{and_from, and_parts, lt-ltb}
-use Rattle.rcc5_core.specs.declared.Rel.{Rel}
+use Rattle.rcc5_core.specs.declared.RelSet.{RelSet}
 use Rattle.rcc5_core.specs.declared.Region.{Region}
-use Rattle.rcc5_core.specs.Region.{forced_regions, row_of}
-use Rattle.world_model.specs.Problem.{Problem, concept_count, pairs, pair_count}
+use Rattle.rcc5_core.specs.Region.{forced_regions}
+use Rattle.world_model.specs.Problem.{Problem, Constraint, concept_count, pairs, pair_count}
 use Rattle.world_model.specs.Node.{pair_at}
-use Rattle.world_model.specs.Alive.{allowed, lies_in, is_point, obeys, forced_pairs, Need, needs, is_in_need, problem_at, IsAlive, all_allow}
+use Rattle.world_model.specs.Alive.{allowed, bit_of, lies_in, is_point, obeys, forced_pairs, Need, needs, is_in_need, IsAlive, all_allow}
 use Rattle.world_model.specs.Alive.Need.{InRegion, InConcept}
 use Rattle.world_model.specs.Trial.{points_by_trial, bit_lists}
 use Rattle.world_model.proofs.Members.{In-get_or, In-range, from_range, from_filter, place_of, in_from_contains, contains_from_in, IsPlaced}
 use Rattle.world_model.proofs.PointAlive.{IsNeed, In-needs, from_needs}
+use Rattle.world_model.proofs.PointPositions.{with_narrowings}
 use Rattle.world_model.proofs.TrialPoints.{in_points}
 use Rattle.point_table.specs.Points.{forced_at}
 use Rattle.point_table.specs.Rows.{SomePlace, BitRows, bit_in}
 use Rattle.point_table.specs.Table.{point_at}
+use Rattle.point_table.specs.Bounds.{HoldsPoints}
 use Rattle.point_table.specs.Ladders.{lies_by, is_left_by, is_occupied, AreWithin, Satisfies, AreMet, left_at, IsNarrowed, AreServed, IsFrame, PairsMet, ConceptsMet}
 use Rattle.point_table.proofs.Frames.{some_alike, left_within}
-use Rattle.point_table.proofs.Narrowing.{IsNext, bits_at, lies_is, point_next, point_before, served_next, allow_next}
+use Rattle.point_table.proofs.Narrowing.{IsNarrower, bits_at, lies_is, point_next, served_next, allow_next}
 
--- a path each of whose pairs allows something is alive just where all its points among those of the table serve its needs
-pub served_is_alive : (p : Problem) (m : List Rel) (mask : ℕ → Bool) → all_allow (problem_at p m) ≡ true →
-    ((k : ℕ) → mask k ≡ (nat_lt k (length (points_by_trial p)) && is_point (problem_at p m) (point_at (points_by_trial p) k))) →
-    AreServed (problem_at p m) (points_by_trial p) mask ↔ IsAlive (problem_at p m)
-served_is_alive p m mask allow shows = (
+-- all points of a problem stand in the list of its points
+pub holds_all : (p : Problem) → HoldsPoints p (points_by_trial p)
+holds_all p bits h = contains_from_in (in_points p bits h)
+
+-- a problem each of whose pairs allows something is alive just where all its points in a list that holds them serve its needs
+pub served_is_alive : (q : Problem) (points : List (List Bool)) (mask : ℕ → Bool) → all_allow q ≡ true → HoldsPoints q points →
+    ((k : ℕ) → mask k ≡ (nat_lt k (length points) && is_point q (point_at points k))) → AreServed q points mask ↔ IsAlive q
+served_is_alive q points mask allow holds shows = (
   λ s. record {
     allow = allow;
     points = λ need i.
         let some = s need i in
         let k = some.place in
         let parts = and_parts (mask k) (is_in_need need (point_at points k)) some.passes in
-        (point_at points k, (and_parts (nat_lt k (length points)) (is_point (problem_at p m) (point_at points k)) (sym (shows k) ∙ parts.0)).1, parts.1);
+        (point_at points k, (and_parts (nat_lt k (length points)) (is_point q (point_at points k)) (sym (shows k) ∙ parts.0)).1, parts.1);
   },
   λ alive need i.
       let point = alive.points need i in
-      let placed : IsPlaced point.0 points = place_of (in_points p point.0 (point_before p m point.0 allow point.1)) in
+      let placed : IsPlaced point.0 points = place_of (in_from_contains points (holds point.0 point.1)) in
       let k = placed.place in
-      let here : is_point (problem_at p m) (point_at points k) ≡ true = ap (is_point (problem_at p m)) (placed.is []) ∙ point.1 in
+      let here : is_point q (point_at points k) ≡ true = ap (is_point q) (placed.is []) ∙ point.1 in
       record {
         place = k;
         passes = and_from (mask k) (is_in_need need (point_at points k))
-            (shows k ∙ and_from (nat_lt k (length points)) (is_point (problem_at p m) (point_at points k)) (lt-ltb k (length points) placed.within) here)
+            (shows k ∙ and_from (nat_lt k (length points)) (is_point q (point_at points k)) (lt-ltb k (length points) placed.within) here)
             (ap (is_in_need need) (placed.is []) ∙ point.2);
       },
 )
-  where
-    points : List (List Bool)
-    points = points_by_trial p
 
--- a frame says of the next path which points serve its needs
-served_by_frame : (p : Problem) (m : List Rel) (rel : Rel) (rows : BitRows) (points : List (List Bool)) (l r some : ℕ → Bool) → IsNext p m rel → IsFrame (problem_at p m) points rows →
-    ((k : ℕ) → l k ≡ bits_at points (pair_at p (length m)).0 k) → ((k : ℕ) → r k ≡ bits_at points (pair_at p (length m)).1 k) → AreWithin some (bit_in rows 0) →
-    (Satisfies rows rows.count some × AreMet (row_of rel) l r some) ↔ AreServed (problem_at p (m ++ rel ∷ [])) points some
-served_by_frame p m rel rows points l r some next frame left right within =
+-- rows show the bits that points have of a pair's two concepts
+pub record ShowsPair (pair : ℕ × ℕ) (points : List (List Bool)) (l r : ℕ → Bool) : Type 0 where
+  pub left : (j : ℕ) → l j ≡ bits_at points pair.0 j
+  pub right : (j : ℕ) → r j ≡ bits_at points pair.1 j
+
+-- a frame says of the narrower problem which points serve its needs
+served_by_frame : (b : Problem) (ns ms : List Constraint) (k : ℕ) (set : RelSet) (rows : BitRows) (points : List (List Bool)) (l r some : ℕ → Bool) → IsNarrower b ns ms k set →
+    IsFrame (with_narrowings b ns) points rows → ShowsPair (pair_at b k) points l r → AreWithin some (bit_in rows 0) →
+    (Satisfies rows rows.count some × AreMet (forced_regions set) l r some) ↔ AreServed (with_narrowings b ms) points some
+served_by_frame b ns ms k set rows points l r some n frame shows within =
     let owes = frame.owes some within in
-    let more = served_next p m rel points some next in
-    let pair = pair_at p (length m) in (
+    let more = served_next b ns ms k set points some n in
+    let pair = pair_at b k in (
       λ h. more.1 (
         owes.0 h.0,
-        λ region occupied. some_alike (λ k. some k && lies_by region (l k) (r k)) (λ k. some k && lies_by region (bits_at points pair.0 k) (bits_at points pair.1 k))
-            (λ k e. sym (same region k) ∙ e) (h.1 region occupied),
+        λ region occupied. some_alike (λ j. some j && lies_by region (l j) (r j)) (λ j. some j && lies_by region (bits_at points pair.0 j) (bits_at points pair.1 j))
+            (λ j e. sym (same region j) ∙ e) (h.1 region occupied),
       ),
       λ s. let parts = more.0 s in (
         owes.1 parts.0,
-        λ region occupied. some_alike (λ k. some k && lies_by region (bits_at points pair.0 k) (bits_at points pair.1 k)) (λ k. some k && lies_by region (l k) (r k))
-            (λ k e. same region k ∙ e) (parts.1 region occupied),
+        λ region occupied. some_alike (λ j. some j && lies_by region (bits_at points pair.0 j) (bits_at points pair.1 j)) (λ j. some j && lies_by region (l j) (r j))
+            (λ j e. same region j ∙ e) (parts.1 region occupied),
       ),
     )
   where
-    same : (region : Region) (k : ℕ) → (some k && lies_by region (l k) (r k)) ≡ (some k && lies_by region (bits_at points (pair_at p (length m)).0 k) (bits_at points (pair_at p (length m)).1 k))
-    same region k = ap (λ x. some k && lies_by region x (r k)) (left k) ∙ ap (λ x. some k && lies_by region (bits_at points (pair_at p (length m)).0 k) x) (right k)
+    same : (region : Region) (j : ℕ) → (some j && lies_by region (l j) (r j)) ≡ (some j && lies_by region (bits_at points (pair_at b k).0 j) (bits_at points (pair_at b k).1 j))
+    same region j = ap (λ x. some j && lies_by region x (r j)) (shows.left j) ∙ ap (λ x. some j && lies_by region (bits_at points (pair_at b k).0 j) x) (shows.right j)
 
--- the places that a relation leaves are the points of the next path
-left_points : (p : Problem) (m : List Rel) (rel : Rel) (rows : BitRows) (points : List (List Bool)) (l r : ℕ → Bool) → IsNext p m rel → IsFrame (problem_at p m) points rows →
-    ((k : ℕ) → l k ≡ bits_at points (pair_at p (length m)).0 k) → ((k : ℕ) → r k ≡ bits_at points (pair_at p (length m)).1 k) →
-    (k : ℕ) → left_at rows l r rel k ≡ (nat_lt k (length points) && is_point (problem_at p (m ++ rel ∷ [])) (point_at points k))
-left_points p m rel rows points l r next frame left right k =
-    let pair = pair_at p (length m) in
-    let kept = is_left_by rel (bits_at points pair.0 k) (bits_at points pair.1 k) in
-    ap (λ b. b && is_left_by rel (l k) (r k)) (frame.mask k) ∙ ap (λ x. (nat_lt k (length points) && is_point (problem_at p m) (point_at points k)) && is_left_by rel x (r k)) (left k) ∙
-    ap (λ x. (nat_lt k (length points) && is_point (problem_at p m) (point_at points k)) && is_left_by rel (bits_at points pair.0 k) x) (right k) ∙
-    together (nat_lt k (length points)) (is_point (problem_at p m) (point_at points k)) kept ∙ ap (λ b. nat_lt k (length points) && b) (sym (point_next p m rel (point_at points k) next))
+-- the places that the set leaves are the points of the narrower problem
+left_points : (b : Problem) (ns ms : List Constraint) (k : ℕ) (set : RelSet) (rows : BitRows) (points : List (List Bool)) (l r : ℕ → Bool) → IsNarrower b ns ms k set →
+    IsFrame (with_narrowings b ns) points rows → ShowsPair (pair_at b k) points l r →
+    (j : ℕ) → left_at rows l r (forced_regions set) j ≡ (nat_lt j (length points) && is_point (with_narrowings b ms) (point_at points j))
+left_points b ns ms k set rows points l r n frame shows j =
+    let pair = pair_at b k in
+    let words = forced_regions set in
+    let before = nat_lt j (length points) && is_point (with_narrowings b ns) (point_at points j) in
+    ap (λ x. x && is_left_by words (l j) (r j)) (frame.mask j) ∙ ap (λ x. before && is_left_by words x (r j)) (shows.left j) ∙
+    ap (λ x. before && is_left_by words (bits_at points pair.0 j) x) (shows.right j) ∙
+    together (nat_lt j (length points)) (is_point (with_narrowings b ns) (point_at points j)) (is_left_by words (bits_at points pair.0 j) (bits_at points pair.1 j)) ∙
+    ap (λ x. nat_lt j (length points) && x) (sym (point_next b ns ms k set (point_at points j) n))
   where
     together : (a b c : Bool) → ((a && b) && c) ≡ (a && (b && c))
     together true b c = refl
     together false b c = refl
 
--- the frame of the next path
-pub frame_next : (p : Problem) (m : List Rel) (rel : Rel) (old new : BitRows) (points : List (List Bool)) (l r : ℕ → Bool) → IsNext p m rel → IsFrame (problem_at p m) points old →
-    ((k : ℕ) → l k ≡ bits_at points (pair_at p (length m)).0 k) → ((k : ℕ) → r k ≡ bits_at points (pair_at p (length m)).1 k) → IsNarrowed old new l r rel →
-    IsFrame (problem_at p (m ++ rel ∷ [])) points new
-frame_next p m rel old new points l r next frame left right n = record {
-  rows_two = n.rows_two;
-  width = n.width ∙ frame.width;
-  mask = λ k. n.mask k ∙ left_points p m rel old points l r next frame left right k;
+-- the frame of the narrower problem
+pub frame_next : (b : Problem) (ns ms : List Constraint) (k : ℕ) (set : RelSet) (old new : BitRows) (points : List (List Bool)) (l r : ℕ → Bool) → IsNarrower b ns ms k set →
+    IsFrame (with_narrowings b ns) points old → ShowsPair (pair_at b k) points l r → IsNarrowed old new l r (forced_regions set) → IsFrame (with_narrowings b ms) points new
+frame_next b ns ms k set old new points l r n frame shows o = record {
+  rows_two = o.rows_two;
+  width = o.width ∙ frame.width;
+  mask = λ j. o.mask j ∙ left_points b ns ms k set old points l r n frame shows j;
   owes = λ some within.
-      let inside : AreWithin some (left_at old l r rel) = λ k h. sym (n.mask k) ∙ within k h in
-      let both = n.owes some inside in
-      let served = served_by_frame p m rel old points l r some next frame left right (λ k h. left_within old l r rel k (inside k h)) in
+      let inside : AreWithin some (left_at old l r (forced_regions set)) = λ j h. sym (o.mask j) ∙ within j h in
+      let both = o.owes some inside in
+      let served = served_by_frame b ns ms k set old points l r some n frame shows (λ j h. left_within old l r (forced_regions set) j (inside j h)) in
       (λ s. served.0 (both.0 s), λ h. both.1 (served.1 h));
 }
 
--- whether the next path is alive, by the frame
-pub alive_next : (p : Problem) (m : List Rel) (rel : Rel) (rows : BitRows) (l r : ℕ → Bool) → IsNext p m rel → IsFrame (problem_at p m) (points_by_trial p) rows → IsAlive (problem_at p m) →
-    ((k : ℕ) → l k ≡ bits_at (points_by_trial p) (pair_at p (length m)).0 k) → ((k : ℕ) → r k ≡ bits_at (points_by_trial p) (pair_at p (length m)).1 k) →
-    (Satisfies rows rows.count (left_at rows l r rel) × AreMet (row_of rel) l r (left_at rows l r rel)) ↔ IsAlive (problem_at p (m ++ rel ∷ []))
-alive_next p m rel rows l r next frame alive left right =
-    let served = served_by_frame p m rel rows (points_by_trial p) l r (left_at rows l r rel) next frame left right (left_within rows l r rel) in
-    let lives = served_is_alive p (m ++ rel ∷ []) (left_at rows l r rel) (allow_next p m rel alive.allow next) (left_points p m rel rows (points_by_trial p) l r next frame left right) in
+-- its points are points of the other
+pub holds_next : (b : Problem) (ns ms : List Constraint) (k : ℕ) (set : RelSet) (points : List (List Bool)) → IsNarrower b ns ms k set → HoldsPoints (with_narrowings b ns) points →
+    HoldsPoints (with_narrowings b ms) points
+holds_next b ns ms k set points n holds bits h =
+    let pair = pair_at b k in
+    holds bits (and_parts (is_point (with_narrowings b ns) bits) (is_left_by (forced_regions set) (bit_of bits pair.0) (bit_of bits pair.1)) (sym (point_next b ns ms k set bits n) ∙ h)).0
+
+-- whether the narrower problem is alive, by the frame
+pub alive_next : (b : Problem) (ns ms : List Constraint) (k : ℕ) (set : RelSet) (rows : BitRows) (points : List (List Bool)) (l r : ℕ → Bool) → IsNarrower b ns ms k set →
+    IsFrame (with_narrowings b ns) points rows → ShowsPair (pair_at b k) points l r → all_allow (with_narrowings b ns) ≡ true → HoldsPoints (with_narrowings b ns) points →
+    (Satisfies rows rows.count (left_at rows l r (forced_regions set)) × AreMet (forced_regions set) l r (left_at rows l r (forced_regions set))) ↔ IsAlive (with_narrowings b ms)
+alive_next b ns ms k set rows points l r n frame shows allow holds =
+    let left = left_at rows l r (forced_regions set) in
+    let served = served_by_frame b ns ms k set rows points l r left n frame shows (left_within rows l r (forced_regions set)) in
+    let lives = served_is_alive (with_narrowings b ms) points left (allow_next b ns ms k set allow n) (holds_next b ns ms k set points n holds) (left_points b ns ms k set rows points l r n frame shows) in
     (λ h. lives.0 (served.0 h), λ a. served.1 (lives.1 a))
 
--- whether a path is alive, by its own frame
-pub alive_here : (p : Problem) (m : List Rel) (rows : BitRows) → all_allow (problem_at p m) ≡ true → IsFrame (problem_at p m) (points_by_trial p) rows →
-    Satisfies rows rows.count (bit_in rows 0) ↔ IsAlive (problem_at p m)
-alive_here p m rows allow frame =
+-- whether a problem is alive, by its own frame
+pub alive_here : (q : Problem) (points : List (List Bool)) (rows : BitRows) → all_allow q ≡ true → HoldsPoints q points → IsFrame q points rows → Satisfies rows rows.count (bit_in rows 0) ↔ IsAlive q
+alive_here q points rows allow holds frame =
     let owes = frame.owes (bit_in rows 0) (λ k h. h) in
-    let lives = served_is_alive p m (bit_in rows 0) allow frame.mask in
+    let lives = served_is_alive q points (bit_in rows 0) allow holds frame.mask in
     (λ s. lives.0 (owes.0 s), λ a. owes.1 (lives.1 a))
 
 -- each point of the table is one

@@ -1,19 +1,18 @@
 -- What is left of the points along a path of relations, and which of them serve the needs there.
-use Rattle.std.specs.Prelude.{◌≡◌, ℕ, ◌+◌, ◌/◌, ◌<◌, ◌≤◌, ◌↔◌, nat_lt, Bool, true, false, not, ◌&&◌, List, [], ◌∷◌, ◌++◌, length, take, slice_index_or, Contains, IsTrue}
+use Rattle.std.specs.Prelude.{◌≡◌, ℕ, ◌+◌, ◌/◌, ◌<◌, ◌≤◌, ◌↔◌, nat_lt, Bool, true, false, not, ◌&&◌, List, [], ◌∷◌, ◌++◌, length, Contains, IsTrue}
 use Rattle.std.specs.List.{list_all}
 use Rattle.rcc5_core.specs.declared.Rel.{Rel}
-use Rattle.rcc5_core.specs.declared.RelSet.{RelSet}
 use Rattle.rcc5_core.specs.declared.Region.{Region}
 use Rattle.rcc5_core.specs.declared.Region.TheVariants.{LeftOnly, Both, RightOnly}
 use Rattle.rcc5_core.specs.declared.Regions.{Regions}
 use Rattle.rcc5_core.specs.declared.Occupancy.TheVariants.{Empty, Occupied}
-use Rattle.rcc5_core.specs.Region.{all_regions, word_at, same_word, row_of}
+use Rattle.rcc5_core.specs.Region.{all_regions, word_at, same_word}
 use Rattle.world_model.specs.Problem.{Problem, is_problem, concept_count, pairs, pair_count}
 use Rattle.world_model.specs.Family.{IsPossibleWorld}
 use Rattle.world_model.specs.Node.{pair_at}
 use Rattle.world_model.specs.Alive.{Need, needs, is_in_need, bit_of, is_point, problem_at, IsAlive}
 use Rattle.world_model.specs.Trial.{points_by_trial}
-use Rattle.point_table.specs.Points.{AreAllowed, forced_at}
+use Rattle.point_table.specs.Points.{forced_at}
 use Rattle.point_table.specs.Rows.{SomePlace, BitRows, bit_in}
 use Rattle.point_table.specs.Table.{point_at, AreShown}
 
@@ -49,9 +48,9 @@ lies_by LeftOnly left right = left && not right
 lies_by Both left right = left && right
 lies_by RightOnly left right = not left && right
 
--- whether it may be there by a relation: it lies in no region that the relation leaves empty
-abbrev pub is_left_by : Rel → Bool → Bool → Bool
-is_left_by rel left right = list_all (λ region. not (same_word (word_at (row_of rel) region) Empty && lies_by region left right)) all_regions
+-- whether it may be there by what words say of the regions: it lies in none that is empty
+abbrev pub is_left_by : Regions → Bool → Bool → Bool
+is_left_by words left right = list_all (λ region. not (same_word (word_at words region) Empty && lies_by region left right)) all_regions
 
 -- whether words say of a region that it is occupied
 abbrev pub is_occupied : Regions → Region → Bool
@@ -70,9 +69,9 @@ pub record Satisfies (rows : BitRows) (count : ℕ) (some : ℕ → Bool) : Type
 abbrev pub AreMet : Regions → (ℕ → Bool) → (ℕ → Bool) → (ℕ → Bool) → Type 0
 AreMet words left right some = (region : Region) → is_occupied words region ≡ true → SomePlace (λ k. some k && lies_by region (left k) (right k))
 
--- whether a place of the first row is left by a relation of two sets
-abbrev pub left_at : BitRows → (ℕ → Bool) → (ℕ → Bool) → Rel → ℕ → Bool
-left_at rows left right rel k = bit_in rows 0 k && is_left_by rel (left k) (right k)
+-- whether a place of the first row is left by what words say of the regions of two sets
+abbrev pub left_at : BitRows → (ℕ → Bool) → (ℕ → Bool) → Regions → ℕ → Bool
+left_at rows left right words k = bit_in rows 0 k && is_left_by words (left k) (right k)
 
 -- rows that owe the same, and something more
 pub record IsOwing (old new : BitRows) (Owed : (ℕ → Bool) → Type 0) : Type 0 where
@@ -81,12 +80,12 @@ pub record IsOwing (old new : BitRows) (Owed : (ℕ → Bool) → Type 0) : Type
   pub mask : (k : ℕ) → bit_in new 0 k ≡ bit_in old 0 k
   pub owes : (some : ℕ → Bool) → AreWithin some (bit_in old 0) → Satisfies new new.count some ↔ (Satisfies old old.count some × Owed some)
 
--- rows after two sets were narrowed to a relation
-pub record IsNarrowed (old new : BitRows) (left right : ℕ → Bool) (rel : Rel) : Type 0 where
+-- rows after words were said of the regions of two sets
+pub record IsNarrowed (old new : BitRows) (left right : ℕ → Bool) (words : Regions) : Type 0 where
   pub rows_two : 2 ≤ new.count
   pub width : new.width ≡ old.width
-  pub mask : (k : ℕ) → bit_in new 0 k ≡ left_at old left right rel k
-  pub owes : (some : ℕ → Bool) → AreWithin some (left_at old left right rel) → Satisfies new new.count some ↔ (Satisfies old old.count some × AreMet (row_of rel) left right some)
+  pub mask : (k : ℕ) → bit_in new 0 k ≡ left_at old left right words k
+  pub owes : (some : ℕ → Bool) → AreWithin some (left_at old left right words) → Satisfies new new.count some ↔ (Satisfies old old.count some × AreMet words left right some)
 
 -- some of the points serve all needs of a problem
 abbrev pub AreServed : Problem → List (List Bool) → (ℕ → Bool) → Type 0
@@ -113,23 +112,3 @@ pub record AreRowsOf (p : Problem) (rows : BitRows) : Type 0 where
   pub shown : AreShown (points_by_trial p) rows
   pub counted : rows.count ≡ concept_count p
   pub width : rows.width ≡ length (points_by_trial p) / 64 + 1
-
--- the frame in force at a prefix of a path, where so many frames stand for each prefix
-abbrev pub frame_at : List BitRows → List ℕ → ℕ → BitRows
-frame_at frames tops n = slice_index_or frames (slice_index_or tops n 0) (record { count = 0; width = 0; words = [] })
-
--- each prefix of a path, itself too, has a frame, and a longer one never an earlier frame
-pub record HasFrames (p : Problem) (path : List Rel) (frames : List BitRows) (tops : List ℕ) : Type 0 where
-  pub counted : length path < length tops
-  pub within : (n : ℕ) → n ≤ length path → slice_index_or tops n 0 < length frames
-  pub later : (n more : ℕ) → n ≤ more → more ≤ length path → slice_index_or tops n 0 ≤ slice_index_or tops more 0
-  pub each : (n : ℕ) → n ≤ length path → IsFrame (problem_at p (take n path)) (points_by_trial p) (frame_at frames tops n)
-
--- what a ladder keeps of its problem and path
-pub record IsLadder (p : Problem) (path : List Rel) (sets : List RelSet) (rows : BitRows) (frames : List BitRows) (tops : List ℕ) (alive : Bool) : Type 0 where
-  pub sets_are : AreAllowed p sets
-  pub rows_are : AreRowsOf p rows
-  pub has_frames : HasFrames p path frames tops
-  pub start : IsTrue alive ↔ IsAlive p
-  pub here : 0 < length path → IsAlive (problem_at p path)
-  pub short : length path ≤ pair_count p

@@ -1,13 +1,12 @@
 //! Frames: a row of the points that are left, one of those that have to stay, and rows of which one each has to stay.
 ghost use Rattle.std.specs.Prelude.{◌≡◌, ℕ, ◌+◌, ◌*◌, ◌<◌, ◌≤◌, ◌&&◌, ◌↔◌, Bool, true, length, IsTrue, IfOk, OnOk, IfSome};
-ghost use Rattle.rcc5_core.specs.Region.{row_of};
 ghost use Rattle.point_table.specs.Rows.{has_bit, bit_in, in_cells, SomePlace};
 ghost use Rattle.point_table.specs.Ladders.{lies_by, is_left_by, is_occupied, AreWithin, Satisfies, AreMet, left_at, IsOwing, IsNarrowed};
 
 use crate::rows::Rows;
 use crate::rules::{have_common, is_inside};
 use crate::words::{Cells, first_place, has_single, meets};
-use rcc5_core::{Occupancy, Region, Regions, Rel};
+use rcc5_core::{Occupancy, Region, Regions};
 use std::alloc::{AllocError, Global};
 
 // The cell of a region.
@@ -27,15 +26,14 @@ fn region_cell(region: Region) -> Cells
     }
 }
 
-// The cells that a relation leaves.
-fn kept_cells(rel: Rel) -> Cells
-    ensures { (left right : Bool) → in_cells result left right ≡ is_left_by rel left right }
+// The cells that words about two sets leave.
+fn kept_cells(words: Regions) -> Cells
+    ensures { (left right : Bool) → in_cells result left right ≡ is_left_by words left right }
 {
-    let row = rel.row();
     Cells {
-        left_only: row.left_only != Occupancy::Empty,
-        both: row.both != Occupancy::Empty,
-        right_only: row.right_only != Occupancy::Empty,
+        left_only: words.left_only != Occupancy::Empty,
+        both: words.both != Occupancy::Empty,
+        right_only: words.right_only != Occupancy::Empty,
         neither: true,
     }
 }
@@ -92,17 +90,17 @@ pub(crate) fn lives(frame: &Rows) -> bool
     open_met(frame, mask, mask, Cells::all())
 }
 
-// Whether the places that a relation of two sets leaves satisfy the other rows and the regions that it occupies.
-pub(crate) fn leads_on(frame: &Rows, left: &[u64], right: &[u64], rel: Rel) -> bool
+// Whether the places that words about two sets leave satisfy the other rows, and lie in the regions that are occupied.
+pub(crate) fn leads_on(frame: &Rows, left: &[u64], right: &[u64], words: Regions) -> bool
     requires two { 2 ≤ frame.now.count }
     requires lives { Satisfies frame.now frame.now.count (bit_in frame.now 0) }
-    ensures { IsTrue result ↔ (Satisfies frame.now frame.now.count (left_at frame.now (has_bit left.now) (has_bit right.now) rel) × AreMet (row_of rel) (has_bit left.now) (has_bit right.now) (left_at frame.now (has_bit left.now) (has_bit right.now) rel)) }
+    ensures { IsTrue result ↔ (Satisfies frame.now frame.now.count (left_at frame.now (has_bit left.now) (has_bit right.now) words) × AreMet words (has_bit left.now) (has_bit right.now) (left_at frame.now (has_bit left.now) (has_bit right.now) words)) }
 {
     let mask = frame.row(0);
-    if !are_met(mask, left, right, rel.row()) {
+    if !are_met(mask, left, right, words) {
         return false;
     }
-    let kept = kept_cells(rel);
+    let kept = kept_cells(words);
     let lost = kept.others();
     if !meets(mask, mask, left, right, lost) {
         return true;
@@ -114,16 +112,16 @@ pub(crate) fn leads_on(frame: &Rows, left: &[u64], right: &[u64], rel: Rel) -> b
     open_met(frame, left, right, kept)
 }
 
-// Whether a relation of two sets takes no place away, and has a place that has to stay in each region that it occupies.
-pub(crate) fn is_same(frame: &Rows, left: &[u64], right: &[u64], rel: Rel) -> bool
+// Whether words about two sets take no place away, and each region that is occupied has a place that has to stay.
+pub(crate) fn is_same(frame: &Rows, left: &[u64], right: &[u64], words: Regions) -> bool
     requires { 2 ≤ frame.now.count }
-    ensures { result ≡ true → IsNarrowed frame.now frame.now (has_bit left.now) (has_bit right.now) rel }
+    ensures { result ≡ true → IsNarrowed frame.now frame.now (has_bit left.now) (has_bit right.now) words }
 {
     let mask = frame.row(0);
-    if meets(mask, mask, left, right, kept_cells(rel).others()) {
+    if meets(mask, mask, left, right, kept_cells(words).others()) {
         return false;
     }
-    are_met(frame.row(1), left, right, rel.row())
+    are_met(frame.row(1), left, right, words)
 }
 
 // Whether a row is met wherever those before it are: it has a place that has to stay, or all of one of them.
@@ -248,24 +246,24 @@ fn add_open(
     Ok(())
 }
 
-// The frame after two sets were narrowed to a relation.
+// The frame after words were said of two sets.
 pub(crate) fn narrowed(
     alloc: Global,
     frame: &Rows,
     left: &[u64],
     right: &[u64],
-    rel: Rel,
+    words: Regions,
 ) -> Result<Rows, AllocError>
     requires some { 0 < frame.now.width }
     requires two { 2 ≤ frame.now.count }
-    ensures { IfOk result (λ next. IsNarrowed frame.now next (has_bit left.now) (has_bit right.now) rel) }
+    ensures { IfOk result (λ next. IsNarrowed frame.now next (has_bit left.now) (has_bit right.now) words) }
 {
     let mask = frame.row(0);
-    let kept = kept_cells(rel);
+    let kept = kept_cells(words);
     let mut next = Rows::new(alloc, frame.width());
     next.push(mask, mask, left, right, kept)?;
     next.push_copy(frame.row(1))?;
-    add_regions(mask, left, right, rel.row(), &mut next)?;
+    add_regions(mask, left, right, words, &mut next)?;
     add_open(frame, left, right, kept, &mut next)?;
     Ok(next)
 }

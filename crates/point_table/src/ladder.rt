@@ -1,16 +1,19 @@
 //! The ladder: a path of relations, and what is left of the points at each of its prefixes.
-ghost use Rattle.std.specs.Prelude.{◌≡◌, ◌<◌, ◌≤◌, ◌++◌, ◌∷◌, ◌↔◌, [], length, take, IfOk, OnErr, IfSome, IfNone, IsTrue};
+ghost use Rattle.std.specs.Prelude.{◌≡◌, ◌<◌, ◌≤◌, ◌++◌, ◌∷◌, ◌↔◌, [], length, take, IfOk, OnErr, IfSome, IsTrue};
 ghost use Rattle.rcc5_core.specs.declared.Rel.{Rel};
 ghost use Rattle.rcc5_core.specs.RelationSet.{has};
 ghost use Rattle.world_model.specs.Problem.{pair_count};
 ghost use Rattle.world_model.specs.Alive.{problem_at, IsAlive};
-ghost use Rattle.world_model.specs.Trial.{points_by_trial};
-ghost use Rattle.point_table.specs.Ladders.{IsBoundOf, IsAlong, IsPushed, IsFrame, frame_at};
+ghost use Rattle.point_table.specs.Points.{AreAllowed};
+ghost use Rattle.point_table.specs.Ladders.{IsBoundOf, IsAlong, IsPushed, AreRowsOf};
+ghost use Rattle.point_table.specs.Bounds.{bound_to, AreBounds};
+ghost use Rattle.point_table.specs.Stretches.{AreNexts};
 
+use crate::bounds::{Bounds, are_same, narrow_all, no_bounds};
 use crate::frame::{is_same, leads_on, narrowed};
 use crate::points::allowed_sets;
 use crate::rows::Rows;
-use crate::start::{first_frame, is_alive};
+use crate::stretches::{Stretch, cut};
 use crate::table::{all_points, rows_of};
 use constraint_set::Problem;
 use rcc5_core::{Rel, RelSet};
@@ -23,24 +26,110 @@ use std::marker::Model;
 #[derive(Drop)]
 pub struct Ladder {
     problem: Problem,
-    path: Vec<Rel>,
+    // How many pairs are narrowed to their bounds, and what all pairs allow then.
+    bounds: usize,
     sets: Vec<RelSet>,
     rows: Rows,
-    frames: Vec<Rows>,
-    // The number of the frame in force at each prefix of the path. What stands past the path is of no use.
-    tops: Vec<usize>,
+    // A relation a pair: so many of the path, and then the one that is left, at each pair with one left.
+    line: Vec<Rel>,
+    len: usize,
+    // For each pair the next one that has more relations left than the line's, from it on, or the end.
+    nexts: Vec<u32>,
+    stretches: Vec<Stretch>,
     alive: bool,
     alloc: Global,
 }
 
 impl Model for Ladder {
-    ghost use Rattle.point_table.specs.Ladders.{LadderState, IsLadder};
+    ghost use Rattle.std.specs.Prelude.{take};
+    ghost use Rattle.world_model.specs.Trial.{points_by_trial};
+    ghost use Rattle.point_table.specs.Ladders.{LadderState};
+    ghost use Rattle.point_table.specs.Bounds.{bound_to};
+    ghost use Rattle.point_table.specs.Stretches.{IsLadder};
 
     ghost Value = { LadderState };
 
-    ghost view = { λ s. record { problem = s.problem; path = s.path.items } };
+    ghost view = { λ s. record { problem = bound_to s.problem s.sets.items s.bounds; path = take s.len s.line.items } };
 
-    ghost invariant = { λ s. IsLadder s.problem s.path.items s.sets.items s.rows s.frames.items s.tops.items s.alive };
+    ghost invariant = { λ s. IsLadder s.problem (bound_to s.problem s.sets.items s.bounds) s.sets.items s.rows s.line.items s.len s.nexts.items s.stretches.items s.alive };
+}
+
+// The rows of a problem's points, and its pairs before any is narrowed.
+fn begin(
+    alloc: Global,
+    problem: &Problem,
+    most: usize,
+    tries: usize,
+) -> Result<Option<(Rows, Bounds)>, AllocError>
+    ensures rows { IfOk result (λ found. IfSome found (λ both. AreRowsOf problem.now both.0)) }
+    ensures bounds { IfOk result (λ found. IfSome found (λ both. AreBounds problem.now both.1)) }
+    ensures none { IfOk result (λ found. IfSome found (λ both. both.1.count ≡ 0)) }
+{
+    let sets = allowed_sets(alloc, problem)?;
+    let Some(points) = all_points(alloc, problem, &sets, most, tries)? else {
+        return Ok(None);
+    };
+    let rows = rows_of(alloc, &points, problem.concept_count() as usize)?;
+    let bounds = no_bounds(alloc, problem, sets, &rows, points.len())?;
+    Ok(Some((rows, bounds)))
+}
+
+// The first relation of each set.
+fn first_line(alloc: Global, sets: &[RelSet]) -> Result<Vec<Rel>, AllocError>
+    ensures { IfOk result (λ line. length line.items ≡ length sets.now) }
+{
+    let mut line = Vec::new(alloc);
+    for set in sets {
+        line.push(set.first().unwrap_or(Rel::Equals))?;
+    }
+    Ok(line)
+}
+
+// For each set the next one that has more than the line's relation, from it on, or the end.
+fn nexts_of(alloc: Global, sets: &[RelSet], line: &[Rel]) -> Result<Vec<u32>, AllocError>
+    requires lined { length line.now ≡ length sets.now }
+    requires few { length sets.now < 4294967296 }
+    ensures { IfOk result (λ nexts. AreNexts sets.now line.now nexts.items) }
+{
+    let mut nexts = Vec::new(alloc);
+    for pair in 0..sets.len() {
+        if !are_same(sets[pair], RelSet::one(line[pair])) {
+            nexts.resize(pair + 1, pair as u32)?;
+        }
+    }
+    nexts.resize(sets.len(), sets.len() as u32)?;
+    Ok(nexts)
+}
+
+// The ladder at its start.
+fn stand(alloc: Global, problem: Problem, rows: Rows, bounds: Bounds) -> Result<Ladder, AllocError>
+    requires rows { AreRowsOf problem rows }
+    requires bounds { AreBounds problem bounds }
+    ensures { IfOk result (λ ladder. ladder ≡ record { problem = bound_to problem bounds.sets.items bounds.count; path = [] }) }
+{
+    let _few = problem.pair_count();
+    let line = first_line(alloc, &bounds.sets)?;
+    let nexts = nexts_of(alloc, &bounds.sets, &line)?;
+    let mut stretches = Vec::new(alloc);
+    let Bounds {
+        sets,
+        count,
+        alive,
+        frame,
+    } = bounds;
+    stretches.push(Stretch { from: 0, frame })?;
+    Ok(Ladder {
+        problem,
+        bounds: count,
+        sets,
+        rows,
+        line,
+        len: 0,
+        nexts,
+        stretches,
+        alive,
+        alloc,
+    })
 }
 
 impl Ladder {
@@ -55,28 +144,10 @@ impl Ladder {
     ) -> Result<Option<Ladder>, AllocError>
         ensures { IfOk result (λ found. IfSome found (λ ladder. ladder ≡ record { problem = problem.now; path = [] })) }
     {
-        let problem = problem.copy()?;
-        let sets = allowed_sets(alloc, &problem)?;
-        let Some(points) = all_points(alloc, &problem, &sets, most, tries)? else {
+        let Some((rows, bounds)) = begin(alloc, problem, most, tries)? else {
             return Ok(None);
         };
-        let rows = rows_of(alloc, &points, problem.concept_count() as usize)?;
-        let frame = first_frame(alloc, &problem, &sets, &rows, points.len())?;
-        let alive = is_alive(&problem, &sets, &frame);
-        let mut frames = Vec::new(alloc);
-        frames.push(frame)?;
-        let mut tops = Vec::new(alloc);
-        tops.push(0)?;
-        Ok(Some(Ladder {
-            problem,
-            path: Vec::new(alloc),
-            sets,
-            rows,
-            frames,
-            tops,
-            alive,
-            alloc,
-        }))
+        Ok(Some(stand(alloc, problem.copy()?, rows, bounds)?))
     }
 
     /// The empty path of a problem with just the same possible worlds, each pair of which is narrowed to the relations that it may have.
@@ -90,7 +161,11 @@ impl Ladder {
         ensures { IfOk result (λ found. IfSome found (IsBoundOf problem.now)) }
     {
         problem.facts();
-        Ladder::new(alloc, problem, most, tries)
+        let Some((rows, mut bounds)) = begin(alloc, problem, most, tries)? else {
+            return Ok(None);
+        };
+        narrow_all(alloc, problem, &rows, &mut bounds)?;
+        Ok(Some(stand(alloc, problem.copy()?, rows, bounds)?))
     }
 
     /// Whether the path is alive.
@@ -100,13 +175,6 @@ impl Ladder {
         self.alive
     }
 
-    // The frame in force.
-    fn frame(&self) -> &Rows
-        ensures { IsFrame (problem_at self.now.problem self.now.path) (points_by_trial self.now.problem) result.now }
-    {
-        &self.frames[self.tops[self.path.len()]]
-    }
-
     // Whether a relation leads to an alive path.
     fn leads_to(&self, rel: Rel) -> bool
         requires alive { IsAlive (problem_at self.now.problem self.now.path) }
@@ -114,13 +182,14 @@ impl Ladder {
         ensures { IsTrue result ↔ IsAlive (problem_at self.now.problem (self.now.path ++ rel ∷ [])) }
     {
         let _few = self.problem.pair_count();
-        let pair = self.path.len();
+        let pair = self.len;
         if !self.sets[pair].has(rel) {
             return false;
         }
         let (left, right) = self.problem.pair_at(pair as u32);
         let (left, right) = (self.rows.row(left as usize), self.rows.row(right as usize));
-        leads_on(self.frame(), left, right, rel)
+        let last = self.stretches.len() - 1;
+        leads_on(&self.stretches[last].frame, left, right, rel.row())
     }
 
     /// The relations that lead to an alive path.
@@ -149,19 +218,20 @@ impl Ladder {
             return Ok(false);
         }
         let _few = self.problem.pair_count();
-        let len = self.path.len();
-        let mut top = self.tops[len];
-        let (left, right) = self.problem.pair_at(len as u32);
+        let pair = self.len;
+        let (left, right) = self.problem.pair_at(pair as u32);
         let (left, right) = (self.rows.row(left as usize), self.rows.row(right as usize));
-        let frame = &self.frames[top];
-        if !is_same(frame, left, right, rel) {
-            let next = narrowed(self.alloc, frame, left, right, rel)?;
-            top = self.frames.len();
-            self.frames.push(next)?;
+        let last = self.stretches.len() - 1;
+        let frame = &self.stretches[last].frame;
+        if !is_same(frame, left, right, rel.row()) {
+            let frame = narrowed(self.alloc, frame, left, right, rel.row())?;
+            self.stretches.push(Stretch {
+                from: pair + 1,
+                frame,
+            })?;
         }
-        self.tops.truncate(len + 1);
-        self.tops.push(top)?;
-        self.path.push(rel)?;
+        self.line[pair] = rel;
+        self.len = pair + 1;
         Ok(true)
     }
 
@@ -171,6 +241,9 @@ impl Ladder {
         ensures { IsAlong self.old self.new }
     {
         let _few = self.problem.pair_count();
+        if self.len < self.nexts.len() {
+            self.len = self.nexts[self.len] as usize;
+        }
     }
 
     /// Takes the path back to its first relations.
@@ -178,15 +251,14 @@ impl Ladder {
         requires { len ≤ length self.old.path }
         ensures { self.new ≡ record self.old { path = take len self.old.path } }
     {
-        self.path.truncate(len);
-        self.tops.truncate(len + 1);
-        self.frames.truncate(self.tops[len] + 1);
+        self.len = len;
+        cut(&mut self.stretches, len);
     }
 
     /// The relations.
     pub fn path(&self) -> &[Rel]
         ensures { result.now ≡ self.now.path }
     {
-        &self.path
+        &self.line[..self.len]
     }
 }

@@ -2,6 +2,7 @@
 //! relations, by which a search tells at each step which relations lead on.
 #![tactic(auto)]
 
+mod bounds;
 mod build;
 mod frame;
 mod grow;
@@ -10,6 +11,7 @@ mod points;
 mod rows;
 mod rules;
 mod start;
+mod stretches;
 mod table;
 mod words;
 

@@ -1,5 +1,4 @@
-use Rattle.std.proofs.Common.{sym, ◌∙◌}
-use Rattle.rcc5_core.specs.Region.{row_of}
+use Rattle.std.proofs.Common.{refl, sym, ◌∙◌}
 use Rattle.point_table.specs.Rows.{has_bit, bit_in}
 use Rattle.point_table.proofs.Frames.{met_shown, none_lost, same_narrowed}
 use Rattle.point_table.proofs.frame.is_same.Goals as goal
@@ -9,6 +8,6 @@ returns c = λ h.
     let rows = c.args.frame.now in
     let l = has_bit c.args.left.now in
     let r = has_bit c.args.right.now in
-    let rel = c.args.rel in
-    let none = none_lost l r rel (has_bit c.row-mask.result.now) (bit_in rows 0) c.kept_cells.result c.others.result c.meets.result c.kept_cells.ensures c.others.ensures c.row-mask.ensures.bits c.meets.ensures c.if-meets.false in
-    same_narrowed rows l r rel c.requires none (met_shown (row_of rel) c.row-2.result l r (has_bit c.row.result.now) (bit_in rows 1) c.row-2.ensures (λ k e. sym (c.row.ensures.bits k) ∙ e) (c.are_met.ensures.0 h))
+    let words = c.args.words in
+    let none = none_lost l r words (has_bit c.row-mask.result.now) (bit_in rows 0) c.kept_cells.result c.others.result c.meets.result c.kept_cells.ensures c.others.ensures c.row-mask.ensures.bits c.meets.ensures c.if-meets.false in
+    same_narrowed rows l r words c.requires none (met_shown words words l r (has_bit c.row.result.now) (bit_in rows 1) refl (λ k e. sym (c.row.ensures.bits k) ∙ e) (c.are_met.ensures.0 h))
