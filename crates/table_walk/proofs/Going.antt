@@ -1,68 +1,39 @@
--- How a listing goes on: from a path to a longer one, or to one that turns off later; and what stands between.
-use Rattle.std.proofs.Common.{◌≡◌, ℕ, ◌<◌, ◌≤◌, ◌+◌, ◌-◌, Bool, true, false, ◌⊎◌, inl, inr, List, [], ◌∷◌, ◌++◌, take, drop, length, get_or, length-append, append_assoc, append-nil, refl, sym, ap, ◌∙◌, subst, arith}
-use Rattle.std.specs.Prelude.{IsTrue, not, Some, None, Option}
-use Rattle.std.proofs.lemmas.Bool.{true≢false, not-true, not_from_false, cases_order, cases_eq, cases_lt}
+-- How a path goes on: to a longer one, or to one that turns off later.
+use Rattle.std.proofs.Common.{◌≡◌, ℕ, ◌<◌, ◌≤◌, ◌+◌, Bool, true, false, ◌⊎◌, inl, inr, List, [], ◌∷◌, ◌++◌, take, drop, length, length-append, append_assoc, append-nil, refl, sym, ap, ◌∙◌, subst, arith}
+use Rattle.std.specs.Prelude.{IsTrue, Some, None}
+use Rattle.std.proofs.lemmas.Bool.{true≢false, not-true, not_from_false, cases_order, cases_lt}
 use Rattle.std.proofs.lemmas.List.{take-append-le, get_or_append_left, get_or-take}
 use Rattle.std.proofs.Math.Seq.{take-append_seam, get_or-append_seam}
 use Rattle.rcc5_core.specs.declared.Rel.{Rel}
 use Rattle.rcc5_core.specs.declared.Rel.TheVariants.{Equals}
 use Rattle.rcc5_core.specs.declared.RelSet.{RelSet}
 use Rattle.rcc5_core.specs.Relation.{rank_of}
-use Rattle.rcc5_core.specs.RelationSet.{has, no_rels, first_of, next_of}
-use Rattle.world_model.specs.Problem.{Problem, pair_count}
+use Rattle.rcc5_core.specs.RelationSet.{has, no_rels, next_of}
+use Rattle.world_model.specs.Problem.{Problem}
 use Rattle.world_model.specs.Family.{IsPossibleWorld}
-use Rattle.world_model.specs.Listing.{is_below, IsListing}
+use Rattle.world_model.specs.Listing.{is_below}
 use Rattle.world_model.specs.Alive.{problem_at, IsAlive}
-use Rattle.world_model.proofs.Members.{In, here, there}
-use Rattle.world_model.proofs.OrderPositions.{below_itself, below_apart, below_longer, below_branch, below_chain, below_upto, upto_below}
-use Rattle.world_model.proofs.OrderLists.{IsExactly, Between, members_from, between_parts, between_from}
-use Rattle.world_model.proofs.PointPositions.{world_is_full, world_is_alive, prefix_is_alive}
+use Rattle.world_model.proofs.OrderPositions.{below_apart, below_longer, below_branch, below_chain}
+use Rattle.world_model.proofs.PointPositions.{world_is_alive, prefix_is_alive}
 use Rattle.table_walk.specs.declared.Level.{Level}
-use Rattle.table_walk.specs.Ahead.{ListsBetween, level_at, rel_at, Begins, Leaves, Branches, AreLevels, AllAhead, IsAhead}
+use Rattle.table_walk.specs.Ahead.{level_at, rel_at, Begins, Leaves, Branches, AreLevels, IsAhead}
 use Rattle.table_walk.proofs.Paths.{cut_at, turned, turned_length, turned_take, turned_before, turned_there, turned_below, upto_prefix, upto_longer}
-use Rattle.table_walk.proofs.Least.{same_rank, first_is_in, first_is_least, next_is_in, next_is_least, none_is_next, none_is_first}
-
--- a list that is exactly the worlds between two places
-pub listing_of : (p : Problem) (one : List Rel) (other : Option (List Rel)) (ws : List (List Rel)) → IsExactly (Between (IsPossibleWorld p) one other) ws → IsListing p one other ws
-listing_of p one other ws e = record { ascending = e.ascending; members = members_from (Between (IsPossibleWorld p) one other) ws e }
-
-none_in : {G : Type 0} {t : List Rel} → In t [] → G
-none_in i = elim i [ ]
-
--- no world
-pub none_listed : (p : Problem) (one : List Rel) (other : Option (List Rel)) → ((t : List Rel) → IsPossibleWorld p t → is_below t one ≡ false → Rattle.world_model.specs.Listing.is_before_end t other ≡ true → ⊥) → IsListing p one other []
-none_listed p one other none = listing_of p one other [] (record {
-  ascending = refl;
-  sound = λ t i. none_in i;
-  complete = λ t w. let parts = between_parts one other t w.1 in absurd (none t w.0 parts.0 parts.1);
-})
-
--- the one world that a place is
-pub one_listed : (p : Problem) (one : List Rel) (other : Option (List Rel)) → IsPossibleWorld p one → Rattle.world_model.specs.Listing.is_before_end one other ≡ true →
-    ((t : List Rel) → IsPossibleWorld p t → is_below t one ≡ false → Rattle.world_model.specs.Listing.is_before_end t other ≡ true → t ≡ one) → IsListing p one other (one ∷ [])
-one_listed p one other world before only = listing_of p one other (one ∷ []) (record {
-  ascending = refl;
-  sound = λ t i. elim i [
-    | here same ↦ subst (λ x. Between (IsPossibleWorld p) one other x) (sym same) (world, between_from one other one (below_itself one) before)
-    | there j ↦ none_in j
-  ];
-  complete = λ t w. let parts = between_parts one other t w.1 in here (only t w.0 parts.0 parts.1);
-})
+use Rattle.table_walk.proofs.Least.{same_rank, next_is_in, next_is_least, none_is_next}
 
 -- a branch of a path is one of its lengthening
-branch_longer : (m : List Rel) (r : Rel) (levels more : List Level) → AreLevels m levels → (t : List Rel) → Branches m levels t → Branches (m ++ r ∷ []) (levels ++ more) t
-branch_longer m r levels more are t b =
+pub branch_longer : (m on : List Rel) (levels more : List Level) → AreLevels m levels → (t : List Rel) → Branches m levels t → Branches (m ++ on) (levels ++ more) t
+branch_longer m on levels more are t b =
     let i = b.number in
     let level : level_at (levels ++ more) i ≡ level_at levels i = get_or_append_left levels more (record { depth = 0; set = no_rels }) i b.among in
     let within = are.within i b.among in
     let l = b.leaves in
     let d = (level_at levels i).depth in
-    let there_is : rel_at (m ++ r ∷ []) d ≡ rel_at m d = get_or_append_left m (r ∷ []) Equals d within in
-    let above : take d (m ++ r ∷ []) ≡ take d m = take-append-le d m (r ∷ []) (omega arith) in
+    let there_is : rel_at (m ++ on) d ≡ rel_at m d = get_or_append_left m on Equals d within in
+    let above : take d (m ++ on) ≡ take d m = take-append-le d m on (omega arith) in
     record {
       number = i;
       among = omega (arith, b.among, length-append levels more);
-      leaves = subst (λ (x : Level). Leaves (m ++ r ∷ []) x.depth x.set t) (sym level) (record {
+      leaves = subst (λ (x : Level). Leaves (m ++ on) x.depth x.set t) (sym level) (record {
         rel = l.rel;
         by_set = l.by_set;
         later = subst (λ x. rank_of x < rank_of l.rel) (sym there_is) l.later;
@@ -79,10 +50,10 @@ branch_below m levels are t b =
     subst (λ x. IsTrue (is_below m x)) (sym l.goes) (turned_below m d l.rel l.rest (are.within b.number b.among) l.later)
 
 -- the levels of a lengthening, where one more is put at its end or none
-pub levels_longer : (m : List Rel) (r : Rel) (levels : List Level) → AreLevels m levels → AreLevels (m ++ r ∷ []) levels
-levels_longer m r levels are = record {
+pub levels_longer : (m on : List Rel) (levels : List Level) → AreLevels m levels → AreLevels (m ++ on) levels
+levels_longer m on levels are = record {
   deeper = are.deeper;
-  within = λ i h. let w = are.within i h in omega (arith, w, length-append m (r ∷ []));
+  within = λ i h. let w = are.within i h in omega (arith, w, length-append m on);
 }
 
 pub levels_pushed : (m : List Rel) (r : Rel) (levels : List Level) (set : RelSet) → AreLevels m levels → AreLevels (m ++ r ∷ []) (levels ++ record { depth = length m; set = set } ∷ [])
@@ -118,10 +89,10 @@ levels_pushed m r levels set are = record {
     at_end i same = ap (λ k. level_at all k) same ∙ get_or-append_seam levels level [] (record { depth = 0; set = no_rels })
 
 -- a world that begins with an alive path goes on by one of the relations that lead on
-begins_by : (p : Problem) (m : List Rel) (r : Rel) (set : RelSet) → ((x : Rel) → IsAlive (problem_at p (m ++ x ∷ [])) → has set x ≡ true) → first_of set ≡ Some r →
+begins_by : (p : Problem) (m : List Rel) (r : Rel) (set : RelSet) → ((x : Rel) → IsAlive (problem_at p (m ++ x ∷ [])) → has set x ≡ true) →
     (levels : List Level) → ((x : Rel) → has set x ≡ true → rank_of r < rank_of x → (t rest : List Rel) → t ≡ m ++ x ∷ rest → Branches (m ++ r ∷ []) levels t) →
     (t : List Rel) → IsPossibleWorld p t → is_below t (m ++ r ∷ []) ≡ false → Begins m t → Begins (m ++ r ∷ []) t ⊎ Branches (m ++ r ∷ []) levels t
-begins_by p m r set leads first levels later t world upto b = by b.0 b.1
+begins_by p m r set leads levels later t world upto b = by b.0 b.1
   where
     by : (rest : List Rel) → t ≡ m ++ rest → Begins (m ++ r ∷ []) t ⊎ Branches (m ++ r ∷ []) levels t
     by [] same =
@@ -135,32 +106,32 @@ begins_by p m r set leads first levels later t world upto b = by b.0 b.1
         elim (cases_order (rank_of r) (rank_of x)) [
           | inl one ↦ inl (rest, whole ∙ ap (λ y. (m ++ y ∷ []) ++ rest) (sym (same_rank r x one)))
           | inr (inl less) ↦ inr (later x there_is less t rest same)
-          | inr (inr more) ↦ let least = first_is_least set r x first there_is in absurd (omega arith)
+          | inr (inr more) ↦ absurd (true≢false (sym (below_branch m x r rest [] more) ∙ ap (λ y. is_below y (m ++ r ∷ [])) (sym same) ∙ upto))
         ]
 
 -- one relation further, where no other is left
 pub goes_in : (p : Problem) (m : List Rel) (levels : List Level) (set : RelSet) (r : Rel) → IsAhead p m levels →
-    ((x : Rel) → IsAlive (problem_at p (m ++ x ∷ [])) → has set x ≡ true) → first_of set ≡ Some r → next_of set r ≡ None → IsAhead p (m ++ r ∷ []) levels
-goes_in p m levels set r ahead leads first last = record {
-  levels_are = levels_longer m r levels ahead.levels_are;
+    ((x : Rel) → IsAlive (problem_at p (m ++ x ∷ [])) → has set x ≡ true) → next_of set r ≡ None → IsAhead p (m ++ r ∷ []) levels
+goes_in p m levels set r ahead leads last = record {
+  levels_are = levels_longer m (r ∷ []) levels ahead.levels_are;
   all = λ t world h.
       let upto = not-true (is_below t (m ++ r ∷ [])) h in
       elim (ahead.all t world (not_from_false (is_below t m) (upto_longer m t (r ∷ []) upto))) [
-        | inl begins ↦ begins_by p m r set leads first levels (λ x there_is less t rest same. absurd (none_is_next set r x last there_is less)) t world upto begins
-        | inr branch ↦ inr (subst (λ ls. Branches (m ++ r ∷ []) ls t) (append-nil levels) (branch_longer m r levels [] ahead.levels_are t branch))
+        | inl begins ↦ begins_by p m r set leads levels (λ x there_is less t rest same. absurd (none_is_next set r x last there_is less)) t world upto begins
+        | inr branch ↦ inr (subst (λ ls. Branches (m ++ r ∷ []) ls t) (append-nil levels) (branch_longer m (r ∷ []) levels [] ahead.levels_are t branch))
       ];
 }
 
 -- and where others are left, which are kept at a level
 pub goes_in_with : (p : Problem) (m : List Rel) (levels : List Level) (set : RelSet) (r : Rel) → IsAhead p m levels →
-    ((x : Rel) → IsAlive (problem_at p (m ++ x ∷ [])) → has set x ≡ true) → first_of set ≡ Some r → IsAhead p (m ++ r ∷ []) (levels ++ record { depth = length m; set = set } ∷ [])
-goes_in_with p m levels set r ahead leads first = record {
+    ((x : Rel) → IsAlive (problem_at p (m ++ x ∷ [])) → has set x ≡ true) → IsAhead p (m ++ r ∷ []) (levels ++ record { depth = length m; set = set } ∷ [])
+goes_in_with p m levels set r ahead leads = record {
   levels_are = levels_pushed m r levels set ahead.levels_are;
   all = λ t world h.
       let upto = not-true (is_below t (m ++ r ∷ [])) h in
       elim (ahead.all t world (not_from_false (is_below t m) (upto_longer m t (r ∷ []) upto))) [
-        | inl begins ↦ begins_by p m r set leads first (levels ++ level ∷ []) new t world upto begins
-        | inr branch ↦ inr (branch_longer m r levels (level ∷ []) ahead.levels_are t branch)
+        | inl begins ↦ begins_by p m r set leads (levels ++ level ∷ []) new t world upto begins
+        | inr branch ↦ inr (branch_longer m (r ∷ []) levels (level ∷ []) ahead.levels_are t branch)
       ];
 }
   where
@@ -182,53 +153,6 @@ goes_in_with p m levels set r ahead leads first = record {
         goes = same ∙ ap (λ xs. xs ++ x ∷ rest) (sym (take-append_seam m (r ∷ [])));
       });
     }
-
--- nothing stands between a path that is not full and its lengthening by the first relation that leads on
-pub none_inside : (p : Problem) (m : List Rel) (levels : List Level) (set : RelSet) (r : Rel) → IsAhead p m levels →
-    ((x : Rel) → IsAlive (problem_at p (m ++ x ∷ [])) → has set x ≡ true) → first_of set ≡ Some r → length m < pair_count p → ListsBetween p m (Some (m ++ r ∷ [])) []
-none_inside p m levels set r ahead leads first short = record {
-  onward = not_from_false (is_below (m ++ r ∷ []) m) (upto_prefix m (r ∷ []));
-  exactly = none_listed p m (Some (m ++ r ∷ [])) none;
-}
-  where
-    begun : (t : List Rel) → IsPossibleWorld p t → is_below t (m ++ r ∷ []) ≡ true → (rest : List Rel) → t ≡ m ++ rest → ⊥
-    begun t world before [] same = let full = world_is_full p t world in omega (arith, full, ap length (same ∙ append-nil m))
-    begun t world before (x ∷ rest) same =
-        let whole : t ≡ (m ++ x ∷ []) ++ rest = same ∙ sym (append_assoc m (x ∷ []) rest) in
-        let there_is = leads x (prefix_is_alive p (m ++ x ∷ []) rest (subst (λ y. IsAlive (problem_at p y)) whole (world_is_alive p t world))) in
-        elim (cases_order (rank_of r) (rank_of x)) [
-          | inl one ↦ true≢false (sym before ∙ ap (λ y. is_below y (m ++ r ∷ [])) (whole ∙ ap (λ y. (m ++ y ∷ []) ++ rest) (sym (same_rank r x one))) ∙ upto_prefix (m ++ r ∷ []) rest)
-          | inr (inl less) ↦ true≢false (sym before ∙ ap (λ y. is_below y (m ++ r ∷ [])) same ∙ below_apart (m ++ r ∷ []) (m ++ x ∷ rest) (below_branch m r x [] rest less))
-          | inr (inr more) ↦ let least = first_is_least set r x first there_is in omega arith
-        ]
-
-    none : (t : List Rel) → IsPossibleWorld p t → is_below t m ≡ false → is_below t (m ++ r ∷ []) ≡ true → ⊥
-    none t world upto before = elim (ahead.all t world (not_from_false (is_below t m) upto)) [
-      | inl begins ↦ begun t world before begins.0 begins.1
-      | inr branch ↦
-          let longer = branch_longer m r levels [] ahead.levels_are t branch in
-          let behind = branch_below (m ++ r ∷ []) (levels ++ []) (subst (λ ls. AreLevels (m ++ r ∷ []) ls) (sym (append-nil levels)) (levels_longer m r levels ahead.levels_are)) t longer in
-          true≢false (sym before ∙ below_apart (m ++ r ∷ []) t behind)
-    ]
-
--- where nothing leads on, no world begins with the path
-pub none_begins : (p : Problem) (m : List Rel) (set : RelSet) → ((x : Rel) → IsAlive (problem_at p (m ++ x ∷ [])) → has set x ≡ true) → first_of set ≡ None → length m < pair_count p →
-    (t : List Rel) → IsPossibleWorld p t → Begins m t → ⊥
-none_begins p m set leads none short t world b = by b.0 b.1
-  where
-    by : (rest : List Rel) → t ≡ m ++ rest → ⊥
-    by [] same = let full = world_is_full p t world in omega (arith, full, ap length (same ∙ append-nil m))
-    by (x ∷ rest) same =
-        let whole : t ≡ (m ++ x ∷ []) ++ rest = same ∙ sym (append_assoc m (x ∷ []) rest) in
-        none_is_first set x none (leads x (prefix_is_alive p (m ++ x ∷ []) rest (subst (λ y. IsAlive (problem_at p y)) whole (world_is_alive p t world))))
-
--- a full path is the one world that begins with it
-pub begins_full : (p : Problem) (m t : List Rel) → length m ≡ pair_count p → IsPossibleWorld p t → Begins m t → t ≡ m
-begins_full p m t full world b = by b.0 b.1
-  where
-    by : (rest : List Rel) → t ≡ m ++ rest → t ≡ m
-    by [] same = same ∙ append-nil m
-    by (x ∷ rest) same = let long = world_is_full p t world in absurd (omega (arith, long, full, ap length same, length-append m (x ∷ rest)))
 
 -- the last level is dropped where no relation is left there
 pub drops_last : (p : Problem) (m : List Rel) (levels : List Level) (k : ℕ) → length levels ≡ k + 1 → IsAhead p m levels →

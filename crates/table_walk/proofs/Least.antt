@@ -3,12 +3,12 @@ use Rattle.std.proofs.Common.{◌≡◌, ◌<◌, ◌≤◌, Bool, true, false, 
 use Rattle.std.specs.Prelude.{nat_lt, find, Some, None}
 use Rattle.std.specs.Ordering.{nat_cmp}
 use Rattle.std.specs.List.{list_all}
-use Rattle.std.proofs.lemmas.Bool.{true≢false, and_parts, and_from, ltb-true, lt-ltb, eqb-true}
+use Rattle.std.proofs.lemmas.Bool.{true≢false, and_parts, and_from, ltb-true, lt-ltb}
 use Rattle.rcc5_core.specs.declared.Rel.{Rel}
 use Rattle.rcc5_core.specs.declared.Rel.TheVariants.{Equals, Includes, IncludedIn, Overlaps, Disjoint}
 use Rattle.rcc5_core.specs.declared.RelSet.{RelSet}
-use Rattle.rcc5_core.specs.Relation.{rank_of, all_rels, same_rel}
-use Rattle.rcc5_core.specs.RelationSet.{has, both_of, only, is_empty_set, first_of, next_of}
+use Rattle.rcc5_core.specs.Relation.{rank_of, all_rels}
+use Rattle.rcc5_core.specs.RelationSet.{has, is_empty_set, first_of, next_of}
 use Rattle.world_model.proofs.Members.{In, here, there, all_at}
 use Rattle.world_model.proofs.OrderPositions.{exact_rels, rel_itself}
 use Rattle.world_model.proofs.PointSets.{some_rel}

@@ -1,6 +1,8 @@
 pub mod Least
+pub mod Alike
 pub mod Paths
 pub mod Going
+pub mod Between
 pub mod Room
 pub mod Stepping
-pub mod Beginning
+pub mod Starting

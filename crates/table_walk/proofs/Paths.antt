@@ -1,5 +1,5 @@
 -- Paths, their relations at a depth, and how tables that leave them stand to them.
-use Rattle.std.proofs.Common.{◌≡◌, ℕ, ◌<◌, ◌≤◌, ◌+◌, Bool, true, false, List, [], ◌∷◌, ◌++◌, take, drop, length, get_or, length-append, append_assoc, append-nil, zero, suc, refl, sym, ap, ◌∙◌, subst, arith}
+use Rattle.std.proofs.Common.{◌≡◌, ℕ, ◌<◌, ◌≤◌, ◌+◌, Bool, true, false, List, [], ◌∷◌, ◌++◌, take, drop, length, length-append, append-nil, zero, suc, refl, sym, ap, ◌∙◌, subst, arith}
 use Rattle.std.specs.Prelude.{IsTrue}
 use Rattle.std.proofs.lemmas.Bool.{true≢false}
 use Rattle.std.proofs.lemmas.List.{take-append-drop, take-append-le, drop_more, length-take-le, get_or-take, get_or_append_left, take_all}
@@ -8,7 +8,7 @@ use Rattle.rcc5_core.specs.declared.Rel.{Rel}
 use Rattle.rcc5_core.specs.declared.Rel.TheVariants.{Equals}
 use Rattle.rcc5_core.specs.Relation.{rank_of}
 use Rattle.world_model.specs.Listing.{is_below}
-use Rattle.world_model.proofs.OrderPositions.{below_itself, below_apart, below_longer, below_branch, below_chain, below_upto}
+use Rattle.world_model.proofs.OrderPositions.{below_itself, below_apart, below_longer, below_branch, below_upto}
 use Rattle.table_walk.specs.Ahead.{rel_at}
 
 -- a path is its part above a depth, the relation there, and the rest

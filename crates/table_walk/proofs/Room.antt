@@ -1,5 +1,5 @@
 -- The room falls with each step forward.
-use Rattle.std.proofs.Common.{◌≡◌, ℕ, ◌<◌, ◌≤◌, ◌+◌, ◌-◌, ◌*◌, zero, suc, ◌⊎◌, inl, inr, List, [], ◌∷◌, length, refl, sym, ap, ◌∙◌, subst, arith}
+use Rattle.std.proofs.Common.{◌≡◌, ℕ, ◌<◌, ◌≤◌, ◌+◌, ◌-◌, ◌*◌, zero, suc, inl, inr, List, [], ◌∷◌, ◌++◌, length, length-append, append-nil, sym, ap, ◌∙◌, arith}
 use Rattle.std.specs.Prelude.{IsTrue, ◌^◌}
 use Rattle.std.proofs.lemmas.Bool.{true≢false}
 use Rattle.std.proofs.Math.Nat.{pow-succ'}
@@ -7,7 +7,7 @@ use Rattle.rcc5_core.specs.declared.Rel.{Rel}
 use Rattle.rcc5_core.specs.declared.Rel.TheVariants.{Equals, Includes, IncludedIn, Overlaps, Disjoint}
 use Rattle.rcc5_core.specs.Relation.{rank_of}
 use Rattle.world_model.specs.Listing.{is_below}
-use Rattle.world_model.proofs.OrderPositions.{first_or_rest, below_itself}
+use Rattle.world_model.proofs.OrderPositions.{first_or_rest, below_itself, below_longer}
 use Rattle.table_walk.specs.Ahead.{room}
 
 -- a power is positive
@@ -85,3 +85,11 @@ room_falls (suc n) (r ∷ a) (s ∷ b) h k less = elim (first_or_rest r s a b le
       let same : (4 - rank_of r) * 6 ^ n ≡ (4 - rank_of s) * 6 ^ n = ap (λ k. (4 - k) * 6 ^ n) rest.0 in
       omega arith
 ]
+
+-- no more is left behind a path that goes on
+pub room_upto : (n : ℕ) (m on : List Rel) → length (m ++ on) ≤ n → room n (m ++ on) ≤ room n m
+room_upto n m [] upto = let same : room n (m ++ []) ≡ room n m = ap (room n) (append-nil m) in omega arith
+room_upto n m (r ∷ on) upto =
+    let long = length-append m (r ∷ on) in
+    let less = room_falls n m (m ++ r ∷ on) (omega arith) upto (below_longer m r on) in
+    omega arith

@@ -1,6 +1,6 @@
 -- What each step of a way leaves.
-use Rattle.std.proofs.Common.{◌≡◌, ℕ, ◌<◌, ◌≤◌, ◌+◌, ◌-◌, Bool, true, false, ◌⊎◌, inl, inr, List, [], ◌∷◌, ◌++◌, take, drop, length, get_or, length-append, append_assoc, append-nil, refl, sym, ap, ◌∙◌, subst, arith}
-use Rattle.std.specs.Prelude.{IsTrue, Some, None, Option, Contains}
+use Rattle.std.proofs.Common.{◌≡◌, ℕ, ◌<◌, ◌≤◌, ◌+◌, Bool, true, false, ◌⊎◌, inl, inr, List, [], ◌∷◌, ◌++◌, take, drop, length, length-append, append_assoc, append-nil, refl, sym, ap, ◌∙◌, subst, arith}
+use Rattle.std.specs.Prelude.{IsTrue, Some, None, Option, Result, Ok, Err, OnOk, OnErr}
 use Rattle.std.specs.Option.{option_to_list}
 use Rattle.std.proofs.lemmas.Bool.{true≢false, not-true, not_from_false, cases_lt}
 use Rattle.std.proofs.lemmas.List.{take-append-le, get_or_append_left, get_or-take, length-take-le}
@@ -12,38 +12,24 @@ use Rattle.world_model.specs.Problem.{Problem, pair_count, is_problem}
 use Rattle.world_model.specs.Family.{IsPossibleWorld}
 use Rattle.world_model.specs.Listing.{is_below, is_before_end}
 use Rattle.world_model.specs.Alive.{problem_at, IsAlive}
-use Rattle.world_model.proofs.Members.{In, in_from_contains, contains_from_in}
 use Rattle.world_model.proofs.OrderPositions.{below_itself, below_apart, below_longer, below_branch}
-use Rattle.world_model.proofs.OrderLists.{IsExactly, Between, between_parts, between_from, exactly_from, exactly_join}
-use Rattle.world_model.proofs.PointPositions.{world_is_full, alive_is_world}
+use Rattle.world_model.proofs.OrderLists.{Between, exactly_from, exactly_join}
+use Rattle.world_model.proofs.PointPositions.{alive_is_world}
 use Rattle.table_walk.specs.declared.Level.{Level}
-use Rattle.table_walk.specs.declared.way.Stage.TheVariants.{Standing, Told, Past}
+use Rattle.table_walk.specs.declared.way.Stage.TheVariants.{Standing, Told}
 use Rattle.table_walk.specs.declared.way.Way.{Way}
-use Rattle.table_walk.specs.Ahead.{Lists, ListsBetween, level_at, rel_at, Begins, AreLevels, IsAhead, room}
-use Rattle.table_walk.specs.Ways.{problem_of, place, LeadOn, IsUnderWay, IsAtTable, IsWay, IsWayBy, AreBegun, at_by, told_by, at_of, WentOn}
-use Rattle.table_walk.proofs.Paths.{cut_at, turned, turned_length, turned_take, turned_there, turned_below, upto_prefix}
-use Rattle.table_walk.proofs.Least.{first_is_in, next_is_in}
-use Rattle.table_walk.proofs.Going.{listing_of, goes_in, goes_in_with, none_inside, none_begins, begins_full, drops_last, turns_off, only_begun}
-use Rattle.table_walk.proofs.Room.{room_falls, room_some}
+use Rattle.table_walk.specs.Ahead.{IsOnward, Lists, ListsBetween, level_at, rel_at, Begins, IsPast, AreLevels, IsAhead, room}
+use Rattle.table_walk.specs.Ways.{problem_of, place, LeadOn, AreNext, IsUnderWay, IsAtTable, IsWay, IsWayBy, at_by, told_by, at_of, left_by, left_of, WentOn}
+use Rattle.point_table.specs.Ladders.{IsAlong}
+use Rattle.table_walk.proofs.Paths.{cut_at, turned, turned_length, turned_take, turned_below}
+use Rattle.table_walk.proofs.Least.{next_is_in}
+use Rattle.table_walk.proofs.Going.{goes_in, goes_in_with, turns_off, only_begun}
+use Rattle.table_walk.proofs.Between.{listing_of, none_listed, none_inside, goes_along, none_begun, one_begun}
+use Rattle.table_walk.proofs.Room.{room_falls, room_some, room_upto}
 
 -- where no relation waits, a way stands at its path
 pub place_settled : (w : Way) → w.turn ≡ None → place w ≡ w.ladder.path
 place_settled w none = ap (λ o. w.ladder.path ++ option_to_list o) none ∙ append-nil w.ladder.path
-
--- a list of just the worlds that begin with a path lists what stands between it and a place behind them
-pub begun_listed : (p : Problem) (m : List Rel) (other : Option (List Rel)) (worlds : List (List Rel)) → AreBegun p m worlds →
-    ((t : List Rel) → IsPossibleWorld p t → is_below t m ≡ false → is_before_end t other ≡ true → Begins m t) →
-    ((t : List Rel) → Begins m t → is_before_end t other ≡ true) → Rattle.world_model.specs.Listing.IsListing p m other worlds
-begun_listed p m other worlds are only before = listing_of p m other worlds (record {
-  ascending = are.ascending;
-  sound = λ t i.
-      let w = are.sound t (contains_from_in i) in
-      let b = w.1 in
-      (w.0, between_from m other t (ap (λ x. is_below x m) b.1 ∙ upto_prefix m b.0) (before t b));
-  complete = λ t w.
-      let parts = between_parts m other t w.1 in
-      in_from_contains worlds (are.complete t w.0 (only t w.0 parts.0 parts.1));
-})
 
 -- what begins with a path comes before a later turn of it
 begun_before : (m : List Rel) (d : ℕ) (r : Rel) → d < length m → Rattle.rcc5_core.specs.Relation.rank_of (rel_at m d) < Rattle.rcc5_core.specs.Relation.rank_of r → (t : List Rel) → Begins m t → is_below t (turned m d r) ≡ true
@@ -90,10 +76,18 @@ leads_turned p m levels k d r sized depth are leads i h rel there =
     upto (inl small) = let less = are.deeper i k small (omega arith) in omega (arith, less, depth)
     upto (inr big) = let same : i ≡ k = omega arith in subst (λ j. (level_at levels j).depth ≤ d) (sym same) (omega (arith, depth))
 
--- what a step leaves: a way, past just the worlds that begin with its path, with less to do
+-- nothing stands between a place and itself
+pub lists_nowhere : (p : Problem) (at : Option (List Rel)) → Lists p at at []
+lists_nowhere p None = (refl, refl)
+lists_nowhere p (Some m) = record {
+  onward = not_from_false (is_below m m) (below_itself m);
+  exactly = none_listed p m (Some m) (λ t world h k. true≢false (sym k ∙ h));
+}
+
+-- what a turn leaves: a way past all that begin with its path, with less to do
 pub record Turned (old new : Way) : Type 0 where
   pub way : IsWay new
-  pub passed : (worlds : List (List Rel)) → AreBegun (problem_of old) (place old) worlds → Lists (problem_of old) (Some (place old)) (at_of new) worlds
+  pub past : IsPast (problem_of old) (place old) (at_of new)
   pub less : room (pair_count (problem_of new)) (place new) < room (pair_count (problem_of old)) (place old)
 
 -- a way that turns off
@@ -125,49 +119,38 @@ turned_way old new levels k r is under settled sized ahead leads next moved turn
     record {
       way = record {
         valid = subst (λ q. IsTrue (is_problem q)) (sym same_p) is.valid;
-        by_stage = subst (λ s. Rattle.table_walk.specs.Ways.IsWayBy new s) (sym stage) under_new;
+        by_stage = subst (λ s. IsWayBy new s) (sym stage) under_new;
       };
-      passed = λ worlds are.
-          let begun : AreBegun p m worlds = subst (λ xs. AreBegun p xs worlds) here are in
-          let between : ListsBetween p m (Some (turned m d r)) worlds = record {
-            onward = not_from_false (is_below (turned m d r) m) (below_apart m (turned m d r) below);
-            exactly = begun_listed p m (Some (turned m d r)) worlds begun (only_begun p m levels k d r sized refl ahead next) (begun_before m d r within later.1);
-          } in
-          let ends : at_of new ≡ Some (turned m d r) = ap (λ s. Rattle.table_walk.specs.Ways.at_by (place new) s) stage ∙ ap Some there in
-          subst (λ o. Lists p (Some (place old)) o worlds) (sym ends) (subst (λ xs. ListsBetween p xs (Some (turned m d r)) worlds) (sym here) between);
+      past =
+          let ends : at_of new ≡ Some (turned m d r) = ap (λ s. at_by (place new) s) stage ∙ ap Some there in
+          subst (IsPast p (place old)) (sym ends) (subst (λ xs. IsPast p xs (Some (turned m d r))) (sym here) (record {
+            before = begun_before m d r within later.1;
+            only = λ t world h ahead_of. only_begun p m levels k d r sized refl ahead next t world (not-true (is_below t m) h) ahead_of;
+          }));
       less = subst (λ q. room (pair_count q) (place new) < room (pair_count p) (place old)) (sym same_p)
           (subst (λ xs. room (pair_count p) xs < room (pair_count p) (place old)) (sym there)
           (subst (λ xs. room (pair_count p) (turned m d r) < room (pair_count p) xs) (sym here) (room_falls (pair_count p) m (turned m d r) top (omega (arith, long, within, top)) below)));
     }
 
 -- a way without levels is at its end
-pub past_way : (old : Way) → IsUnderWay old → old.turn ≡ None → (levels : List Level) → length levels ≡ 0 → IsAhead (problem_of old) old.ladder.path levels →
-    (worlds : List (List Rel)) → AreBegun (problem_of old) (place old) worlds → ListsBetween (problem_of old) (place old) None worlds
-past_way old under settled levels none ahead worlds are =
-    let p = problem_of old in
-    let m = old.ladder.path in
-    let here : place old ≡ m = place_settled old settled in
-    let begun : AreBegun p m worlds = subst (λ xs. AreBegun p xs worlds) here are in
-    subst (λ xs. ListsBetween p xs None worlds) (sym here) (record {
-      onward = tt;
-      exactly = begun_listed p m None worlds begun
-          (λ t world h end. elim (ahead.all t world (not_from_false (is_below t m) h)) [
-            | inl begins ↦ begins
-            | inr branch ↦ let among = branch.number in absurd (omega (arith, branch.among))
-          ])
-          (λ t b. refl);
+pub past_way : (old : Way) → IsUnderWay old → old.turn ≡ None → (levels : List Level) → length levels ≡ 0 → IsAhead (problem_of old) old.ladder.path levels → IsPast (problem_of old) (place old) None
+past_way old under settled levels none ahead =
+    subst (λ xs. IsPast (problem_of old) xs None) (sym (place_settled old settled)) (record {
+      before = λ t b. refl;
+      only = λ t world h end. elim (ahead.all t world h) [
+        | inl begins ↦ begins
+        | inr branch ↦ let among = branch.number in absurd (omega (arith, branch.among))
+      ];
     })
 
 pub some_room : (old : Way) → IsUnderWay old → 0 < room (pair_count (problem_of old)) (place old)
 some_room old under = let some = room_some (pair_count (problem_of old)) (place old) under.upto in omega arith
 
--- a way that goes in by the first relation that leads on
-pub entered_way : (old new : Way) (set : RelSet) (r : Rel) → IsWay old → IsUnderWay old → old.stage ≡ Standing → old.turn ≡ None → length old.ladder.path < pair_count (problem_of old) →
-    ((x : Rel) → (has set x ≡ true → IsAlive (problem_at (problem_of old) (old.ladder.path ++ x ∷ []))) × (IsAlive (problem_at (problem_of old) (old.ladder.path ++ x ∷ [])) → has set x ≡ true)) →
-    first_of set ≡ Some r → new.ladder ≡ old.ladder → new.turn ≡ Some r → new.stage ≡ Standing →
-    ((next_of set r ≡ None) × (new.levels.items ≡ old.levels.items)) ⊎ (new.levels.items ≡ old.levels.items ++ record { depth = length old.ladder.path; set = set } ∷ []) →
-    IsWay new × Lists (problem_of old) (at_of old) (at_of new) [] × (room (pair_count (problem_of new)) (place new) < room (pair_count (problem_of old)) (place old))
-entered_way old new set r is under standing settled short each first kept turn stage levels =
+-- a way that goes on by one of the relations that lead on
+pub gone_on : (old new : Way) (set : RelSet) (r : Rel) → IsWay old → IsUnderWay old → old.turn ≡ None → length old.ladder.path < pair_count (problem_of old) →
+    AreNext (problem_of old) old.ladder.path set → has set r ≡ true → new.ladder ≡ old.ladder → new.turn ≡ Some r → new.stage ≡ Standing →
+    ((next_of set r ≡ None) × (new.levels.items ≡ old.levels.items)) ⊎ (new.levels.items ≡ old.levels.items ++ record { depth = length old.ladder.path; set = set } ∷ []) → IsWay new
+gone_on old new set r is under settled short each among kept turn stage levels =
     let p = problem_of old in
     let m = old.ladder.path in
     let here : place old ≡ m = place_settled old settled in
@@ -176,15 +159,15 @@ entered_way old new set r is under standing settled short each first kept turn s
     let same_p : problem_of new ≡ p = ap (λ l. l.problem) kept in
     let there : place new ≡ m ++ r ∷ [] = (λ i. (kept i).path ++ option_to_list (turn i)) in
     let onto = λ (x : Rel) (h : IsAlive (problem_at p (m ++ x ∷ []))). (each x).1 h in
-    let alive_new = (each r).0 (first_is_in set r first) in
+    let alive_new = (each r).0 among in
     let long = length-append m (r ∷ []) in
     let both : IsAhead p (m ++ r ∷ []) new.levels.items × LeadOn p (m ++ r ∷ []) new.levels.items = elim levels [
       | inl same ↦ (
-        subst (λ ls. IsAhead p (m ++ r ∷ []) ls) (sym same.1) (goes_in p m old.levels.items set r ahead onto first same.0),
+        subst (λ ls. IsAhead p (m ++ r ∷ []) ls) (sym same.1) (goes_in p m old.levels.items set r ahead onto same.0),
         subst (λ ls. LeadOn p (m ++ r ∷ []) ls) (sym same.1) (leads_longer p m (r ∷ []) old.levels.items ahead.levels_are leads),
       )
       | inr more ↦ (
-        subst (λ ls. IsAhead p (m ++ r ∷ []) ls) (sym more) (goes_in_with p m old.levels.items set r ahead onto first),
+        subst (λ ls. IsAhead p (m ++ r ∷ []) ls) (sym more) (goes_in_with p m old.levels.items set r ahead onto),
         subst (λ ls. LeadOn p (m ++ r ∷ []) ls) (sym more) (leads_pushed p m (r ∷ []) old.levels.items set ahead.levels_are leads (λ x h. (each x).0 h)),
       )
     ] in
@@ -194,46 +177,124 @@ entered_way old new set r is under standing settled short each first kept turn s
       alive = subst (λ q. IsAlive (problem_at q (place new))) (sym same_p) (subst (λ xs. IsAlive (problem_at p xs)) (sym there) alive_new);
       upto = subst (λ q. length (place new) ≤ pair_count q) (sym same_p) (subst (λ xs. length xs ≤ pair_count p) (sym there) (omega (arith, long, short)));
     } in
-    let starts : at_of old ≡ Some m = ap (λ s. Rattle.table_walk.specs.Ways.at_by (place old) s) standing ∙ ap Some here in
-    let ends : at_of new ≡ Some (m ++ r ∷ []) = ap (λ s. Rattle.table_walk.specs.Ways.at_by (place new) s) stage ∙ ap Some there in
-    let inside : ListsBetween p m (Some (m ++ r ∷ [])) [] = none_inside p m old.levels.items set r ahead onto first short in (
+    record {
+      valid = subst (λ q. IsTrue (is_problem q)) (sym same_p) is.valid;
+      by_stage = subst (λ s. IsWayBy new s) (sym stage) under_new;
+    }
+
+-- where a settled way stands, and where it stands that goes on by a relation
+pub at_settled : (w : Way) → w.stage ≡ Standing → w.turn ≡ None → at_of w ≡ Some w.ladder.path
+at_settled w stage settled = ap (λ s. at_by (place w) s) stage ∙ ap Some (place_settled w settled)
+
+pub place_on : (old new : Way) (r : Rel) → new.ladder ≡ old.ladder → new.turn ≡ Some r → place new ≡ old.ladder.path ++ r ∷ []
+place_on old new r kept turn = (λ i. (kept i).path ++ option_to_list (turn i))
+
+pub at_on : (old new : Way) (r : Rel) → new.ladder ≡ old.ladder → new.turn ≡ Some r → new.stage ≡ Standing → at_of new ≡ Some (old.ladder.path ++ r ∷ [])
+at_on old new r kept turn stage = ap (λ s. at_by (place new) s) stage ∙ ap Some (place_on old new r kept turn)
+
+-- a settled way under way is ahead along its path
+pub ahead_of : (w : Way) → IsUnderWay w → w.turn ≡ None → IsAhead (problem_of w) w.ladder.path w.levels.items
+ahead_of w under settled = subst (λ xs. IsAhead (problem_of w) xs w.levels.items) (place_settled w settled) under.ahead
+
+-- by the first relation that leads on it goes past no world, and has less to do
+pub entered_way : (old new : Way) (set : RelSet) (r : Rel) → IsWay old → old.stage ≡ Standing → old.turn ≡ None → length old.ladder.path < pair_count (problem_of old) →
+    AreNext (problem_of old) old.ladder.path set → first_of set ≡ Some r → new.ladder ≡ old.ladder → new.turn ≡ Some r → new.stage ≡ Standing → IsWay new →
+    WentOn old new × (left_of new < left_of old)
+entered_way old new set r is standing settled short each first kept turn stage way =
+    let p = problem_of old in
+    let m = old.ladder.path in
+    let under = subst (λ s. IsWayBy old s) standing is.by_stage in
+    let here : place old ≡ m = place_settled old settled in
+    let same_p : problem_of new ≡ p = ap (λ l. l.problem) kept in
+    let there = place_on old new r kept turn in
+    let inside : ListsBetween p m (Some (m ++ r ∷ [])) [] = none_inside p m old.levels.items set r (ahead_of old under settled) (λ x h. (each x).1 h) first short in (
       record {
-        valid = subst (λ q. IsTrue (is_problem q)) (sym same_p) is.valid;
-        by_stage = subst (λ s. Rattle.table_walk.specs.Ways.IsWayBy new s) (sym stage) under_new;
+        problem = same_p;
+        way = way;
+        passed = subst (λ o. Lists p o (at_of new) []) (sym (at_settled old standing settled)) (subst (λ o. ListsBetween p m o []) (sym (at_on old new r kept turn stage)) inside);
+        untold = ap (λ s. told_by (place new) s) stage;
       },
-      subst (λ o. Lists p o (at_of new) []) (sym starts) (subst (λ o. ListsBetween p m o []) (sym ends) inside),
-      subst (λ q. room (pair_count q) (place new) < room (pair_count p) (place old)) (sym same_p)
+      subst (λ s. left_by (problem_of new) (place new) s < left_of old) (sym stage)
+          (subst (λ s. room (pair_count (problem_of new)) (place new) < left_by p (place old) s) (sym standing)
+          (subst (λ q. room (pair_count q) (place new) < room (pair_count p) (place old)) (sym same_p)
           (subst (λ xs. room (pair_count p) xs < room (pair_count p) (place old)) (sym there)
           (subst (λ xs. room (pair_count p) (m ++ r ∷ []) < room (pair_count p) xs) (sym here)
-          (room_falls (pair_count p) m (m ++ r ∷ []) (omega arith) (omega (arith, long, short)) (below_longer m r [])))),
+          (room_falls (pair_count p) m (m ++ r ∷ []) (omega arith) (let long = length-append m (r ∷ []) in omega (arith, long, short)) (below_longer m r [])))))),
     )
 
--- the worlds that begin with a path: none where nothing leads on, and a full path itself
-pub begun_none : (w : Way) (set : RelSet) → w.turn ≡ None → length w.ladder.path < pair_count (problem_of w) →
-    ((x : Rel) → IsAlive (problem_at (problem_of w) (w.ladder.path ++ x ∷ [])) → has set x ≡ true) → first_of set ≡ None → AreBegun (problem_of w) (place w) []
-begun_none w set settled short onto none =
-    let p = problem_of w in
-    let m = w.ladder.path in
-    subst (λ xs. AreBegun p xs []) (sym (place_settled w settled)) (record {
-      ascending = refl;
-      sound = λ t c. elim (in_from_contains [] c) [ ];
-      complete = λ t world b. absurd (none_begins p m set onto none short t world b);
-    })
+-- a way that stays where it stands, but for its levels
+pub went_nowhere : (old new : Way) → old.stage ≡ Standing → old.turn ≡ None → new.ladder ≡ old.ladder → new.turn ≡ None → new.stage ≡ Standing → IsWay new → WentOn old new
+went_nowhere old new standing settled kept turn stage way = record {
+  problem = ap (λ l. l.problem) kept;
+  way = way;
+  passed = subst (λ o. Lists (problem_of old) (at_of old) o []) (at_settled old standing settled ∙ ap (λ l. Some l.path) (sym kept) ∙ sym (at_settled new stage turn)) (lists_nowhere (problem_of old) (at_of old));
+  untold = ap (λ s. told_by (place new) s) stage;
+}
 
-pub begun_one : (w : Way) → IsWay w → IsUnderWay w → w.turn ≡ None → length w.ladder.path ≡ pair_count (problem_of w) → AreBegun (problem_of w) (place w) (place w ∷ [])
-begun_one w is under settled full =
-    let p = problem_of w in
-    let m = w.ladder.path in
-    let here : place w ≡ m = place_settled w settled in
-    let world : IsPossibleWorld p m = alive_is_world p is.valid m full (subst (λ xs. IsAlive (problem_at p xs)) here under.alive) in
-    subst (λ xs. AreBegun p xs (xs ∷ [])) (sym here) (record {
-      ascending = refl;
-      sound = λ t c. elim (in_from_contains (m ∷ []) c) [
-        | Rattle.world_model.proofs.Members.here same ↦ subst (λ x. IsPossibleWorld p x × Begins m x) (sym same) (world, ([], sym (append-nil m)))
-        | Rattle.world_model.proofs.Members.there j ↦ elim j [ ]
-      ];
-      complete = λ t w b. let at : In t (m ∷ []) = Rattle.world_model.proofs.Members.here (begins_full p m t full w b) in contains_from_in at;
-    })
+-- whether or not there was memory for a level
+pub entered : {T E : Type 0} (r : Result T E) (old new : Way) (set : RelSet) (rel : Rel) → IsWay old → old.stage ≡ Standing → old.turn ≡ None → length old.ladder.path < pair_count (problem_of old) →
+    AreNext (problem_of old) old.ladder.path set → first_of set ≡ Some rel → new.ladder ≡ old.ladder → new.stage ≡ Standing → IsWay new → OnOk r (new.turn ≡ Some rel) → OnErr r (new.turn ≡ None) →
+    WentOn old new × OnOk r (left_of new < left_of old)
+entered (Ok x) old new set rel is standing settled short each first kept stage way turn none = entered_way old new set rel is standing settled short each first kept turn stage way
+entered (Err e) old new set rel is standing settled short each first kept stage way turn none = (went_nowhere old new standing settled kept none stage way, tt)
+
+-- where nothing leads on, a turn passes no world
+pub turned_none : (old : Way) (set : RelSet) (other : Option (List Rel)) → old.stage ≡ Standing → old.turn ≡ None → length old.ladder.path < pair_count (problem_of old) →
+    AreNext (problem_of old) old.ladder.path set → first_of set ≡ None → IsPast (problem_of old) (place old) other → Lists (problem_of old) (at_of old) other []
+turned_none old set other standing settled short each none past =
+    let p = problem_of old in
+    let m = old.ladder.path in
+    subst (λ o. Lists p o other []) (sym (at_settled old standing settled))
+    (none_begun p m set other (subst (λ xs. IsPast p xs other) (place_settled old settled) past) (λ x h. (each x).1 h) none short)
+
+-- a told table is the one world that a turn passes
+pub world_of : (w : Way) → IsWay w → IsAtTable w → IsPossibleWorld (problem_of w) (place w)
+world_of w is at =
+    let here : place w ≡ w.ladder.path = place_settled w at.settled in
+    alive_is_world (problem_of w) is.valid (place w) (subst (λ xs. length xs ≡ pair_count (problem_of w)) (sym here) at.full) at.under_way.alive
+
+pub turned_one : (w : Way) (other : Option (List Rel)) → IsWay w → IsAtTable w → IsPast (problem_of w) (place w) other → ListsBetween (problem_of w) (place w) other (place w ∷ [])
+turned_one w other is at past =
+    one_begun (problem_of w) (place w) other past (world_of w is at) (subst (λ xs. length xs ≡ pair_count (problem_of w)) (sym (place_settled w at.settled)) at.full)
+
+-- a way that goes along the pairs of which one relation is left
+pub along_way : (old new : Way) → IsWay old → old.stage ≡ Standing → old.turn ≡ None → IsAlong old.ladder new.ladder → new.turn ≡ None → new.levels.items ≡ old.levels.items → new.stage ≡ Standing →
+    WentOn old new × (left_of new ≤ left_of old)
+along_way old new is standing settled along none levels stage =
+    let p = problem_of old in
+    let m = old.ladder.path in
+    let on = along.rest in
+    let under = subst (λ s. IsWayBy old s) standing is.by_stage in
+    let here : place old ≡ m = place_settled old settled in
+    let there : place new ≡ m ++ on = place_settled new none ∙ along.goes in
+    let same_p : problem_of new ≡ p = along.problem in
+    let ahead : IsAhead p m old.levels.items = ahead_of old under settled in
+    let leads : LeadOn p m old.levels.items = subst (λ xs. LeadOn p xs old.levels.items) here under.leads in
+    let gone = goes_along p m on old.levels.items ahead along.only in
+    let upto : length (m ++ on) ≤ pair_count p = subst (λ xs. length xs ≤ pair_count p) along.goes along.short in
+    let under_new : IsUnderWay new = record {
+      ahead = subst (λ q. IsAhead q (place new) new.levels.items) (sym same_p) (subst (λ xs. IsAhead p xs new.levels.items) (sym there) (subst (λ ls. IsAhead p (m ++ on) ls) (sym levels) gone.0));
+      leads = subst (λ q. LeadOn q (place new) new.levels.items) (sym same_p) (subst (λ xs. LeadOn p xs new.levels.items) (sym there)
+          (subst (λ ls. LeadOn p (m ++ on) ls) (sym levels) (leads_longer p m on old.levels.items ahead.levels_are leads)));
+      alive = subst (λ q. IsAlive (problem_at q (place new))) (sym same_p) (subst (λ xs. IsAlive (problem_at p xs)) (sym (place_settled new none)) along.alive);
+      upto = subst (λ q. length (place new) ≤ pair_count q) (sym same_p) (subst (λ xs. length xs ≤ pair_count p) (sym there) upto);
+    } in (
+      record {
+        problem = same_p;
+        way = record {
+          valid = subst (λ q. IsTrue (is_problem q)) (sym same_p) is.valid;
+          by_stage = subst (λ s. IsWayBy new s) (sym stage) under_new;
+        };
+        passed = subst (λ o. Lists p o (at_of new) []) (sym (at_settled old standing settled))
+            (subst (λ o. ListsBetween p m o []) (sym (at_settled new stage none ∙ ap Some along.goes)) gone.1);
+        untold = ap (λ s. told_by (place new) s) stage;
+      },
+      subst (λ s. left_by (problem_of new) (place new) s ≤ left_of old) (sym stage)
+          (subst (λ s. room (pair_count (problem_of new)) (place new) ≤ left_by p (place old) s) (sym standing)
+          (subst (λ q. room (pair_count q) (place new) ≤ room (pair_count p) (place old)) (sym same_p)
+          (subst (λ xs. room (pair_count p) xs ≤ room (pair_count p) (place old)) (sym there)
+          (subst (λ xs. room (pair_count p) (m ++ on) ≤ room (pair_count p) xs) (sym here) (room_upto (pair_count p) m on upto))))),
+    )
 
 -- one stretch after another, the second without worlds
 pub lists_on : (p : Problem) (one mid other : Option (List Rel)) (worlds : List (List Rel)) → Lists p one mid worlds → Lists p mid other [] → Lists p one other worlds
@@ -251,25 +312,17 @@ lists_on p (Some one) (Some mid) other worlds a b = record {
       (exactly_from (Between (IsPossibleWorld p) mid other) [] b.exactly.ascending b.exactly.members)));
 }
   where
-    high : (other : Option (List Rel)) → Rattle.table_walk.specs.Ahead.IsOnward mid other → IsTrue (Rattle.world_model.specs.Laws.is_not_above_end mid other)
+    high : (other : Option (List Rel)) → IsOnward mid other → IsTrue (Rattle.world_model.specs.Laws.is_not_above_end mid other)
     high None o = refl
     high (Some end) o = o
 
-    onward : (other : Option (List Rel)) → Rattle.table_walk.specs.Ahead.IsOnward mid other → Rattle.table_walk.specs.Ahead.IsOnward one other
+    onward : (other : Option (List Rel)) → IsOnward mid other → IsOnward one other
     onward None o = tt
     onward (Some end) o = not_from_false (is_below end one) (back (is_below end one) refl)
       where
         back : (b : Bool) → is_below end one ≡ b → is_below end one ≡ false
         back true e = absurd (true≢false (sym (Rattle.world_model.proofs.OrderPositions.below_upto end one mid e (not-true (is_below mid one) a.onward)) ∙ not-true (is_below end mid) o))
         back false e = e
-
--- nothing stands between a place and itself
-pub lists_nowhere : (p : Problem) (at : Option (List Rel)) → Lists p at at []
-lists_nowhere p None = (refl, refl)
-lists_nowhere p (Some m) = record {
-  onward = not_from_false (is_below m m) (below_itself m);
-  exactly = Rattle.table_walk.proofs.Going.none_listed p m (Some m) (λ t world h k. true≢false (sym k ∙ h));
-}
 
 -- a way that stands is under way
 pub under : (w : Way) → IsWay w → w.stage ≡ Standing → IsUnderWay w
@@ -331,3 +384,7 @@ told_way old new is standing settled full ladder turn levels stage =
 -- a way whose table was told is at it
 pub at_table : (w : Way) → IsWay w → w.stage ≡ Told → IsAtTable w
 at_table w is told = subst (λ s. IsWayBy w s) told is.by_stage
+
+-- what was passed so far, and on to where a way went from there
+pub lists_further : (p : Problem) (one : Option (List Rel)) (worlds : List (List Rel)) (old new : Way) → problem_of old ≡ p → Lists p one (at_of old) worlds → WentOn old new → Lists p one (at_of new) worlds
+lists_further p one worlds old new same so_far went = lists_on p one (at_of old) (at_of new) worlds so_far (subst (λ q. Lists q (at_of old) (at_of new) []) same went.passed)

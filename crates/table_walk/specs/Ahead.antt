@@ -1,5 +1,5 @@
 -- What is left of a listing that goes along the prefixes of worlds.
-use Rattle.std.specs.Prelude.{◌≡◌, ℕ, ◌<◌, ◌≤◌, ◌⊎◌, ◌+◌, ◌-◌, ◌*◌, ◌^◌, zero, suc, not, List, [], ◌∷◌, ◌++◌, length, take, Option, Some, None, IsTrue, slice_index_or}
+use Rattle.std.specs.Prelude.{◌≡◌, ℕ, ◌<◌, ◌⊎◌, ◌+◌, ◌-◌, ◌*◌, ◌^◌, zero, suc, not, List, [], ◌∷◌, ◌++◌, length, take, Option, Some, None, IsTrue, slice_index_or}
 use Rattle.rcc5_core.specs.declared.Rel.{Rel}
 use Rattle.rcc5_core.specs.declared.Rel.TheVariants.{Equals}
 use Rattle.rcc5_core.specs.declared.RelSet.{RelSet}
@@ -7,7 +7,7 @@ use Rattle.rcc5_core.specs.Relation.{rank_of}
 use Rattle.rcc5_core.specs.RelationSet.{has, no_rels}
 use Rattle.world_model.specs.Problem.{Problem}
 use Rattle.world_model.specs.Family.{IsPossibleWorld}
-use Rattle.world_model.specs.Listing.{is_below, IsListing}
+use Rattle.world_model.specs.Listing.{is_below, is_before_end, IsListing}
 use Rattle.table_walk.specs.declared.Level.{Level}
 
 -- a place does not lie before another
@@ -35,6 +35,18 @@ rel_at m k = slice_index_or m k Equals
 -- a table begins with a path
 abbrev pub Begins : List Rel → List Rel → Type 0
 Begins m t = (rest : List Rel) × (t ≡ m ++ rest)
+
+-- two lists begin with the same relations, so many
+pub record BeginAlike (one other : List Rel) (count : ℕ) : Type 0 where
+  pub common : List Rel
+  pub counted : length common ≡ count
+  pub first : Begins common one
+  pub second : Begins common other
+
+-- a place behind all that begin with a path; and no other worlds stand between the two
+pub record IsPast (p : Problem) (m : List Rel) (other : Option (List Rel)) : Type 0 where
+  pub before : (t : List Rel) → Begins m t → IsTrue (is_before_end t other)
+  pub only : (t : List Rel) → IsPossibleWorld p t → IsTrue (not (is_below t m)) → IsTrue (is_before_end t other) → Begins m t
 
 -- a table leaves a path at a depth by a later one of some relations
 pub record Leaves (m : List Rel) (depth : ℕ) (set : RelSet) (t : List Rel) : Type 0 where

@@ -1,17 +1,16 @@
 -- A way along the prefixes of worlds, and what a step of it leaves.
-use Rattle.std.specs.Prelude.{◌≡◌, ℕ, ◌<◌, ◌≤◌, List, [], ◌∷◌, ◌++◌, length, take, Option, Some, None, Contains, IsTrue}
+use Rattle.std.specs.Prelude.{◌≡◌, ℕ, ◌<◌, ◌≤◌, ◌↔◌, Bool, true, false, List, [], ◌∷◌, ◌++◌, length, take, Option, Some, None, IsTrue}
 use Rattle.std.specs.Option.{option_to_list}
 use Rattle.rcc5_core.specs.declared.Rel.{Rel}
+use Rattle.rcc5_core.specs.declared.RelSet.{RelSet}
 use Rattle.rcc5_core.specs.RelationSet.{has}
 use Rattle.world_model.specs.Problem.{Problem, pair_count, is_problem}
-use Rattle.world_model.specs.Family.{IsPossibleWorld}
-use Rattle.world_model.specs.Listing.{ascends}
 use Rattle.world_model.specs.Alive.{problem_at, IsAlive}
 use Rattle.table_walk.specs.declared.Level.{Level}
 use Rattle.table_walk.specs.declared.way.Stage.{Stage}
 use Rattle.table_walk.specs.declared.way.Stage.TheVariants.{Standing, Told, Past}
 use Rattle.table_walk.specs.declared.way.Way.{Way}
-use Rattle.table_walk.specs.Ahead.{Lists, level_at, Begins, IsAhead, room}
+use Rattle.table_walk.specs.Ahead.{Lists, level_at, IsAhead, room}
 
 -- the problem of a way
 abbrev pub problem_of : Way → Problem
@@ -65,11 +64,14 @@ at_of w = at_by (place w) w.stage
 abbrev pub told_of : Way → List (List Rel)
 told_of w = told_by (place w) w.stage
 
--- just these worlds begin with a path
-pub record AreBegun (p : Problem) (m : List Rel) (worlds : List (List Rel)) : Type 0 where
-  pub ascending : IsTrue (ascends worlds)
-  pub sound : (t : List Rel) → Contains worlds t → IsPossibleWorld p t × Begins m t
-  pub complete : (t : List Rel) → IsPossibleWorld p t → Begins m t → Contains worlds t
+-- the table that was told, and the empty one where none was
+abbrev pub told_table : List (List Rel) → List Rel
+told_table [] = []
+told_table (t ∷ ts) = t
+
+-- just the relations of a set lead on from a path to an alive one
+abbrev pub AreNext : Problem → List Rel → RelSet → Type 0
+AreNext p m set = (rel : Rel) → IsTrue (has set rel) ↔ IsAlive (problem_at p (m ++ rel ∷ []))
 
 -- how much is left of a way, by its stage
 abbrev pub left_by : Problem → List Rel → Stage → ℕ
@@ -86,3 +88,15 @@ pub record WentOn (old new : Way) : Type 0 where
   pub way : IsWay new
   pub passed : Lists (problem_of old) (at_of old) (at_of new) []
   pub untold : told_of new ≡ []
+
+-- a way that begins: no world stands from a position on and before its place, and none is told
+pub record HasBegun (p : Problem) (from : List Rel) (w : Way) : Type 0 where
+  pub problem : problem_of w ≡ p
+  pub way : IsWay w
+  pub passed : Lists p (Some from) (at_of w) []
+  pub untold : told_of w ≡ []
+
+-- whether a way goes along with a relation: then it is added to its path; and else the way is past all that begin with both, and past no world from there on
+abbrev pub Follows : Way → Way → Rel → Bool → Type 0
+Follows old new rel true = (new.stage ≡ Standing) × (place new ≡ old.ladder.path ++ rel ∷ [])
+Follows old new rel false = (rest : List Rel) → Lists (problem_of old) (Some (old.ladder.path ++ rel ∷ rest)) (at_of new) []

@@ -1,11 +1,13 @@
 //! The listing as its users see it.
-ghost use Rattle.std.specs.Prelude.{◌≡◌, ◌≢◌, [], ◌∷◌, None, IfOk, OnErr, IfSome, true, false};
-ghost use Rattle.table_walk.specs.Tables.{IsNewListing, IsAtWorld, PassedTold};
+ghost use Rattle.std.specs.Prelude.{◌≡◌, ◌≢◌, ◌≤◌, [], ◌∷◌, length, None, IfOk, OnErr, IfSome, IfNone};
+ghost use Rattle.world_model.specs.Problem.{pair_count};
+ghost use Rattle.table_walk.specs.Tables.{IsNewListing, IsAtWorld, PassedTold, Keeps};
 
-use crate::way::{Stage, Way, next_world};
+use crate::start::way_from;
+use crate::way::{Way, next_world};
 use constraint_set::Problem;
 use point_table::Ladder;
-use rcc5_core::Rel;
+use rcc5_core::{Position, Rel};
 use std::alloc::{AllocError, Global};
 use std::marker::Model;
 
@@ -21,52 +23,51 @@ const MOST_TRIES: usize = 10_000_000;
 /// passes, and on the points that a relation takes away.
 #[derive(Drop)]
 pub struct Tables {
+    problem: Problem,
+    // Along another problem with the same worlds, each pair of which is narrowed to what it may have.
     way: Way,
 }
 
 impl Model for Tables {
-    ghost use Rattle.table_walk.specs.Tables.{TablesState, tables_of};
-    ghost use Rattle.table_walk.specs.Ways.{IsWay};
+    ghost use Rattle.table_walk.specs.Tables.{TablesState, tables_of, IsWayFor};
 
     ghost Value = { TablesState };
 
-    ghost view = { λ s. tables_of s.way };
+    ghost view = { λ s. tables_of s.problem s.way };
 
-    ghost invariant = { λ s. IsWay s.way };
+    ghost invariant = { λ s. IsWayFor s.problem s.way };
 }
 
 impl Tables {
-    /// Stands before the first world. None where the problem has too many points for a table, or they take too long to find.
-    pub fn new(alloc: Global, problem: &Problem) -> Result<Option<Tables>, AllocError>
-        ensures { IfOk result (λ o. IfSome o (IsNewListing problem.now)) }
+    /// Stands before the first world from a position on. None where the problem has too many points for a table, or they take
+    /// too long to find.
+    pub fn new(
+        alloc: Global,
+        problem: &Problem,
+        from: &Position,
+    ) -> Result<Option<Tables>, AllocError>
+        requires { length from.now ≤ pair_count problem.now }
+        ensures { IfOk result (λ o. IfSome o (IsNewListing problem.now from.now)) }
     {
-        problem.facts();
-        let Some(ladder) = Ladder::new(alloc, problem, MOST_POINTS, MOST_TRIES)? else {
+        let Some(ladder) = Ladder::bounded(alloc, problem, MOST_POINTS, MOST_TRIES)? else {
             return Ok(None);
         };
-        let stage = if ladder.is_alive() {
-            Stage::Standing
-        } else {
-            Stage::Past
-        };
-        let way = Way {
-            ladder,
-            turn: None,
-            levels: Vec::new(alloc),
-            stage,
-        };
-        Ok(Some(Tables { way }))
+        let way = way_from(alloc, ladder, from)?;
+        let problem = problem.copy()?;
+        Ok(Some(Tables { problem, way }))
     }
 
-    /// Goes to the next world. Whether there is one. After want of memory it may be called again, and loses no world.
-    pub fn next(&mut self, problem: &Problem) -> Result<bool, AllocError>
-        requires { self.old.problem ≡ problem.now }
+    /// Goes to the next world, if there is one, and tells how many of its first relations are those of the world that was told
+    /// before (0 where none was). After want of memory it may be called again, and loses no world.
+    pub fn next(&mut self) -> Result<Option<usize>, AllocError>
         ensures passed { PassedTold self.old self.new }
-        ensures world { IfOk result (λ found. found ≡ true → IsAtWorld self.new) }
-        ensures end { IfOk result (λ found. found ≡ false → (self.new.at ≡ None) × (self.new.told ≡ [])) }
+        ensures world { IfOk result (λ found. IfSome found (λ _. IsAtWorld self.new)) }
+        ensures kept { IfOk result (λ found. IfSome found (Keeps self.old self.new)) }
+        ensures end { IfOk result (λ found. IfNone found ((self.new.at ≡ None) × (self.new.told ≡ []))) }
         ensures err { OnErr result (self.new.told ≡ []) }
     {
-        next_world(problem, &mut self.way)
+        let pairs = self.problem.pair_count() as usize;
+        next_world(&mut self.way, pairs)
     }
 
     /// The table of the world at which it stands.

@@ -1,17 +1,14 @@
 //! A way along the prefixes that lead to worlds, from one world to the next.
-ghost use Rattle.std.specs.Prelude.{◌≡◌, ◌≢◌, ◌<◌, List, [], ◌∷◌, length, Some, None, IfOk, OnOk, OnErr, true, false};
-ghost use Rattle.rcc5_core.specs.declared.Rel.{Rel};
+ghost use Rattle.std.specs.Prelude.{◌≡◌, ◌≢◌, ◌<◌, ◌≤◌, List, [], ◌∷◌, length, Some, None, IfOk, IfSome, IfNone, OnOk, OnErr, IsTrue};
 ghost use Rattle.world_model.specs.Problem.{pair_count};
-ghost use Rattle.world_model.specs.Family.{IsPossibleWorld};
-ghost use Rattle.rcc5_core.specs.RelationSet.{next_of};
-ghost use Rattle.table_walk.specs.Ahead.{Lists, IsAhead, level_at, rel_at, room};
-ghost use Rattle.table_walk.specs.Ways.{problem_of, place, IsUnderWay, IsWay, at_of, told_of, AreBegun, left_by, left_of, WentOn};
+ghost use Rattle.rcc5_core.specs.RelationSet.{has, next_of};
+ghost use Rattle.table_walk.specs.Ahead.{Lists, Begins, BeginAlike, IsPast, IsAhead, level_at, rel_at, room};
+ghost use Rattle.table_walk.specs.Ways.{problem_of, place, IsUnderWay, IsWay, at_of, told_of, told_table, AreNext, left_by, left_of, WentOn};
 ghost use Rattle.table_walk.specs.declared.way.Stage.TheVariants.{Standing, Told, Past};
 
 use crate::Level;
-use constraint_set::Problem;
 use point_table::Ladder;
-use rcc5_core::Rel;
+use rcc5_core::{Rel, RelSet};
 use std::alloc::AllocError;
 
 /// How far a way is.
@@ -35,20 +32,35 @@ pub struct Way {
     pub stage: Stage,
 }
 
-// Adds the relation that waits to the path.
-fn settle(way: &mut Way) -> Result<(), AllocError>
+/// Adds the relation that waits to the path.
+pub(crate) fn settle(way: &mut Way) -> Result<(), AllocError>
     requires way { IsWay way.old }
     requires standing { way.old.stage ≡ Standing }
     ensures went { WentOn way.old way.new }
     ensures stands { way.new.stage ≡ Standing }
     ensures place { place way.new ≡ place way.old }
     ensures settled { OnOk result (way.new.turn ≡ None) }
+    ensures longer { Begins way.old.ladder.path way.new.ladder.path }
 {
     if let Some(rel) = way.turn {
         way.ladder.push(rel)?;
         way.turn = None;
     }
     Ok(())
+}
+
+// Goes along the pairs that have one relation left.
+fn go_along(way: &mut Way)
+    requires way { IsWay way.old }
+    requires standing { way.old.stage ≡ Standing }
+    requires settled { way.old.turn ≡ None }
+    ensures went { WentOn way.old way.new }
+    ensures stands { way.new.stage ≡ Standing }
+    ensures settled { way.new.turn ≡ None }
+    ensures longer { Begins way.old.ladder.path way.new.ladder.path }
+    ensures no_more { left_of way.new ≤ left_of way.old }
+{
+    way.ladder.skip();
 }
 
 // The next relation that is left at a level, if there is one.
@@ -61,15 +73,16 @@ fn next_at(way: &Way, number: usize) -> Option<Rel>
     level.set.after(way.ladder.path()[level.depth])
 }
 
-// Leaves the path: it turns off at the deepest level at which another relation is left.
-fn turn_off(way: &mut Way)
+/// Leaves the path: it turns off at the deepest level at which another relation is left.
+pub(crate) fn turn_off(way: &mut Way)
     requires way { IsWay way.old }
     requires under_way { IsUnderWay way.old }
     requires settled { way.old.turn ≡ None }
     ensures problem { problem_of way.new ≡ problem_of way.old }
     ensures way { IsWay way.new }
-    ensures passed { (worlds : List (List Rel)) → AreBegun (problem_of way.old) (place way.old) worlds → Lists (problem_of way.old) (Some (place way.old)) (at_of way.new) worlds }
+    ensures past { IsPast (problem_of way.old) (place way.old) (at_of way.new) }
     ensures untold { told_of way.new ≡ [] }
+    ensures shorter { Begins way.new.ladder.path way.old.ladder.path }
     ensures less { left_by (problem_of way.new) (place way.new) way.new.stage < room (pair_count (problem_of way.old)) (place way.old) }
 {
     while way.levels.len() > 0 {
@@ -85,20 +98,20 @@ fn turn_off(way: &mut Way)
     way.stage = Stage::Past;
 }
 
-// Goes on from an alive prefix that is not full.
-fn enter(way: &mut Way) -> Result<(), AllocError>
+/// Goes on by one of the relations that lead on, and keeps a level where later ones do.
+pub(crate) fn go_on(way: &mut Way, set: RelSet, rel: Rel) -> Result<(), AllocError>
     requires way { IsWay way.old }
     requires standing { way.old.stage ≡ Standing }
     requires settled { way.old.turn ≡ None }
     requires short { length way.old.ladder.path < pair_count (problem_of way.old) }
-    ensures went { WentOn way.old way.new }
-    ensures less { OnOk result (left_of way.new < left_of way.old) }
+    requires next { AreNext (problem_of way.old) way.old.ladder.path set }
+    requires among { IsTrue (has set rel) }
+    ensures ladder { way.new.ladder ≡ way.old.ladder }
+    ensures way { IsWay way.new }
+    ensures stands { way.new.stage ≡ Standing }
+    ensures turn { OnOk result (way.new.turn ≡ Some rel) }
+    ensures err { OnErr result (way.new.turn ≡ None) }
 {
-    let set = way.ladder.leads_on();
-    let Some(rel) = set.first() else {
-        turn_off(way);
-        return Ok(());
-    };
     if set.after(rel).is_some() {
         way.levels.push(Level {
             depth: way.ladder.path().len(),
@@ -109,40 +122,64 @@ fn enter(way: &mut Way) -> Result<(), AllocError>
     Ok(())
 }
 
-// Leaves the table that was told, if there is one.
-fn leave(way: &mut Way)
+// Goes on from an alive prefix that is not full.
+fn enter(way: &mut Way) -> Result<(), AllocError>
+    requires way { IsWay way.old }
+    requires standing { way.old.stage ≡ Standing }
+    requires settled { way.old.turn ≡ None }
+    requires short { length way.old.ladder.path < pair_count (problem_of way.old) }
+    ensures went { WentOn way.old way.new }
+    ensures shorter { Begins way.new.ladder.path way.old.ladder.path }
+    ensures less { OnOk result (left_of way.new < left_of way.old) }
+{
+    let set = way.ladder.leads_on();
+    let Some(rel) = set.first() else {
+        turn_off(way);
+        return Ok(());
+    };
+    go_on(way, set, rel)
+}
+
+// Leaves the table that was told, if there is one. How many of its relations are still on the path.
+fn leave(way: &mut Way) -> usize
     requires { IsWay way.old }
     ensures problem { problem_of way.new ≡ problem_of way.old }
     ensures way { IsWay way.new }
     ensures passed { Lists (problem_of way.old) (at_of way.old) (at_of way.new) (told_of way.old) }
     ensures untold { told_of way.new ≡ [] }
+    ensures kept { BeginAlike (told_table (told_of way.old)) way.new.ladder.path result }
 {
     match way.stage {
-        Stage::Told => turn_off(way),
-        Stage::Standing | Stage::Past => {}
+        Stage::Told => {
+            turn_off(way);
+            way.ladder.path().len()
+        }
+        Stage::Standing | Stage::Past => 0,
     }
 }
 
-/// Goes to the next world. Whether there is one.
-pub fn next_world(problem: &Problem, way: &mut Way) -> Result<bool, AllocError>
-    requires problem { problem_of way.old ≡ problem.now }
+/// Goes to the next world, if there is one, among so many pairs. How many relations of the world that was told last have stayed on the path.
+pub fn next_world(way: &mut Way, pairs: usize) -> Result<Option<usize>, AllocError>
     requires way { IsWay way.old }
+    requires pairs { pairs ≡ pair_count (problem_of way.old) }
     ensures problem { problem_of way.new ≡ problem_of way.old }
     ensures way { IsWay way.new }
-    ensures passed { Lists problem.now (at_of way.old) (at_of way.new) (told_of way.old) }
-    ensures stage { IfOk result (λ found. found ≡ true → way.new.stage ≡ Told) }
-    ensures past { IfOk result (λ found. found ≡ false → way.new.stage ≡ Past) }
+    ensures passed { Lists (problem_of way.old) (at_of way.old) (at_of way.new) (told_of way.old) }
+    ensures world { IfOk result (λ found. IfSome found (λ _. way.new.stage ≡ Told)) }
+    ensures kept { IfOk result (λ found. IfSome found (BeginAlike (told_table (told_of way.old)) (told_table (told_of way.new)))) }
+    ensures past { IfOk result (λ found. IfNone found (way.new.stage ≡ Past)) }
     ensures err { OnErr result (told_of way.new ≡ []) }
 {
-    let pairs = problem.pair_count() as usize;
-    leave(way);
+    let mut kept = leave(way);
     while way.stage == Stage::Standing {
         settle(way)?;
+        go_along(way);
         if way.ladder.path().len() == pairs {
             way.stage = Stage::Told;
-            return Ok(true);
+            return Ok(Some(kept));
         }
         enter(way)?;
+        kept = kept.min(way.ladder.path().len());
     }
-    Ok(false)
+    Ok(None)
 }

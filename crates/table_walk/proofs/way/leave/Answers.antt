@@ -1,10 +1,10 @@
 use Rattle.std.proofs.Common.{◌≡◌, [], ◌⊎◌, inl, inr, refl, sym, ap, subst}
-use Rattle.table_walk.specs.declared.way.Stage.{Stage}
-use Rattle.table_walk.specs.declared.way.Stage.TheVariants.{Standing, Told, Past}
+use Rattle.table_walk.specs.declared.way.Stage.TheVariants.{Standing, Past}
 use Rattle.table_walk.specs.declared.way.Way.{Way}
-use Rattle.table_walk.specs.Ahead.{Lists}
-use Rattle.table_walk.specs.Ways.{problem_of, place, at_by, told_by, at_of, told_of}
-use Rattle.table_walk.proofs.Stepping.{at_table, begun_one, lists_nowhere}
+use Rattle.table_walk.specs.Ahead.{Lists, BeginAlike}
+use Rattle.table_walk.specs.Ways.{problem_of, place, at_by, told_by, at_of, told_of, told_table}
+use Rattle.table_walk.proofs.Alike.{alike_none}
+use Rattle.table_walk.proofs.Stepping.{at_table, turned_one, lists_nowhere}
 use Rattle.table_walk.proofs.way.leave.Goals as goal
 
 pub returns-in-Told-clause-passed : goal.returns-in-Told-clause-passed
@@ -12,7 +12,7 @@ returns-in-Told-clause-passed c =
     let w = c.args.way.now in
     let at = at_table w c.requires c.in-Told.is in
     subst (λ s. Lists (problem_of w) (at_by (place w) s) (at_of c.turn_off.new.way) (told_by (place w) s)) (sym c.in-Told.is)
-    (c.turn_off.ensures.passed _ (begun_one w c.requires at.under_way at.settled at.full))
+    (turned_one w (at_of c.turn_off.new.way) c.requires at c.turn_off.ensures.past)
 
 -- where no table was told, nothing is passed
 untold : (w : Way) → (w.stage ≡ Standing) ⊎ (w.stage ≡ Past) → told_of w ≡ []
@@ -28,4 +28,5 @@ returns-in-Standing c =
       way = c.requires;
       passed = subst (λ ws. Lists (problem_of w) (at_of w) (at_of w) ws) (sym none) (lists_nowhere (problem_of w) (at_of w));
       untold = none;
+      kept = subst (λ ws. BeginAlike (told_table ws) w.ladder.path 0) (sym none) (alike_none w.ladder.path);
     }

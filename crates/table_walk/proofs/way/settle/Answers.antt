@@ -1,12 +1,10 @@
-use Rattle.std.proofs.Common.{◌≡◌, ◌≤◌, ◌++◌, [], ◌∷◌, length, length-append, append-nil, Bool, true, false, refl, sym, ap, ◌∙◌, subst, arith}
-use Rattle.std.specs.Prelude.{Some, None}
+use Rattle.std.proofs.Common.{◌≡◌, ◌++◌, [], ◌∷◌, append-nil, Bool, true, false, refl, sym, ap, ◌∙◌, subst}
+use Rattle.std.specs.Prelude.{None}
 use Rattle.std.specs.Option.{option_to_list}
-use Rattle.world_model.specs.Problem.{pair_count}
 use Rattle.rcc5_core.specs.declared.Rel.{Rel}
 use Rattle.point_table.specs.Ladders.{LadderState, IsPushed}
 use Rattle.world_model.specs.Alive.{problem_at, IsAlive}
 use Rattle.world_model.proofs.PointPositions.{prefix_is_alive}
-use Rattle.table_walk.specs.Ways.{problem_of}
 use Rattle.table_walk.proofs.Stepping.{under, same_way, stays}
 use Rattle.table_walk.proofs.way.settle.Goals as goal
 

@@ -1,10 +1,12 @@
-use Rattle.std.proofs.Common.{◌≡◌, ℕ, ◌-◌, ◌+◌, length, take, refl, sym, ap, ◌∙◌, subst, arith}
-use Rattle.std.proofs.lemmas.List.{get_or_default}
+use Rattle.std.proofs.Common.{◌≡◌, ℕ, ◌-◌, ◌+◌, ◌++◌, List, length, take, drop, refl, sym, ap, ◌∙◌, subst, arith}
+use Rattle.std.proofs.lemmas.List.{get_or_default, take-append-drop}
+use Rattle.rcc5_core.specs.declared.Rel.{Rel}
+use Rattle.world_model.specs.Problem.{Problem}
+use Rattle.point_table.specs.Ladders.{LadderState}
 use Rattle.std.specs.Prelude.{Some, None}
 use Rattle.rcc5_core.specs.RelationSet.{no_rels, next_of}
 use Rattle.table_walk.specs.declared.way.Stage.TheVariants.{Standing}
-use Rattle.table_walk.specs.declared.way.Way.{Way}
-use Rattle.table_walk.specs.Ahead.{level_at, rel_at, IsAhead}
+use Rattle.table_walk.specs.Ahead.{level_at, rel_at, Begins, IsAhead}
 use Rattle.table_walk.specs.Ways.{problem_of, LeadOn}
 use Rattle.table_walk.proofs.Going.{drops_last}
 use Rattle.table_walk.proofs.Stepping.{Turned, turned_way, past_way, some_room, leads_dropped}
@@ -26,8 +28,18 @@ turned_here c =
 pub returns-in-Some-clause-way : goal.returns-in-Some-clause-way
 returns-in-Some-clause-way c = (turned_here c).way
 
-pub returns-in-Some-clause-passed : goal.returns-in-Some-clause-passed
-returns-in-Some-clause-passed c = (turned_here c).passed
+pub returns-in-Some-clause-past : goal.returns-in-Some-clause-past
+returns-in-Some-clause-past c = (turned_here c).past
+
+-- what is left of a path begins it
+cut_back : (now : LadderState) (problem : Problem) (n : ℕ) (path : List Rel) → now ≡ record { problem = problem; path = take n path } → Begins now.path path
+cut_back now problem n path moved = (drop n path, sym (take-append-drop n path) ∙ ap (λ m. m ++ drop n path) (sym (ap (λ l. l.path) moved)))
+
+pub returns-in-Some-clause-shorter : goal.returns-in-Some-clause-shorter
+returns-in-Some-clause-shorter c =
+    let old = c.args.way.now in
+    let same = c.loop-way.invariant.ladder in
+    cut_back c.back_to.new.self (problem_of old) c.index.result.now.depth old.ladder.path (c.back_to.ensures ∙ (λ i. record { problem = (same i).problem; path = take c.index.result.now.depth (same i).path }))
 
 pub returns-in-Some-clause-less : goal.returns-in-Some-clause-less
 returns-in-Some-clause-less c = (turned_here c).less
@@ -50,8 +62,8 @@ loop-way-preserved c =
       leads = subst (λ ls. LeadOn p old.ladder.path ls) (sym rest) (leads_dropped p old.ladder.path levels k sized c.loop-way.invariant.leads);
     }
 
-pub returns-clause-passed : goal.returns-clause-passed
-returns-clause-passed c = past_way c.args.way.now c.requires.under_way c.requires.settled c.loop-way.way.levels.items (omega arith) c.loop-way.invariant.ahead
+pub returns-clause-past : goal.returns-clause-past
+returns-clause-past c = past_way c.args.way.now c.requires.under_way c.requires.settled c.loop-way.way.levels.items (omega arith) c.loop-way.invariant.ahead
 
 pub returns-clause-less : goal.returns-clause-less
 returns-clause-less c = some_room c.args.way.now c.requires.under_way

@@ -1,0 +1,72 @@
+//! The start of a way, at any position.
+ghost use Rattle.std.specs.Prelude.{◌≡◌, ◌<◌, ◌≤◌, [], length, Some, None, IfOk, OnOk, IsTrue};
+ghost use Rattle.world_model.specs.Problem.{pair_count, is_problem};
+ghost use Rattle.table_walk.specs.Ahead.{Lists};
+ghost use Rattle.table_walk.specs.Ways.{problem_of, place, IsWay, at_of, told_of, HasBegun, Follows};
+ghost use Rattle.table_walk.specs.declared.way.Stage.TheVariants.{Standing};
+
+use crate::way::{Stage, Way, go_on, settle, turn_off};
+use point_table::Ladder;
+use rcc5_core::{Position, Rel};
+use std::alloc::{AllocError, Global};
+
+// Goes along with a relation, if that leads on; else to the next later place. Whether it went along.
+fn follow(way: &mut Way, rel: Rel) -> Result<bool, AllocError>
+    requires way { IsWay way.old }
+    requires standing { way.old.stage ≡ Standing }
+    requires settled { way.old.turn ≡ None }
+    requires short { length way.old.ladder.path < pair_count (problem_of way.old) }
+    ensures problem { problem_of way.new ≡ problem_of way.old }
+    ensures way { OnOk result (IsWay way.new) }
+    ensures untold { OnOk result (told_of way.new ≡ []) }
+    ensures follows { IfOk result (Follows way.old way.new rel) }
+{
+    let set = way.ladder.leads_on();
+    if set.has(rel) {
+        go_on(way, set, rel)?;
+        return Ok(true);
+    }
+    match set.after(rel) {
+        Some(next) => go_on(way, set, next)?,
+        None => turn_off(way),
+    }
+    Ok(false)
+}
+
+// Goes from the empty path to the first place from a position on.
+fn go_to(way: &mut Way, from: &Position) -> Result<(), AllocError>
+    requires way { IsWay way.old }
+    requires standing { way.old.stage ≡ Standing }
+    requires empty { place way.old ≡ [] }
+    requires within { length from.now ≤ pair_count (problem_of way.old) }
+    ensures { OnOk result (HasBegun (problem_of way.old) from.now way.new) }
+{
+    for rel in from.rels() {
+        settle(way)?;
+        if !follow(way, *rel)? {
+            return Ok(());
+        }
+    }
+    Ok(())
+}
+
+/// A way that stands at the first place from a position on.
+pub fn way_from(alloc: Global, ladder: Ladder, from: &Position) -> Result<Way, AllocError>
+    requires valid { IsTrue (is_problem ladder.problem) }
+    requires empty { ladder.path ≡ [] }
+    requires within { length from.now ≤ pair_count ladder.problem }
+    ensures { IfOk result (HasBegun ladder.problem from.now) }
+{
+    let alive = ladder.is_alive();
+    let mut way = Way {
+        ladder,
+        turn: None,
+        levels: Vec::new(alloc),
+        stage: Stage::Past,
+    };
+    if alive {
+        way.stage = Stage::Standing;
+        go_to(&mut way, from)?;
+    }
+    Ok(way)
+}
