@@ -8,12 +8,11 @@ ghost use Rattle.align_top.specs.Run.{sink_state, Leaves, LeavesPiece};
 ghost use Rattle.align_top.specs.Putting.{IsPutTo, IsPutToCut, IsPutPartly, IsMet, IsStop, IsOrder};
 
 use crate::{Order, put_line};
-use cert_text::NoLog;
 use outer_store::{Sink, StoreFault};
 use point_query::Asker;
 use rcc5_core::Position;
 use std::alloc::{AllocError, Global};
-use world_search::{Nodes, Search, Step, StepFault};
+use world_search::{Nodes, Search, TableStep};
 
 /// How many worlds were put, up to the last value of a u64, and the node before which the budget was used up, if any.
 #[derive(Debug, Drop)]
@@ -61,11 +60,10 @@ fn next_met(
     ensures err { OnErr result (Came search.old search.new nodes.old.left nodes.new.left []) }
     ensures asker { asker.new.shape ≡ asker.old.shape }
 {
-    match search.next(&order.problem, asker, nodes, &mut NoLog::new()) {
-        Ok(Step::World(table, _)) => Ok(Met::World(table)),
-        Ok(Step::Spent(node)) => Ok(Met::Cut(node)),
-        Ok(Step::End(_)) => Ok(Met::End),
-        Err(StepFault::NoMemory) => Err(AllocError),
+    match search.next_table(&order.problem, asker, nodes)? {
+        TableStep::World(table) => Ok(Met::World(table)),
+        TableStep::Spent(node) => Ok(Met::Cut(node)),
+        TableStep::End(_) => Ok(Met::End),
     }
 }
 
