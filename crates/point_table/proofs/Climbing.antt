@@ -18,7 +18,7 @@ use Rattle.point_table.specs.declared.ladder.Ladder.TheInside.{Inside}
 use Rattle.point_table.specs.declared.stretches.Stretch.{Stretch}
 use Rattle.point_table.specs.Points.{AreAllowed}
 use Rattle.point_table.specs.Rows.{BitRows, bit_in}
-use Rattle.point_table.specs.Bounds.{bound_to, HoldsPoints, AreBounds}
+use Rattle.point_table.specs.Bounds.{bound_to, HoldsPoints, IsAliveIn, AreBounds}
 use Rattle.point_table.specs.Stretches.{stretch_at, HasFrames, IsCut, AreNexts, IsLadder}
 use Rattle.point_table.specs.Ladders.{Satisfies, AreMet, left_at, IsNarrowed, IsFrame, IsAlong, AreRowsOf}
 use Rattle.point_table.proofs.Narrowing.{IsNext, narrowings_of, forced_only, next_is_narrower, point_before, refused_is_dead}
@@ -101,6 +101,17 @@ next_by_alive q m rel short alive = elim (cases_Bool (has (allowed q (pair_at q 
   | inl there ↦ record { short = short; allows = there }
   | inr out ↦ absurd (refused_is_dead q m rel short out alive)
 ]
+
+-- a relation of the next pair's set that leads on in the frame leads to an alive path, and no other does
+pub alive_in_frame : (q : Problem) (m : List Rel) (rel : Rel) (sets : List RelSet) (k : ℕ) (set : RelSet) (points : List (List Bool)) (rows : BitRows) (l r : ℕ → Bool) → AreAllowed q sets → length m ≡ k → k < pair_count q → set ≡ get_or sets k set →
+    HoldsPoints q points → IsAlive (problem_at q m) → IsFrame (problem_at q m) points rows → ShowsPair (pair_at q (length m)) points l r → IsAliveIn rows l r set rel ↔ IsAlive (problem_at q (m ++ rel ∷ []))
+alive_in_frame q m rel sets k set points rows l r are at short is holds alive frame shows = (
+  λ h. (leads_by_frame q m rel (row_of rel) points rows l r refl (next_of_sets q m rel sets k set are at short is h.0) holds alive frame shows).0 (h.1, h.2),
+  λ a. elim (cases_Bool (has set rel)) [
+    | inl there ↦ let both = (leads_by_frame q m rel (row_of rel) points rows l r refl (next_of_sets q m rel sets k set are at short is there) holds alive frame shows).1 a in (there, both.0, both.1)
+    | inr out ↦ absurd (dead_by_sets q m rel sets k set are at short is out a)
+  ],
+)
 
 -- what a ladder keeps with one relation more
 pub keeps_more : (s : Inside) (rel : Rel) (line : List Rel) (stretches : List Stretch) → Keeps s → IsNext (problem_of s) (path_of s) rel → IsAlive (problem_at (problem_of s) (path_of s ++ rel ∷ [])) →

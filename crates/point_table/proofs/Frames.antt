@@ -8,10 +8,11 @@ use Rattle.rcc5_core.specs.declared.Region.TheVariants.{LeftOnly, Both, RightOnl
 use Rattle.rcc5_core.specs.declared.Occupancy.{Occupancy}
 use Rattle.rcc5_core.specs.declared.Occupancy.TheVariants.{Empty, Occupied, Free}
 use Rattle.rcc5_core.specs.Region.{word_at, same_word, all_regions}
-use Rattle.world_model.proofs.Members.{all_from}
+use Rattle.world_model.proofs.Members.{all_at, all_from}
+use Rattle.world_model.proofs.PointSets.{In-all_regions}
 use Rattle.point_table.specs.declared.words.Cells.{Cells}
 use Rattle.point_table.specs.Rows.{SomePlace, BitRows, bit_in, in_cells, all_cells, other_cells}
-use Rattle.point_table.specs.Ladders.{lies_by, is_left_by, is_occupied, AreWithin, Satisfies, AreMet, left_at, IsNarrowed}
+use Rattle.point_table.specs.Ladders.{lies_by, is_left_by, is_occupied, AreWithin, Satisfies, AreMet, left_at, IsNarrowed, cell_of, AreSeen, HasEmpty}
 
 -- a place of one row is one of another
 pub some_alike : (f g : ℕ → Bool) → ((k : ℕ) → f k ≡ true → g k ≡ true) → SomePlace f → SomePlace g
@@ -234,3 +235,67 @@ pub open_all : (rows : BitRows) (sides : ℕ → Bool) (cells : Cells) → cells
 open_all rows sides cells is each q low small =
     some_alike (λ k. bit_in rows q k && bit_in rows 0 k) (λ k. bit_in rows q k && bit_in rows 0 k && in_cells cells (sides k) (sides k))
     (λ k h. and_from (bit_in rows q k && bit_in rows 0 k) (in_cells cells (sides k) (sides k)) h (in_all cells (sides k) (sides k) is)) (each q low small)
+
+-- regions that are occupied, by the cells in which places lie
+pub met_by_cells : (words : Regions) (row l r : ℕ → Bool) (cells : Cells) → AreSeen row l r cells → ((region : Region) → is_occupied words region ≡ true → cell_of cells region ≡ true) ↔ AreMet words l r row
+met_by_cells words row l r cells are = (
+  λ each region occupied. (are region).0 (each region occupied),
+  λ met region occupied. (are region).1 (met region occupied),
+)
+
+-- words lose a place of a row just where the cell of a region that is empty has one
+pub none_empty : (words : Regions) (row l r : ℕ → Bool) (cells : Cells) → AreSeen row l r cells → (HasEmpty words cells → ⊥) → LosesNone l r words row
+none_empty words row l r cells are none k h = all_from (λ region. not (same_word (word_at words region) Empty && lies_by region (l k) (r k))) all_regions
+    (λ region i. apart (same_word (word_at words region) Empty) (lies_by region (l k) (r k)) (λ empty lies.
+    none (record { region = region; empty = empty; there = (are region).1 (record { place = k; passes = and_from (row k) (lies_by region (l k) (r k)) h lies }) })))
+  where
+    apart : (a b : Bool) → (a ≡ true → b ≡ true → ⊥) → not (a && b) ≡ true
+    apart true true h = absurd (h refl refl)
+    apart true false h = refl
+    apart false b h = refl
+
+pub some_empty : (words : Regions) (row l r : ℕ → Bool) (cells : Cells) → AreSeen row l r cells → HasEmpty words cells → LosesNone l r words row → ⊥
+some_empty words row l r cells are h none =
+    let some = (are h.region).0 h.there in
+    let k = some.place in
+    let parts = and_parts (row k) (lies_by h.region (l k) (r k)) some.passes in
+    let left = all_at (λ region. not (same_word (word_at words region) Empty && lies_by region (l k) (r k))) (none k parts.0) (In-all_regions h.region) in
+    both (same_word (word_at words h.region) Empty) (lies_by h.region (l k) (r k)) h.empty parts.1 left
+  where
+    both : (a b : Bool) → a ≡ true → b ≡ true → not (a && b) ≡ true → ⊥
+    both true true ha hb h = false≢true h
+    both true false ha hb h = false≢true hb
+    both false b ha hb h = false≢true ha
+
+-- rows that show others have their cells
+pub seen_as : (row other l r : ℕ → Bool) (cells : Cells) → ((k : ℕ) → row k ≡ other k) → AreSeen row l r cells → AreSeen other l r cells
+seen_as row other l r cells same are region = (
+  λ h. let some = (are region).0 h in record { place = some.place; passes = ap (λ x. x && lies_by region (l some.place) (r some.place)) (sym (same some.place)) ∙ some.passes },
+  λ some. (are region).1 (record { place = some.place; passes = ap (λ x. x && lies_by region (l some.place) (r some.place)) (same some.place) ∙ some.passes }),
+)
+
+-- a cell that was met
+pub cell_seen : (row l r : ℕ → Bool) (region : Region) (cells : Cells) (met : Bool) → ((a b : Bool) → in_cells cells a b ≡ lies_by region a b) → (IsTrue met ↔ SomePlace (λ k. row k && row k && in_cells cells (l k) (r k))) →
+    IsTrue met ↔ SomePlace (λ k. row k && lies_by region (l k) (r k))
+cell_seen row l r region cells met are tells = (
+  λ h. let some = tells.0 h in record { place = some.place; passes = sym (same some.place) ∙ some.passes },
+  λ some. tells.1 (record { place = some.place; passes = same some.place ∙ some.passes }),
+)
+  where
+    twice : (a b : Bool) → ((a && a) && b) ≡ (a && b)
+    twice true b = refl
+    twice false b = refl
+
+    same : (k : ℕ) → ((row k && row k) && in_cells cells (l k) (r k)) ≡ (row k && lies_by region (l k) (r k))
+    same k = ap (λ b. (row k && row k) && b) (are (l k) (r k)) ∙ twice (row k) (lies_by region (l k) (r k))
+
+pub seen_by_three : (row l r : ℕ → Bool) (a b c : Bool) → (IsTrue a ↔ SomePlace (λ k. row k && lies_by LeftOnly (l k) (r k))) → (IsTrue b ↔ SomePlace (λ k. row k && lies_by Both (l k) (r k))) →
+    (IsTrue c ↔ SomePlace (λ k. row k && lies_by RightOnly (l k) (r k))) → AreSeen row l r (record { left_only = a; both = b; right_only = c; neither = true })
+seen_by_three row l r a b c one two three LeftOnly = one
+seen_by_three row l r a b c one two three Both = two
+seen_by_three row l r a b c one two three RightOnly = three
+
+pub three_regions : (P : Region → Type 0) → P LeftOnly → P Both → P RightOnly → (region : Region) → P region
+three_regions P a b c LeftOnly = a
+three_regions P a b c Both = b
+three_regions P a b c RightOnly = c

@@ -12,6 +12,7 @@ use Rattle.world_model.specs.Family.{IsPossibleWorld}
 use Rattle.world_model.specs.Node.{pair_at}
 use Rattle.world_model.specs.Alive.{Need, needs, is_in_need, bit_of, is_point, problem_at, IsAlive}
 use Rattle.world_model.specs.Trial.{points_by_trial}
+use Rattle.point_table.specs.declared.words.Cells.{Cells}
 use Rattle.point_table.specs.Points.{forced_at}
 use Rattle.point_table.specs.Rows.{SomePlace, BitRows, bit_in}
 use Rattle.point_table.specs.Table.{point_at, AreShown}
@@ -68,6 +69,22 @@ pub record Satisfies (rows : BitRows) (count : ℕ) (some : ℕ → Bool) : Type
 -- some places are in each region of two sets that words say is occupied
 abbrev pub AreMet : Regions → (ℕ → Bool) → (ℕ → Bool) → (ℕ → Bool) → Type 0
 AreMet words left right some = (region : Region) → is_occupied words region ≡ true → SomePlace (λ k. some k && lies_by region (left k) (right k))
+
+-- a region's cell
+abbrev pub cell_of : Cells → Region → Bool
+cell_of cells LeftOnly = cells.left_only
+cell_of cells Both = cells.both
+cell_of cells RightOnly = cells.right_only
+
+-- the cells of the regions in which some places lie
+abbrev pub AreSeen : (ℕ → Bool) → (ℕ → Bool) → (ℕ → Bool) → Cells → Type 0
+AreSeen row left right cells = (region : Region) → IsTrue (cell_of cells region) ↔ SomePlace (λ k. row k && lies_by region (left k) (right k))
+
+-- the cell of a region that words say is empty
+pub record HasEmpty (words : Regions) (cells : Cells) : Type 0 where
+  pub region : Region
+  pub empty : same_word (word_at words region) Empty ≡ true
+  pub there : cell_of cells region ≡ true
 
 -- whether a place of the first row is left by what words say of the regions of two sets
 abbrev pub left_at : BitRows → (ℕ → Bool) → (ℕ → Bool) → Regions → ℕ → Bool

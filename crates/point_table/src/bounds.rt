@@ -6,12 +6,13 @@ ghost use Rattle.world_model.specs.Problem.{pair_count};
 ghost use Rattle.world_model.specs.Trial.{points_by_trial};
 ghost use Rattle.point_table.specs.Rows.{has_bit, bit_in};
 ghost use Rattle.point_table.specs.Points.{AreAllowed};
-ghost use Rattle.point_table.specs.Ladders.{Satisfies, IsNarrowed, AreRowsOf};
+ghost use Rattle.point_table.specs.Ladders.{Satisfies, IsNarrowed, AreRowsOf, AreSeen};
 ghost use Rattle.point_table.specs.Bounds.{AreBounds, IsAliveIn};
 
-use crate::frame::{is_same, leads_on, narrowed};
+use crate::frame::{is_same, leads_by, narrowed, seen};
 use crate::rows::Rows;
 use crate::start::{first_frame, is_alive};
+use crate::words::Cells;
 use constraint_set::Problem;
 use rcc5_core::{Regions, Rel, RelSet, forced};
 use std::alloc::{AllocError, Global};
@@ -58,26 +59,38 @@ pub(crate) fn no_bounds(
 }
 
 // Whether a set has a relation that leads on.
-fn has_alive(frame: &Rows, left: &[u64], right: &[u64], set: RelSet, rel: Rel) -> bool
+fn has_alive(
+    frame: &Rows,
+    left: &[u64],
+    right: &[u64],
+    all: Cells,
+    must: Cells,
+    set: RelSet,
+    rel: Rel,
+) -> bool
     requires two { 2 ≤ frame.now.count }
     requires lives { Satisfies frame.now frame.now.count (bit_in frame.now 0) }
+    requires all { AreSeen (bit_in frame.now 0) (has_bit left.now) (has_bit right.now) all }
+    requires must { AreSeen (bit_in frame.now 1) (has_bit left.now) (has_bit right.now) must }
     ensures { IsTrue result ↔ IsAliveIn frame.now (has_bit left.now) (has_bit right.now) set rel }
 {
-    set.has(rel) && leads_on(frame, left, right, rel.row())
+    set.has(rel) && leads_by(frame, left, right, all, must, rel.row())
 }
 
 // The relations of a set that lead on.
-fn bound(frame: &Rows, left: &[u64], right: &[u64], set: RelSet) -> RelSet
+pub(crate) fn bound(frame: &Rows, left: &[u64], right: &[u64], set: RelSet) -> RelSet
     requires two { 2 ≤ frame.now.count }
     requires lives { Satisfies frame.now frame.now.count (bit_in frame.now 0) }
     ensures { (rel : Rel) → IsTrue (has result rel) ↔ IsAliveIn frame.now (has_bit left.now) (has_bit right.now) set rel }
 {
+    let all = seen(frame.row(0), left, right);
+    let must = seen(frame.row(1), left, right);
     RelSet {
-        equals: has_alive(frame, left, right, set, Rel::Equals),
-        includes: has_alive(frame, left, right, set, Rel::Includes),
-        included_in: has_alive(frame, left, right, set, Rel::IncludedIn),
-        overlaps: has_alive(frame, left, right, set, Rel::Overlaps),
-        disjoint: has_alive(frame, left, right, set, Rel::Disjoint),
+        equals: has_alive(frame, left, right, all, must, set, Rel::Equals),
+        includes: has_alive(frame, left, right, all, must, set, Rel::Includes),
+        included_in: has_alive(frame, left, right, all, must, set, Rel::IncludedIn),
+        overlaps: has_alive(frame, left, right, all, must, set, Rel::Overlaps),
+        disjoint: has_alive(frame, left, right, all, must, set, Rel::Disjoint),
     }
 }
 

@@ -1,7 +1,7 @@
 //! Frames: a row of the points that are left, one of those that have to stay, and rows of which one each has to stay.
 ghost use Rattle.std.specs.Prelude.{◌≡◌, ℕ, ◌+◌, ◌*◌, ◌<◌, ◌≤◌, ◌&&◌, ◌↔◌, Bool, true, length, IsTrue, IfOk, OnOk, IfSome};
 ghost use Rattle.point_table.specs.Rows.{has_bit, bit_in, in_cells, SomePlace};
-ghost use Rattle.point_table.specs.Ladders.{lies_by, is_left_by, is_occupied, AreWithin, Satisfies, AreMet, left_at, IsOwing, IsNarrowed};
+ghost use Rattle.point_table.specs.Ladders.{lies_by, is_left_by, is_occupied, AreWithin, Satisfies, AreMet, left_at, IsOwing, IsNarrowed, cell_of, AreSeen, HasEmpty};
 
 use crate::rows::Rows;
 use crate::rules::{have_common, is_inside};
@@ -90,26 +90,95 @@ pub(crate) fn lives(frame: &Rows) -> bool
     open_met(frame, mask, mask, Cells::all())
 }
 
+// The cells of two sets that have a place of a row, and the one outside both.
+pub(crate) fn seen(row: &[u64], left: &[u64], right: &[u64]) -> Cells
+    ensures { AreSeen (has_bit row.now) (has_bit left.now) (has_bit right.now) result }
+{
+    Cells {
+        left_only: meets(row, row, left, right, region_cell(Region::LeftOnly)),
+        both: meets(row, row, left, right, region_cell(Region::Both)),
+        right_only: meets(row, row, left, right, region_cell(Region::RightOnly)),
+        neither: true,
+    }
+}
+
+// Whether a region is one of some cells.
+fn has_region(cells: Cells, region: Region) -> bool
+    ensures { result ≡ cell_of cells region }
+{
+    match region {
+        Region::LeftOnly => cells.left_only,
+        Region::Both => cells.both,
+        Region::RightOnly => cells.right_only,
+    }
+}
+
+// Whether a region is one of some cells, if words say that it is occupied.
+fn has_if_occupied(words: Regions, cells: Cells, region: Region) -> bool
+    ensures { IsTrue result ↔ (is_occupied words region ≡ true → cell_of cells region ≡ true) }
+{
+    !is_occupied(words, region) || has_region(cells, region)
+}
+
+// Whether each region that words say is occupied is one of some cells.
+fn has_occupied(words: Regions, cells: Cells) -> bool
+    ensures { IsTrue result ↔ ((region : Region) → is_occupied words region ≡ true → cell_of cells region ≡ true) }
+{
+    if !has_if_occupied(words, cells, Region::LeftOnly) {
+        return false;
+    }
+    if !has_if_occupied(words, cells, Region::Both) {
+        return false;
+    }
+    has_if_occupied(words, cells, Region::RightOnly)
+}
+
+// Whether some region that words say is empty is one of some cells.
+fn has_empty(words: Regions, cells: Cells) -> bool
+    ensures { IsTrue result ↔ HasEmpty words cells }
+{
+    (words.left_only == Occupancy::Empty && cells.left_only)
+        || (words.both == Occupancy::Empty && cells.both)
+        || (words.right_only == Occupancy::Empty && cells.right_only)
+}
+
+// Whether the places that words about two sets leave satisfy the other rows, and lie in the regions that are occupied;
+// by the cells that have a place, and those that have one that has to stay.
+pub(crate) fn leads_by(
+    frame: &Rows,
+    left: &[u64],
+    right: &[u64],
+    all: Cells,
+    must: Cells,
+    words: Regions,
+) -> bool
+    requires two { 2 ≤ frame.now.count }
+    requires lives { Satisfies frame.now frame.now.count (bit_in frame.now 0) }
+    requires all { AreSeen (bit_in frame.now 0) (has_bit left.now) (has_bit right.now) all }
+    requires must { AreSeen (bit_in frame.now 1) (has_bit left.now) (has_bit right.now) must }
+    ensures { IsTrue result ↔ (Satisfies frame.now frame.now.count (left_at frame.now (has_bit left.now) (has_bit right.now) words) × AreMet words (has_bit left.now) (has_bit right.now) (left_at frame.now (has_bit left.now) (has_bit right.now) words)) }
+{
+    if !has_occupied(words, all) {
+        return false;
+    }
+    if !has_empty(words, all) {
+        return true;
+    }
+    if has_empty(words, must) {
+        return false;
+    }
+    open_met(frame, left, right, kept_cells(words))
+}
+
 // Whether the places that words about two sets leave satisfy the other rows, and lie in the regions that are occupied.
 pub(crate) fn leads_on(frame: &Rows, left: &[u64], right: &[u64], words: Regions) -> bool
     requires two { 2 ≤ frame.now.count }
     requires lives { Satisfies frame.now frame.now.count (bit_in frame.now 0) }
     ensures { IsTrue result ↔ (Satisfies frame.now frame.now.count (left_at frame.now (has_bit left.now) (has_bit right.now) words) × AreMet words (has_bit left.now) (has_bit right.now) (left_at frame.now (has_bit left.now) (has_bit right.now) words)) }
 {
-    let mask = frame.row(0);
-    if !are_met(mask, left, right, words) {
-        return false;
-    }
-    let kept = kept_cells(words);
-    let lost = kept.others();
-    if !meets(mask, mask, left, right, lost) {
-        return true;
-    }
-    let must = frame.row(1);
-    if meets(must, must, left, right, lost) {
-        return false;
-    }
-    open_met(frame, left, right, kept)
+    let all = seen(frame.row(0), left, right);
+    let must = seen(frame.row(1), left, right);
+    leads_by(frame, left, right, all, must, words)
 }
 
 // Whether words about two sets take no place away, and each region that is occupied has a place that has to stay.

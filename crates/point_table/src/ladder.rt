@@ -9,7 +9,7 @@ ghost use Rattle.point_table.specs.Ladders.{IsBoundOf, IsAlong, IsPushed, AreRow
 ghost use Rattle.point_table.specs.Bounds.{bound_to, AreBounds};
 ghost use Rattle.point_table.specs.Stretches.{AreNexts};
 
-use crate::bounds::{Bounds, are_same, narrow_all, no_bounds};
+use crate::bounds::{Bounds, are_same, bound, narrow_all, no_bounds};
 use crate::frame::{is_same, leads_on, narrowed};
 use crate::points::allowed_sets;
 use crate::rows::Rows;
@@ -198,13 +198,12 @@ impl Ladder {
         requires short { length self.now.path < pair_count self.now.problem }
         ensures { (rel : Rel) → IsTrue (has result rel) ↔ IsAlive (problem_at self.now.problem (self.now.path ++ rel ∷ [])) }
     {
-        RelSet {
-            equals: self.leads_to(Rel::Equals),
-            includes: self.leads_to(Rel::Includes),
-            included_in: self.leads_to(Rel::IncludedIn),
-            overlaps: self.leads_to(Rel::Overlaps),
-            disjoint: self.leads_to(Rel::Disjoint),
-        }
+        let _few = self.problem.pair_count();
+        let pair = self.len;
+        let (left, right) = self.problem.pair_at(pair as u32);
+        let (left, right) = (self.rows.row(left as usize), self.rows.row(right as usize));
+        let last = self.stretches.len() - 1;
+        bound(&self.stretches[last].frame, left, right, self.sets[pair])
     }
 
     /// Puts a relation at the end of the path, if that leads to an alive one.
