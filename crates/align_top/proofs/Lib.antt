@@ -2,6 +2,8 @@ pub mod WordsLemmas
 pub mod CutLemmas
 pub mod ChainLemmas
 pub mod ListingLemmas
+pub mod PlaceLemmas
+pub mod TableLemmas
 pub mod RequestLemmas
 pub mod AskedLemmas
 pub mod CarryLemmas

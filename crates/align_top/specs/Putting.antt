@@ -1,5 +1,5 @@
 -- What of a listing has been put, and how far its budget has come.
-use Rattle.std.specs.Prelude.{◌≡◌, ◌≤◌, ℕ, IsTrue, List, [], ◌∷◌, length, flat_map, Option, Some, None}
+use Rattle.std.specs.Prelude.{◌≡◌, ◌≢◌, ◌≤◌, ℕ, IsTrue, List, [], ◌∷◌, length, flat_map, Option, Some, None}
 use Rattle.rcc5_core.specs.declared.Rel.{Rel}
 use Rattle.outer_store.specs.Bytes.{GrownInPart, added}
 use Rattle.world_model.specs.Problem.{Problem, pair_count}
@@ -9,6 +9,7 @@ use Rattle.world_model.specs.Node.{IsNodeFrom, IsNodeList, IsSpent, IsCut}
 use Rattle.world_model.specs.Trial.{worlds_between}
 use Rattle.world_search.specs.Searching.{SearchState, Came, FellBy, IsNext}
 use Rattle.world_search.specs.Steps.{StandsBehind}
+use Rattle.table_walk.specs.Tables.{TablesState, IsNewListing}
 use Rattle.align_top.specs.declared.listing.Met.{Met}
 use Rattle.align_top.specs.declared.listing.Met.TheVariants as met
 use Rattle.align_top.specs.declared.Order.{Order}
@@ -77,3 +78,9 @@ pub record IsStop (one other : SearchState) (cut : Option (List Rel)) : Type 0 w
 abbrev pub worlds_from : Problem → Option (List Rel) → List (List Rel)
 worlds_from p None = []
 worlds_from p (Some at) = worlds_between p at None
+
+-- tables that list in the place of a search: nobody counts nodes, some world may be put, and they begin at the start
+pub record AreTablesFor (order : Order) (tables : TablesState) : Type 0 where
+  pub uncounted : order.nodes ≡ None
+  pub wanted : order.worlds ≢ Some 0
+  pub begun : IsNewListing order.problem order.start tables

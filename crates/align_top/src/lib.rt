@@ -12,6 +12,7 @@ mod listing;
 mod names;
 mod put;
 mod read;
+mod table_listing;
 mod top;
 mod words;
 

@@ -1,4 +1,4 @@
-//! The listing of worlds on a sink, within a budget.
+//! The listing of worlds on a sink, within a budget: by a table of all points where nobody counts nodes, and else by the search.
 ghost use Rattle.std.specs.Prelude.{◌≡◌, ◌≢◌, ◌++◌, [], ◌∷◌, None, Some, codes, decimal, map, string_bytes, IfOk, OnOk, OnErr, IsTrue, ◌↔◌};
 ghost use Rattle.rcc5_core.specs.Relation.{letter_of};
 ghost use Rattle.constraint_set.specs.Shape.{shape_of};
@@ -7,6 +7,7 @@ ghost use Rattle.align_top.specs.Output.{world_line, last_line};
 ghost use Rattle.align_top.specs.Run.{sink_state, Leaves, LeavesPiece};
 ghost use Rattle.align_top.specs.Putting.{IsPutTo, IsPutToCut, IsPutPartly, IsMet, IsStop, IsOrder};
 
+use crate::table_listing::{put_tables, tables_for};
 use crate::{Order, put_line};
 use outer_store::{Sink, StoreFault};
 use point_query::Asker;
@@ -67,8 +68,8 @@ fn next_met(
     }
 }
 
-// One world fewer may be put.
-fn one_less(left: Option<u64>) -> Option<u64>
+/// One world fewer may be put.
+pub(crate) fn one_less(left: Option<u64>) -> Option<u64>
     requires { left ≢ Some 0 }
     ensures { FellBy left result 1 }
 {
@@ -78,8 +79,8 @@ fn one_less(left: Option<u64>) -> Option<u64>
     }
 }
 
-// Whether no world may be put any more.
-fn is_spent(left: Option<u64>) -> bool
+/// Whether no world may be put any more.
+pub(crate) fn is_spent(left: Option<u64>) -> bool
     ensures { IsTrue result ↔ (left ≡ Some 0) }
 {
     matches!(left, Some(0))
@@ -186,6 +187,9 @@ pub fn put_worlds<W: Sink>(alloc: Global, out: &mut W, order: &Order) -> Result<
     ensures { Leaves result (λ listed. IsPutToCut order.now (W.received out.old) (W.received out.new) listed.cut listed.count) (IsPutPartly order.now (W.received out.old) (W.received out.new)) (sink_state (W.received out.old) (W.faults out.old)) (sink_state (W.received out.new) (W.faults out.new)) }
 {
     let _built = order.problem.taxonomy_count();
+    if let Some(mut tables) = tables_for(alloc, order)? {
+        return put_tables(alloc, out, order, &mut tables);
+    }
     let mut asker = Asker::new(alloc, &order.problem)?;
     put_asked_worlds(alloc, out, order, &mut asker)
 }
