@@ -7,6 +7,9 @@ use std::alloc::AllocError;
 /// No more clauses of an asker are idle when a search answers.
 const MOST_IDLE: u64 = 1024;
 
+/// So many turns pass between two looks at how many clauses are idle.
+const TURNS: u32 = 16_384;
+
 /// Forgets the idle clauses of an asker where they are many.
 pub(crate) fn tidy(asker: &mut Asker) -> Result<(), AllocError>
     ensures few { OnOk result (length asker.new.solver.idle ≤ 1024) }
@@ -17,4 +20,17 @@ pub(crate) fn tidy(asker: &mut Asker) -> Result<(), AllocError>
         asker.clear_lines();
     }
     Ok(())
+}
+
+/// Counts a turn, and at each `TURNS`th one forgets the idle clauses where they are many.
+///
+/// To count them takes a look at each clause of the asker, which is too dear for each turn.
+pub(crate) fn tidy_by_turns(asker: &mut Asker, turns: u32) -> Result<u32, AllocError>
+    ensures shape { asker.new.shape ≡ asker.old.shape }
+{
+    if turns < TURNS {
+        return Ok(turns + 1);
+    }
+    tidy(asker)?;
+    Ok(0)
 }

@@ -14,7 +14,7 @@ ghost use Rattle.world_search.specs.declared.walk.Stage.TheVariants.{Start, Stan
 
 use crate::first::begin;
 use crate::guide::Guide;
-use crate::idle::tidy;
+use crate::idle::{tidy, tidy_by_turns};
 use crate::step::{Nodes, Step, TableStep};
 use crate::walk::{Span, Stage, Walk, pass, visit};
 use constraint_set::Problem;
@@ -118,14 +118,15 @@ fn walk_on(
     ensures shape { asker.new.shape ≡ asker.old.shape }
 {
     begin(problem, asker, guide, span, walk)?;
-    tidy(asker)?;
+    let mut turns = 0;
     while walk.stage == Stage::Standing {
-        let stop = turn(alloc, problem, asker, guide, span, walk, nodes)?;
-        tidy(asker)?;
-        if let Some(step) = stop {
+        if let Some(step) = turn(alloc, problem, asker, guide, span, walk, nodes)? {
+            tidy(asker)?;
             return Ok(step);
         }
+        turns = tidy_by_turns(asker, turns)?;
     }
+    tidy(asker)?;
     Ok(TableStep::End(None))
 }
 

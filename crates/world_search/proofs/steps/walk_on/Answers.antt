@@ -3,16 +3,24 @@ use Rattle.world_search.specs.Walking.{state_of}
 use Rattle.world_search.proofs.Passing.{came_join}
 use Rattle.world_search.proofs.steps.walk_on.Goals as goal
 
-pub returns-in_err-stop-clause-came : goal.returns-in_err-stop-clause-came
-returns-in_err-stop-clause-came c =
+pub returns-in_err-step-clause-came : goal.returns-in_err-step-clause-came
+returns-in_err-step-clause-came c =
     let p = c.args.problem.now in
     let from = c.args.span.now.from in
     let to = c.args.span.now.to in
     came_join (state_of p from to c.args.walk.now) (state_of p from to c.loop-alloc.walk) (state_of p from to c.turn.new.walk)
     c.args.nodes.now.left c.loop-alloc.nodes.left c.turn.new.nodes.left [] [] c.loop-alloc.invariant.came c.turn.ensures.came
 
-pub returns-in_err-tidy-2-clause-came : goal.returns-in_err-tidy-2-clause-came
-returns-in_err-tidy-2-clause-came c =
+pub returns-in_err-tidy-clause-came : goal.returns-in_err-tidy-clause-came
+returns-in_err-tidy-clause-came c =
+    let p = c.args.problem.now in
+    let from = c.args.span.now.from in
+    let to = c.args.span.now.to in
+    came_join (state_of p from to c.args.walk.now) (state_of p from to c.loop-alloc.walk) (state_of p from to c.turn.new.walk)
+    c.args.nodes.now.left c.loop-alloc.nodes.left c.turn.new.nodes.left [] [] c.loop-alloc.invariant.came c.turn.ensures.came
+
+pub returns-in_err-turns-clause-came : goal.returns-in_err-turns-clause-came
+returns-in_err-turns-clause-came c =
     let p = c.args.problem.now in
     let from = c.args.span.now.from in
     let to = c.args.span.now.to in
@@ -33,8 +41,7 @@ loop-alloc-preserved c =
     let from = c.args.span.now.from in
     let to = c.args.span.now.to in
     record {
-      shape = c.in_ok-tidy-2.ensures.shape ∙ c.turn.ensures.shape ∙ c.loop-alloc.invariant.shape;
-      few = c.in_ok-tidy-2.ensures.few;
+      shape = c.tidy_by_turns.ensures.shape ∙ c.turn.ensures.shape ∙ c.loop-alloc.invariant.shape;
       placed = c.turn.ensures.placed;
       knows = c.turn.ensures.knows;
       begun = c.turn.ensures.begun;

@@ -9,7 +9,6 @@ use Rattle.world_search.proofs.steps.walk_on.Given as goal
 abbrev pub invariant-loop-alloc : goal.invariant-loop-alloc
 invariant-loop-alloc l = record {
   shape : l.asker.shape ≡ l.fn.asker.shape;
-  few : length l.asker.solver.idle ≤ 1024;
   placed : IsPlaced l.problem l.span.from l.span.to l.walk;
   knows : Knows l.problem l.walk;
   begun : l.walk.stage ≢ Start;
