@@ -15,3 +15,5 @@ mod problems;
 mod searches;
 #[cfg(test)]
 mod solver_and_book;
+#[cfg(test)]
+mod tables;
