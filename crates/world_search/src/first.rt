@@ -10,7 +10,7 @@ ghost use Rattle.world_search.specs.declared.walk.Stage.TheVariants.{Start};
 
 use crate::behind::next_set;
 use crate::guide::Guide;
-use crate::idle::tidy;
+use crate::idle::tidy_by_turns;
 use crate::walk::{Span, Stage, Walk, pass};
 use constraint_set::Problem;
 use point_query::Asker;
@@ -73,9 +73,10 @@ fn find(
     ensures guide { IsGuideOf problem.now walk.new.path guide.new }
     ensures shape { asker.new.shape ≡ asker.old.shape }
 {
+    let mut turns = 0;
     while walk.path.len() < from.len() {
         let alive = guide.is_alive(problem, asker, &walk.path)?;
-        tidy(asker)?;
+        turns = tidy_by_turns(asker, turns)?;
         if !alive {
             pass(problem, guide, walk);
             return Ok(());
