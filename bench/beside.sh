@@ -14,7 +14,7 @@ g++ -O2 -o "$folder/walk" "$top/bench/walk.cc"
 [ $# -gt 0 ] || set -- "generated 7 14" "generated 7 96" "generated 7 256" "generated 7 512" "generated 7 1024" "flat 3 4" "flat 3 5" "flat 3 6" \
   "flat 4 5" "loose 2 4" "loose 4 10" "loose 6 10" "chain 3 4" "chain 5 3" "chain 8 3" "sums 6 3" "split 4 4" "roots 3 2" \
   "flat 3 3 sibling=off" "flat 3 4 coverage=off" "flat 3 4 nonempty=off"
-seconds() { awk '{ printf "%.2f", $1 + $2 }' "$1"; }
+seconds() { tail -n 1 "$1" | awk '{ printf "%.2f", $1 + $2 }'; }
 for problem in "$@"; do
   # shellcheck disable=SC2086
   set -- $problem
