@@ -2,7 +2,7 @@
 # Probes all nodes of the furniture example and of a generated problem of 96 concepts, in order, with one
 # asker for each: by is_alive, which answers yes or no, and by probe, which names the first need without a
 # point and its clause. Prints how many nodes there are, how many of them are alive, for how many the solver was
-# to search (a clause that is drafted it only checks and keeps), the processor time, the least of three runs, and
+# to search, the processor time, the least of three runs, and
 # the probes a second.
 set -eu
 cd "$(git rev-parse --show-toplevel)/crates/measure"

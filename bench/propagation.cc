@@ -1,6 +1,7 @@
 // Unit propagation with two watched literals, as a plain program writes it: what bench/propagation.sh
-// sets beside the proved one. The same clauses, the same assumptions, the same lists of watches: a list
-// of clauses a literal, no blocking literals, no special case for two literals.
+// sets beside the proved one. The same clauses, the same assumptions, the same chains of watches: a clause
+// has a link for each of its two watches, and a literal the first watch of its chain. No blocking
+// literals, no special case for two literals.
 #include <cstdint>
 #include <cstdio>
 #include <cstdlib>
@@ -9,66 +10,70 @@
 
 struct Trail {
     struct Place { uint32_t lit; uint32_t level; int64_t reason; };
-    struct Head { uint64_t start; uint32_t length; uint64_t id; };
+    struct Link { uint32_t at; uint32_t slot; };
+    struct Head { uint64_t start; uint32_t length; bool live; uint64_t id; Link links[2]; };
+    static constexpr Link none = {UINT32_MAX, 0};
     std::vector<Head> heads;
     std::vector<uint32_t> lits;
-    std::vector<std::vector<uint32_t>> watches;
+    std::vector<Link> chains;
     std::vector<uint32_t> marks;
     std::vector<Place> places;
     std::vector<size_t> starts;
     size_t head = 0;
 
-    explicit Trail(uint32_t variables) : watches(2 * variables), marks(2 * variables, 0) {}
+    explicit Trail(uint32_t variables) : chains(2 * variables, none), marks(2 * variables, 0) {}
     bool is_true(uint32_t lit) const { return marks[lit] != 0; }
     bool is_false(uint32_t lit) const { return marks[lit ^ 1] != 0; }
     void mark(uint32_t lit, int64_t reason) {
         places.push_back({lit, (uint32_t)starts.size(), reason});
         marks[lit] = (uint32_t)places.size();
     }
+    void put_front(uint32_t lit, Link entry) {
+        heads[entry.at].links[entry.slot] = chains[lit];
+        chains[lit] = entry;
+    }
     // Watches the first literal and the next that differs.
     void add(const uint32_t* clause, uint32_t length, uint64_t id) {
         uint32_t at = (uint32_t)heads.size();
         uint64_t start = lits.size();
         lits.insert(lits.end(), clause, clause + length);
-        heads.push_back({start, length, id});
+        heads.push_back({start, length, true, id, {none, none}});
         uint32_t* own = &lits[start];
         uint32_t other = 1;
         while (other < length && own[other] == own[0]) other++;
         if (other >= length) return;
         std::swap(own[1], own[other]);
-        watches[own[0]].push_back(at);
-        watches[own[1]].push_back(at);
+        put_front(own[0], {at, 0});
+        put_front(own[1], {at, 1});
     }
     void assume(uint32_t lit) { starts.push_back(places.size()); mark(lit, -1); }
     int64_t propagate() {
         while (head < places.size()) {
             uint32_t falsified = places[head++].lit ^ 1;
-            std::vector<uint32_t>& list = watches[falsified];
-            size_t keep = 0;
-            for (size_t i = 0; i < list.size(); i++) {
-                uint32_t at = list[i];
-                uint32_t* own = &lits[heads[at].start];
-                uint32_t length = heads[at].length;
-                if (own[0] == falsified) std::swap(own[0], own[1]);
-                if (is_true(own[0])) { list[keep++] = at; continue; }
+            Link before = none, entry = chains[falsified];
+            while (entry.at != UINT32_MAX) {
+                Head& clause = heads[entry.at];
+                Link next = clause.links[entry.slot];
+                uint32_t* own = &lits[clause.start];
+                uint32_t other = own[1 - entry.slot];
+                if (!clause.live || is_true(other)) { before = entry; entry = next; continue; }
                 bool moved = false;
-                for (uint32_t k = 2; k < length; k++)
-                    if (!is_false(own[k]) && own[k] != own[0]) {
-                        std::swap(own[1], own[k]);
-                        watches[own[1]].push_back(at);
+                for (uint32_t k = 2; k < clause.length; k++)
+                    if (!is_false(own[k]) && own[k] != other) {
+                        if (before.at == UINT32_MAX) chains[falsified] = next;
+                        else heads[before.at].links[before.slot] = next;
+                        std::swap(own[entry.slot], own[k]);
+                        put_front(own[entry.slot], entry);
                         moved = true;
                         break;
                     }
-                if (moved) continue;
-                list[keep++] = at;
-                if (is_false(own[0])) {
-                    while (++i < list.size()) list[keep++] = list[i];
-                    list.resize(keep);
-                    return at;
+                if (!moved) {
+                    if (is_false(other)) return entry.at;
+                    mark(other, entry.at);
+                    before = entry;
                 }
-                mark(own[0], at);
+                entry = next;
             }
-            list.resize(keep);
         }
         return -1;
     }

@@ -1,5 +1,5 @@
 #!/usr/bin/env bash
-# Unit propagation by watch_arena beside a plain C++ program with the same watches on the same input: a
+# Unit propagation by watch_arena beside a plain C++ program with the same chains of watches on the same input: a
 # chain of 1,000,000 implications, ten times, and random clauses of three literals, three times as many
 # as variables, until a clause is false, twenty times. Prints how many literals each marked, and its
 # processor time less that of making the clauses, the least of five runs.

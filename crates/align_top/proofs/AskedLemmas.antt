@@ -18,11 +18,11 @@ use Rattle.outer_store.specs.Faults.{Counts}
 use Rattle.align_top.specs.declared.Order.{Order}
 use Rattle.align_top.specs.declared.Status.{Status}
 use Rattle.align_top.specs.declared.Status.TheVariants as status
-use Rattle.align_top.specs.declared.Request.{Request}
-use Rattle.align_top.specs.declared.Request.TheVariants.{Align}
-use Rattle.align_top.specs.declared.UsageKind.{UsageKind}
-use Rattle.align_top.specs.Words.{request_of}
-use Rattle.align_top.specs.Help.{input_of}
+use Rattle.command_line.specs.declared.Request.{Request}
+use Rattle.command_line.specs.declared.Request.TheVariants.{Align}
+use Rattle.command_line.specs.declared.UsageKind.{UsageKind}
+use Rattle.command_line.specs.Words.{request_of}
+use Rattle.command_line.specs.Help.{input_of}
 use Rattle.align_top.proofs.RequestLemmas.{askable}
 use Rattle.align_top.specs.Output.{start_of, order_from, order_by, order_of}
 use Rattle.align_top.specs.Run.{StoreState, store_state, IsQuiet, AreHeld, name_written}

@@ -1,4 +1,3 @@
-pub mod WordsLemmas
 pub mod CutLemmas
 pub mod ChainLemmas
 pub mod ListingLemmas

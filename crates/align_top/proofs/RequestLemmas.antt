@@ -2,14 +2,14 @@
 use Rattle.std.proofs.Common.{◌≡◌, ℕ, Bool, true, false, List, [], ◌∷◌, Option, None, Some, Result, Ok, Err, IfSome, IfNone, refl, ap, subst}
 use Rattle.std.specs.Prelude.{not, ◌||◌, ◌&&◌, cond, find, option_map, option_and_then, unwrap_or, bytes_eq}
 use Rattle.std.specs.List.{list_any}
-use Rattle.align_top.specs.declared.Command.{Command}
-use Rattle.align_top.specs.declared.Command.TheVariants as command
-use Rattle.align_top.specs.declared.Key.{Key}
-use Rattle.align_top.specs.declared.Key.TheVariants.{In, Nodes, Worlds, Token, Resume}
-use Rattle.align_top.specs.declared.Operand.{Operand}
-use Rattle.align_top.specs.declared.Request.{Request}
-use Rattle.align_top.specs.declared.UsageKind.{UsageKind}
-use Rattle.align_top.specs.Words.{row_of, number_of, fail_if, need, and_then, command_named, operands_of, same_key, is_given, value_of, limit_of, is_lacking, lacks_token, is_same_value, has_same_name, request_for, request_of}
+use Rattle.command_line.specs.declared.Command.{Command}
+use Rattle.command_line.specs.declared.Command.TheVariants as command
+use Rattle.command_line.specs.declared.Key.{Key}
+use Rattle.command_line.specs.declared.Key.TheVariants.{In, Nodes, Worlds, Token, Resume}
+use Rattle.command_line.specs.declared.Operand.{Operand}
+use Rattle.command_line.specs.declared.Request.{Request}
+use Rattle.command_line.specs.declared.UsageKind.{UsageKind}
+use Rattle.command_line.specs.Words.{row_of, number_of, fail_if, need, and_then, command_named, operands_of, same_key, is_given, value_of, limit_of, is_lacking, lacks_token, is_same_value, has_same_name, request_for, request_of}
 use Rattle.align_top.specs.Steps.{IsAskable}
 
 -- a value that comes of some steps comes of each

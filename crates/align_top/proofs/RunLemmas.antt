@@ -14,12 +14,12 @@ use Rattle.cleantax_text.specs.Reading.{text_result}
 use Rattle.resume_token.specs.declared.TokenKind.{TokenKind}
 use Rattle.resume_token.specs.Token.{token_text}
 use Rattle.align_top.specs.declared.Order.{Order}
-use Rattle.align_top.specs.declared.UsageKind.{UsageKind}
-use Rattle.align_top.specs.declared.Request.{Request}
-use Rattle.align_top.specs.declared.Request.TheVariants.{Align}
+use Rattle.command_line.specs.declared.UsageKind.{UsageKind}
+use Rattle.command_line.specs.declared.Request.{Request}
+use Rattle.command_line.specs.declared.Request.TheVariants.{Align}
 use Rattle.align_top.specs.declared.Status.{Status}
 use Rattle.align_top.specs.declared.Status.TheVariants as status
-use Rattle.align_top.specs.Words.{request_of}
+use Rattle.command_line.specs.Words.{request_of}
 use Rattle.align_top.specs.Output.{end_line, listing_text, listing_status, order_from, order_by, order_of, start_of, IsOrderAnswer, IsLastPut}
 use Rattle.align_top.specs.Putting.{IsPutPartly}
 use Rattle.align_top.specs.Run.{Answered, ending_of, StoreState, SinkState, IsAsked, name_written, IsKeptBut, IsPutInPart, IsInterrupted, IsRunBy, IsRun}

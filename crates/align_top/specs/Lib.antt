@@ -1,7 +1,5 @@
-pub mod Words
 pub mod Output
 pub mod Run
 pub mod Putting
 pub mod Steps
 pub mod Resuming
-pub mod Help

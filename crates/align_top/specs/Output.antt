@@ -14,13 +14,12 @@ use Rattle.resume_token.specs.declared.TokenKind.{TokenKind}
 use Rattle.resume_token.specs.declared.TokenKind.TheVariants as token
 use Rattle.resume_token.specs.Token.{token_text, token_result}
 use Rattle.align_top.specs.declared.Order.{Order}
-use Rattle.align_top.specs.declared.UsageKind.{UsageKind}
-use Rattle.align_top.specs.declared.UsageKind.TheVariants as usage
+use Rattle.command_line.specs.declared.UsageKind.{UsageKind}
 use Rattle.align_top.specs.declared.Status.{Status}
 use Rattle.align_top.specs.declared.Status.TheVariants.{Done, RefusedText, Usage, ReadFault, WriteFault, Cut, NoWorld, RefusedToken, NoMemory}
-use Rattle.align_top.specs.declared.Request.{Request}
-use Rattle.align_top.specs.declared.Request.TheVariants.{Align}
-use Rattle.align_top.specs.Words.{request_of}
+use Rattle.command_line.specs.declared.Request.{Request}
+use Rattle.command_line.specs.declared.Request.TheVariants.{Align}
+use Rattle.command_line.specs.Words.{usage_name, request_of}
 
 -- the exit code of a status
 abbrev pub code_of : Status → ℕ
@@ -39,20 +38,6 @@ abbrev pub line_of : List ℕ → List ℕ
 line_of text = text ++ 10 ∷ []
 
 -- the names of faults, as they are printed
-abbrev pub usage_name : UsageKind → List ℕ
-usage_name usage.NoCommand = codes "NoCommand"
-usage_name usage.UnknownCommand = codes "UnknownCommand"
-usage_name usage.NotOperand = codes "NotOperand"
-usage_name usage.UnknownKey = codes "UnknownKey"
-usage_name usage.KeyTwice = codes "KeyTwice"
-usage_name usage.BadSwitch = codes "BadSwitch"
-usage_name usage.BadNumber = codes "BadNumber"
-usage_name usage.ZeroBudget = codes "ZeroBudget"
-usage_name usage.EmptyName = codes "EmptyName"
-usage_name usage.MissingKey = codes "MissingKey"
-usage_name usage.BudgetWithoutToken = codes "BudgetWithoutToken"
-usage_name usage.SameName = codes "SameName"
-
 abbrev pub text_name : TextKind → List ℕ
 text_name text.NotUtf8 = codes "NotUtf8"
 text_name text.BadLine = codes "BadLine"

@@ -7,10 +7,10 @@ use Rattle.outer_store.specs.Faults.{Counts, Rose, IfFailed}
 use Rattle.outer_store.specs.declared.fault.StoreFault.{StoreFault}
 use Rattle.align_top.specs.declared.Status.{Status}
 use Rattle.align_top.specs.declared.Status.TheVariants.{Done, RefusedText, Usage, ReadFault, WriteFault, Cut, NoWorld, RefusedToken, NoMemory}
-use Rattle.align_top.specs.declared.UsageKind.{UsageKind}
-use Rattle.align_top.specs.declared.Request.{Request}
-use Rattle.align_top.specs.declared.Request.TheVariants.{Align}
-use Rattle.align_top.specs.Words.{request_of}
+use Rattle.command_line.specs.declared.UsageKind.{UsageKind}
+use Rattle.command_line.specs.declared.Request.{Request}
+use Rattle.command_line.specs.declared.Request.TheVariants.{Align}
+use Rattle.command_line.specs.Words.{request_of}
 use Rattle.align_top.specs.Output.{IsAnswer, end_line}
 
 -- the four ways in which a run ends: it answers, a read failed, a write failed, or memory was wanting

@@ -13,11 +13,11 @@ use Rattle.cleantax_text.specs.Reading.{text_result}
 use Rattle.resume_token.specs.declared.TokenKind.{TokenKind}
 use Rattle.resume_token.specs.Token.{token_text, token_result}
 use Rattle.align_top.specs.declared.Order.{Order}
-use Rattle.align_top.specs.declared.UsageKind.{UsageKind}
+use Rattle.command_line.specs.declared.UsageKind.{UsageKind}
 use Rattle.align_top.specs.declared.Status.{Status}
 use Rattle.align_top.specs.declared.Status.TheVariants.{Done, RefusedText, ReadFault, Cut, NoWorld, RefusedToken, NoMemory}
-use Rattle.align_top.specs.declared.Request.{Request}
-use Rattle.align_top.specs.declared.Request.TheVariants.{Align}
+use Rattle.command_line.specs.declared.Request.{Request}
+use Rattle.command_line.specs.declared.Request.TheVariants.{Align}
 use Rattle.align_top.specs.Output.{IsListed, cut_line, last_line, order_of}
 use Rattle.align_top.specs.Putting.{IsOrder, IsPutPartly}
 use Rattle.align_top.specs.Run.{StoreState, SinkState, IsQuiet, AreHeld, HasReadFailed, HasWriteFailed, IsKeptBut, IsWritten}

@@ -5,7 +5,7 @@ ghost use Rattle.cleantax_text.specs.Reading.{text_result};
 ghost use Rattle.constraint_set.specs.Facts.{IsAsRead};
 ghost use Rattle.resume_token.specs.Token.{token_result, kind_of};
 ghost use Rattle.align_top.specs.declared.Status.TheVariants as status;
-ghost use Rattle.align_top.specs.Words.{request_of};
+ghost use Rattle.command_line.specs.Words.{request_of};
 ghost use Rattle.align_top.specs.Run.{store_state, IsQuiet, name_written};
 ghost use Rattle.align_top.specs.Steps.{AreFront, problem_in, start_in, token_end, IsRefused, ComesOf, IsUnread, IsWithout, IsStart, IsWithoutStart, IsAskable, ComesTo, IsReady, IsEarlyEnd};
 

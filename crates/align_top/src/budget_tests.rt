@@ -15,6 +15,14 @@ const DIGEST: &str = "0e840ad3c362ef009568403e4c4fb237f9a9b4416ef7c8fbc4f86c7975
 const TOKEN: &str =
     "token 2 2 1 0e840ad3c362ef009568403e4c4fb237f9a9b4416ef7c8fbc4f86c79753f6d10 <\n";
 
+// The same two where they are said to be equal.
+const EQUAL: &str = "taxonomy 1\n(A)\ntaxonomy 2\n(B)\narticulation\n[1.A equals 2.B]\n";
+
+// Three concepts of three taxonomies. This digest was made by another program too.
+const THREE: &str = "taxonomy 1\n(A)\ntaxonomy 2\n(B)\ntaxonomy 3\n(C)\n";
+
+const THREE_DIGEST: &str = "1b1fe698676fead9afd530e93f8a987ad99f352ba880bb81a4b208480bef0c37";
+
 // Seven worlds.
 const SEVEN: &str = "taxonomy 1\n(A B C)\ntaxonomy 2\n(D E F)\narticulation\n[1.A equals 2.D]\n";
 
@@ -78,57 +86,56 @@ fn a_listing_is_cut_at_its_budget(rt: HostRuntime) -> Result<(), Fail> {
     Ok(())
 }
 
-// The token, what is put and the exit code.
+// A problem, the words of a token before its digest, the digest, its position, what is put and the exit code.
+const JUDGED: [(&str, &str, &str, &str, &str, u8); 10] = [
+    (PLAIN, "2 2 1", DIGEST, "<", "<\nx\n!\ncomplete 3\n", 0),
+    (PLAIN, "1", DIGEST, "<", "<\nx\n!\ncomplete 3\n", 0),
+    (PLAIN, "2 2 3", DIGEST, "<", "token OtherProblem\n", 7),
+    (PLAIN, "2 9 1", DIGEST, "<", "token BadToken\n", 7),
+    (PLAIN, "1", DIGEST, "?", "token BadPosition\n", 7),
+    (PLAIN, "1", DIGEST, "<<", "token BadPosition\n", 7),
+    (PLAIN, "2 2 1", THREE_DIGEST, "<", "token OtherProblem\n", 7),
+    (EQUAL, "1", DIGEST, "<", "token OtherProblem\n", 7),
+    (THREE, "1", THREE_DIGEST, "!!!", "token OtherProblem\n", 7),
+    (THREE, "2 3 3", THREE_DIGEST, "!!!", "!!!\ncomplete 1\n", 0),
+];
+
 #[test]
 fn a_token_is_judged(rt: HostRuntime) -> Result<(), Fail> {
     let alloc = rt.alloc();
-    let rows = [
-        (
-            format!(in alloc; "token 2 2 1 {DIGEST} <\n")?,
-            "<\nx\n!\ncomplete 3\n",
-            0,
-        ),
-        (
-            format!(in alloc; "token 1 {DIGEST} <\n")?,
-            "<\nx\n!\ncomplete 3\n",
-            0,
-        ),
-        (
-            format!(in alloc; "token 2 2 3 {DIGEST} <\n")?,
-            "token OtherProblem\n",
-            7,
-        ),
-        (
-            format!(in alloc; "token 2 9 1 {DIGEST} <\n")?,
-            "token BadToken\n",
-            7,
-        ),
-        (
-            format!(in alloc; "token 1 {DIGEST} ?\n")?,
-            "token BadPosition\n",
-            7,
-        ),
-        (
-            format!(in alloc; "token 1 {DIGEST} <<\n")?,
-            "token BadPosition\n",
-            7,
-        ),
-        (String::new(alloc), "token BadToken\n", 7),
-    ];
-    for (token, lines, code) in rows {
-        let mut store = store_of(alloc, PLAIN, 0)?;
+    for (text, head, digest, position, lines, code) in JUDGED {
+        let mut store = store_of(alloc, text, 0)?;
+        let token = format!(in alloc; "token {head} {digest} {position}\n")?;
         store.hold("r", token.as_bytes())?;
         let (end, received) = align(alloc, &mut store, "resume=r", 0)?;
         assert_eq!(rt; received.as_slice(), lines.as_bytes(), "{token}");
         assert_eq!(rt; end, code, "{token}");
     }
-    let other = "taxonomy 1\n(A)\ntaxonomy 2\n(B)\narticulation\n[1.A equals 2.B]\n";
-    let mut store = store_of(alloc, other, 0)?;
-    let token = format!(in alloc; "token 1 {DIGEST} <\n")?;
-    store.hold("r", token.as_bytes())?;
+    let mut store = store_of(alloc, PLAIN, 0)?;
+    store.hold("r", b"")?;
     let (end, received) = align(alloc, &mut store, "resume=r", 0)?;
-    assert_eq!(rt; received.as_slice(), b"token OtherProblem\n".as_slice());
+    assert_eq!(rt; received.as_slice(), b"token BadToken\n".as_slice());
     assert_eq!(rt; end, 7);
+    Ok(())
+}
+
+#[test]
+fn three_taxonomies_are_listed_in_two_runs(rt: HostRuntime) -> Result<(), Fail> {
+    let alloc = rt.alloc();
+    let mut store = store_of(alloc, THREE, 0)?;
+    let (end, first) = align(alloc, &mut store, "nodes=4 token=t", 0)?;
+    assert_eq!(rt; first.as_slice(), b"===\ncut 1\n".as_slice());
+    assert_eq!(rt; end, 5);
+    let token = format!(in alloc; "token 2 3 3 {THREE_DIGEST} ==>\n")?;
+    assert_eq!(rt; store.bytes("t"), Some(token.as_bytes()));
+    let (end, others) = align(alloc, &mut store, "resume=t", 0)?;
+    assert_eq!(rt; end, 0);
+    let mut listed = worlds_of(alloc, &first, 3)?;
+    listed.extend_from_slice(&worlds_of(alloc, &others, 3)?)?;
+    let (end, all) = align(alloc, &mut store, "", 0)?;
+    assert_eq!(rt; end, 0);
+    assert_eq!(rt; listed.as_slice(), worlds_of(alloc, &all, 3)?.as_slice());
+    assert!(rt; listed.len() > 100);
     Ok(())
 }
 
@@ -228,11 +235,11 @@ fn a_listing_goes_on_at_any_position(rt: HostRuntime) -> Result<(), Fail> {
     Ok(())
 }
 
-// What is put before the last line.
-fn worlds_of(alloc: Global, received: &[u8]) -> Result<Vec<u8>, AllocError> {
+// Those of the lines that were put which have so many letters.
+fn worlds_of(alloc: Global, received: &[u8], letters: usize) -> Result<Vec<u8>, AllocError> {
     let mut worlds = Vec::new(alloc);
     for line in received.split(|b| *b == b'\n') {
-        if line.len() == 15 {
+        if line.len() == letters {
             worlds.extend_from_slice(line)?;
             worlds.push(b'\n')?;
         }
@@ -248,7 +255,7 @@ fn runs_in_a_chain_list_each_world_once(rt: HostRuntime) -> Result<(), Fail> {
         let mut store = store_of(alloc, SEVEN, 0)?;
         let first = format!(in alloc; "{budget} token=t")?;
         let (mut end, received) = align(alloc, &mut store, first.as_str(), 0)?;
-        let mut listed = worlds_of(alloc, &received)?;
+        let mut listed = worlds_of(alloc, &received, 15)?;
         for _ in 0..1000 {
             if end != 5 {
                 break;
@@ -258,7 +265,7 @@ fn runs_in_a_chain_list_each_world_once(rt: HostRuntime) -> Result<(), Fail> {
             let words = format!(in alloc; "{budget} token=t resume=r")?;
             let (next, received) = align(alloc, &mut store, words.as_str(), 0)?;
             end = next;
-            listed.extend_from_slice(&worlds_of(alloc, &received)?)?;
+            listed.extend_from_slice(&worlds_of(alloc, &received, 15)?)?;
         }
         assert_eq!(rt; end, 0, "{budget}");
         assert_eq!(rt; listed.as_slice(), SEVEN_LINES.as_bytes(), "{budget}");

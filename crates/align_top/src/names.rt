@@ -1,8 +1,8 @@
 //! The exit code of a status, and how faults are printed.
 ghost use Rattle.std.specs.Prelude.{◌≡◌};
-ghost use Rattle.align_top.specs.Output.{code_of, usage_name, text_name, token_name};
+ghost use Rattle.align_top.specs.Output.{code_of, text_name, token_name};
 
-use crate::{Status, UsageKind};
+use crate::Status;
 use cleantax_text::TextKind;
 use resume_token::TokenKind;
 
@@ -21,28 +21,6 @@ impl Status {
             Status::NoWorld => 6,
             Status::RefusedToken(_) => 7,
             Status::NoMemory => 9,
-        }
-    }
-}
-
-impl UsageKind {
-    /// Its name, as it is printed.
-    pub fn name(self) -> &'static str
-        ensures { result.now ≡ usage_name self }
-    {
-        match self {
-            UsageKind::NoCommand => "NoCommand",
-            UsageKind::UnknownCommand => "UnknownCommand",
-            UsageKind::NotOperand => "NotOperand",
-            UsageKind::UnknownKey => "UnknownKey",
-            UsageKind::KeyTwice => "KeyTwice",
-            UsageKind::BadSwitch => "BadSwitch",
-            UsageKind::BadNumber => "BadNumber",
-            UsageKind::ZeroBudget => "ZeroBudget",
-            UsageKind::EmptyName => "EmptyName",
-            UsageKind::MissingKey => "MissingKey",
-            UsageKind::BudgetWithoutToken => "BudgetWithoutToken",
-            UsageKind::SameName => "SameName",
         }
     }
 }

@@ -97,13 +97,21 @@ pub enum Subject {
 #[derive(Debug, Drop)]
 pub enum CertLine {
     /// The first line of a listing from a position on.
-    Certificate { switches: Switches, from: Position },
+    Certificate {
+        switches: Switches,
+        from: Position,
+    },
     /// The first line of a list of claims.
-    Claims { switches: Switches },
+    Claims {
+        switches: Switches,
+    },
     /// A line of the derivation.
     Proof(Line),
     /// The node branches.
-    Branch { depth: u32, last: Option<Rel> },
+    Branch {
+        depth: u32,
+        last: Option<Rel>,
+    },
     /// The node's need, given by its number, has no point, by a clause.
     NoPoint {
         depth: u32,
@@ -124,9 +132,14 @@ pub enum CertLine {
         family: RawFamily,
     },
     /// A family meets the subject.
-    Holds { subject: Subject, family: RawFamily },
+    Holds {
+        subject: Subject,
+        family: RawFamily,
+    },
     /// No family meets the subject: a tree follows.
-    Fails { subject: Subject },
+    Fails {
+        subject: Subject,
+    },
     /// The tree ends before a node, or is whole.
     End(Option<Position>),
     /// The tree is left unfinished, and nothing is claimed.

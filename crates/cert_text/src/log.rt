@@ -1,15 +1,39 @@
 //! Logs: where a search puts the lines of its certificate.
 
-ghost use Rattle.std.specs.Prelude.{◌≡◌, Bool};
+ghost use Rattle.std.specs.Prelude.{◌≡◌, ◌≤◌, ℕ, Bool, true, None, OnOk, OnErr};
+ghost use Rattle.outer_store.specs.Faults.{Rose, IfFailed};
+ghost use Rattle.cert_text.specs.Lines.{IdsFromOne};
+ghost use Rattle.cert_text.specs.Logs.{Told, with_line};
+
+use crate::line::CertLine;
+use outer_store::StoreFault;
 
 /// Where a search puts the lines of its certificate.
 pub trait TreeLog {
     /// Whether it drops what it is given.
     ghost drops: { Self → Bool };
 
+    /// The lines so far, where the log tells them.
+    ghost lines: { Self → Told };
+
+    /// How often a line was refused by a fault.
+    ghost faults: { Self → ℕ };
+
+    /// Puts a line at the end. After a refusal the log tells nothing.
+    fn put_line(&mut self, line: &CertLine) -> Result<(), StoreFault>
+        requires { IdsFromOne line.now }
+        ensures ok { OnOk result (lines self.new ≡ with_line (lines self.old) line.now) }
+        ensures err { OnErr result (lines self.new ≡ None) }
+        ensures kept { drops self.new ≡ drops self.old }
+        ensures cause { IfFailed result (Rose (faults self.old) (faults self.new)) (faults self.new ≡ faults self.old) }
+        ensures later { faults self.old ≤ faults self.new };
+
     /// Whether the log drops what it is given, so that nobody will read it.
     fn is_dropping(&self) -> bool
         ensures { result ≡ drops self.now };
+
+    /// A log that drops what it is given tells no lines.
+    ghost tells_none: { (log : Self) → drops log ≡ true → lines log ≡ None };
 }
 
 /// The log that drops everything. It takes no memory.
@@ -23,11 +47,21 @@ impl NoLog {
 }
 
 impl TreeLog for NoLog {
-    ghost use Rattle.std.specs.Prelude.{true};
+    ghost use Rattle.std.specs.Prelude.{true, None, refl};
 
     ghost drops = { λ _. true };
+
+    ghost lines = { λ _. None };
+
+    ghost faults = { λ _. 0 };
+
+    fn put_line(&mut self, _line: &CertLine) -> Result<(), StoreFault> {
+        Ok(())
+    }
 
     fn is_dropping(&self) -> bool {
         true
     }
+
+    ghost tells_none = { λ _ _. refl };
 }

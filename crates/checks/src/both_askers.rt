@@ -6,7 +6,10 @@ ghost use Rattle.world_model.specs.Alive.{problem_at, IsAlive};
 ghost use Rattle.constraint_set.specs.Shape.{SameShape, shape_of};
 
 use crate::nodes::{go_in, go_on};
-use crate::problems::{ALL, problem_of};
+use crate::problems::{
+    ALL, EMPTY, LOOSE_BLOCK, NO_SUM, ONE_SUM, PARTS_EQUAL, SHARED, THREE_CHILDREN,
+    THREE_TAXONOMIES, TORN, TWO_EQUAL, TWO_PARTINGS, UNCOVERED, problem_of,
+};
 use constraint_set::Problem;
 use point_query::{Alive, Asker, PlainAsker, Probe};
 use rcc5_core::{Position, Rel, RelSet};
@@ -208,63 +211,24 @@ fn walk_anew(alloc: Global, text: &str, switches: Switches) -> Result<Met, Alloc
     walk(alloc, &mut asker, &problem)
 }
 
-// The numbers of worlds were counted by hand.
+/// Problems, and how many worlds each has, which was counted by hand or by the plain program.
+const COUNTED: [(&str, Switches, u32); 10] = [
+    (TWO_PARTINGS, ALL, 7),
+    (PARTS_EQUAL, UNCOVERED, 5),
+    (TWO_EQUAL, EMPTY, 1),
+    (TWO_EQUAL, SHARED, 1),
+    (ONE_SUM, ALL, 5),
+    (NO_SUM, ALL, 0),
+    (THREE_CHILDREN, ALL, 26),
+    (TORN, ALL, 0),
+    (THREE_TAXONOMIES, ALL, 18),
+    (LOOSE_BLOCK, ALL, 7),
+];
+
 #[test]
 fn both_say_the_same(rt: HostRuntime) -> Result<(), Fail> {
-    let alloc = rt.alloc();
-    let rows = [
-        (
-            "taxonomy 1\n(A B C)\ntaxonomy 2\n(D E F)\narticulation\n[1.A equals 2.D]\n",
-            ALL,
-            7,
-        ),
-        (
-            "taxonomy 1\n(A B C)\ntaxonomy 2\n(D E F)\narticulation\n[1.A equals 2.D]\n[1.B equals 2.E]\n",
-            Switches {
-                coverage: false,
-                ..ALL
-            },
-            5,
-        ),
-        (
-            "taxonomy 1\n(A B C)\ntaxonomy 2\n(D)\narticulation\n[1.B equals 2.D]\n[1.C equals 2.D]\n",
-            Switches {
-                nonempty: false,
-                ..ALL
-            },
-            1,
-        ),
-        (
-            "taxonomy 1\n(A B C)\ntaxonomy 2\n(D)\narticulation\n[1.B equals 2.D]\n[1.C equals 2.D]\n",
-            Switches {
-                sibling: false,
-                ..ALL
-            },
-            1,
-        ),
-        (
-            "taxonomy 1\n(A)\ntaxonomy 2\n(B)\n(C)\narticulation\n[1.A sums 2.B 2.C]\n",
-            ALL,
-            5,
-        ),
-        (
-            "taxonomy 1\n(A)\ntaxonomy 2\n(B)\n(C)\narticulation\n[1.A sums 2.B 2.C]\n[1.A ! 2.B]\n",
-            ALL,
-            0,
-        ),
-        (
-            "taxonomy 1\n(A B C D)\ntaxonomy 2\n(E)\narticulation\n[1.A {includes equals} 2.E]\n",
-            ALL,
-            26,
-        ),
-        (
-            "taxonomy 1\n(A)\ntaxonomy 2\n(B)\narticulation\n[1.A >< 2.B]\n[1.A ! 2.B]\n",
-            ALL,
-            0,
-        ),
-    ];
-    for (text, switches, worlds) in rows {
-        let met = walk_anew(alloc, text, switches)?;
+    for (text, switches, worlds) in COUNTED {
+        let met = walk_anew(rt.alloc(), text, switches)?;
         assert_eq!(rt; met.unlike, 0, "{text}");
         assert_eq!(rt; met.worlds, worlds, "{text}");
     }
@@ -384,8 +348,6 @@ fn one_asker_serves_pairs_of_a_shape(rt: HostRuntime) -> Result<(), Fail> {
 // Pair 0 is A and B. The numbers of worlds were counted by hand.
 #[test]
 fn one_asker_serves_sums_of_a_shape(rt: HostRuntime) -> Result<(), Fail> {
-    let text =
-        "taxonomy 1\n(A)\ntaxonomy 2\n(B)\n(C)\narticulation\n[1.A sums 2.B 2.C]\n[1.A ! 2.B]\n";
     let variants = [
         Variant::new([false, false], None, 54),
         Variant::new([true, false], None, 5),
@@ -394,7 +356,7 @@ fn one_asker_serves_sums_of_a_shape(rt: HostRuntime) -> Result<(), Fail> {
         Variant::new([true, false], Some((0, Rel::Equals)), 2),
         Variant::new([true, false], Some((0, Rel::Overlaps)), 0),
     ];
-    let wrong = walk_twice(rt.alloc(), text, &variants)?;
+    let wrong = walk_twice(rt.alloc(), NO_SUM, &variants)?;
     assert_eq!(rt; wrong, (0, 0));
     Ok(())
 }

@@ -4,7 +4,9 @@
 #[cfg(test)]
 mod both_askers;
 #[cfg(test)]
-mod few_questions;
+mod budgets;
+#[cfg(test)]
+mod forgetting;
 #[cfg(test)]
 mod nodes;
 #[cfg(test)]

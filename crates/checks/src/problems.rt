@@ -22,12 +22,28 @@ pub(crate) const UNCOVERED: Switches = Switches {
     ..ALL
 };
 
+/// A concept may be empty.
+pub(crate) const EMPTY: Switches = Switches {
+    nonempty: false,
+    ..ALL
+};
+
+/// Two children of one parent may have something in common.
+pub(crate) const SHARED: Switches = Switches {
+    sibling: false,
+    ..ALL
+};
+
 /// Two concepts of which nothing is said.
 pub(crate) const TWO_ALONE: &str = "taxonomy 1\n(A)\ntaxonomy 2\n(B)\n";
 
 /// Two parents that are equal, each with two children.
 pub(crate) const TWO_PARTINGS: &str =
     "taxonomy 1\n(A B C)\ntaxonomy 2\n(D E F)\narticulation\n[1.A equals 2.D]\n";
+
+/// The same with two children that are equal.
+pub(crate) const PARTS_EQUAL: &str =
+    "taxonomy 1\n(A B C)\ntaxonomy 2\n(D E F)\narticulation\n[1.A equals 2.D]\n[1.B equals 2.E]\n";
 
 /// A parent with one child, and a concept that equals the parent.
 pub(crate) const ONE_CHILD: &str =
@@ -37,35 +53,29 @@ pub(crate) const ONE_CHILD: &str =
 pub(crate) const ONE_SUM: &str =
     "taxonomy 1\n(A)\ntaxonomy 2\n(B)\n(C)\narticulation\n[1.A sums 2.B 2.C]\n";
 
-/// A catalogue of furniture beside another one: 24 concepts and 15 articulations.
-pub(crate) const FURNITURE: &str = "taxonomy 2023 Furniture catalogue
-(Furniture Seating Tables Storage)
-(Seating Chair Sofa Bench)
-(Tables Desk Dining)
-(Storage Shelf Cabinet Chest)
-taxonomy 2024 Goods catalogue
-(Goods Seats Surfaces Keeping)
-(Seats Single Shared)
-(Shared Upholstered Wooden)
-(Surfaces Work Meal)
-(Keeping Open Closed)
-articulation 2023-2024
-[2023.Furniture equals 2024.Goods]
-[2023.Seating equals 2024.Seats]
-[2023.Tables equals 2024.Surfaces]
-[2023.Storage equals 2024.Keeping]
-[2023.Chair equals 2024.Single]
-[2023.Sofa {equals includes} 2024.Upholstered]
-[2023.Desk equals 2024.Work]
-[2023.Dining {equals overlaps} 2024.Meal]
-[2023.Shelf equals 2024.Open]
-[2023.Cabinet is_included_in 2024.Closed]
-[2023.Chest is_included_in 2024.Closed]
-[2023.Shelf disjoint 2024.Closed]
-[2023.Bench is_included_in 2024.Shared]
-[2023.Chair disjoint 2024.Upholstered]
-[2023.Sofa is_included_in 2024.Shared]
-";
+/// The same, where one of the two is said to have nothing in common with it.
+pub(crate) const NO_SUM: &str =
+    "taxonomy 1\n(A)\ntaxonomy 2\n(B)\n(C)\narticulation\n[1.A sums 2.B 2.C]\n[1.A ! 2.B]\n";
+
+/// Two children of one parent that both equal a concept.
+pub(crate) const TWO_EQUAL: &str =
+    "taxonomy 1\n(A B C)\ntaxonomy 2\n(D)\narticulation\n[1.B equals 2.D]\n[1.C equals 2.D]\n";
+
+/// A parent of three children that may equal a concept or include it.
+pub(crate) const THREE_CHILDREN: &str =
+    "taxonomy 1\n(A B C D)\ntaxonomy 2\n(E)\narticulation\n[1.A {includes equals} 2.E]\n";
+
+/// A pair that is to overlap and to be disjoint.
+pub(crate) const TORN: &str =
+    "taxonomy 1\n(A)\ntaxonomy 2\n(B)\narticulation\n[1.A >< 2.B]\n[1.A ! 2.B]\n";
+
+/// Three taxonomies, two of whose concepts are equal or have nothing in common.
+pub(crate) const THREE_TAXONOMIES: &str =
+    "taxonomy 1\n(A)\ntaxonomy 2\n(B)\ntaxonomy 3\n(C)\narticulation\n[1.A {equals disjoint} 3.C]\n";
+
+/// Two roots that are equal, each over a block that equals the other one and whose two children are free.
+pub(crate) const LOOSE_BLOCK: &str =
+    "taxonomy 1\n(A B)\n(B C D)\ntaxonomy 2\n(E F)\n(F G H)\narticulation\n[1.A equals 2.E]\n[1.B equals 2.F]\n";
 
 /// The problem of a text.
 pub(crate) fn problem_of(

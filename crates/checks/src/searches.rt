@@ -8,7 +8,8 @@ ghost use Rattle.world_model.specs.Problem.{pair_count};
 ghost use Rattle.constraint_set.specs.Shape.{shape_of};
 
 use crate::problems::{
-    ALL, ONE_CHILD, ONE_SUM, TWO_ALONE, TWO_PARTINGS, UNCOVERED, position_of, problem_of,
+    ALL, EMPTY, LOOSE_BLOCK, NO_SUM, ONE_CHILD, ONE_SUM, PARTS_EQUAL, SHARED, THREE_CHILDREN,
+    THREE_TAXONOMIES, TWO_ALONE, TWO_EQUAL, TWO_PARTINGS, UNCOVERED, position_of, problem_of,
     push_position,
 };
 use cert_text::NoLog;
@@ -109,19 +110,44 @@ fn end_of(
     }
 }
 
+/// By what a search knows which nodes are alive.
+#[derive(Clone, Copy, Debug)]
+enum Way {
+    Table,
+    Asker,
+}
+
+/// A search of a problem between two positions.
+fn search_by(
+    alloc: Global,
+    problem: &Problem,
+    way: Way,
+    from: Position,
+    to: Option<Position>,
+) -> Result<Search, AllocError>
+    requires from { length from ≤ pair_count problem.now }
+    requires to { IfSome to (λ end. length end ≤ pair_count problem.now) }
+    ensures { IfOk result (λ search. search.problem ≡ problem.now) }
+{
+    match way {
+        Way::Table => Search::from(alloc, problem, from, to),
+        Way::Asker => Search::without_table(alloc, problem, from, to),
+    }
+}
+
 /// What a search of a problem meets with so many nodes left, and again with so many, up to a number of times.
 fn met(
     alloc: Global,
     problem: &Problem,
-    from: &str,
-    to: Option<&str>,
+    way: Way,
+    span: (&str, Option<&str>),
     left: Option<u64>,
     times: usize,
 ) -> Result<String, AllocError> {
-    let start = position_of(alloc, problem, from)?;
-    let end = end_of(alloc, problem, to)?;
+    let start = position_of(alloc, problem, span.0)?;
+    let end = end_of(alloc, problem, span.1)?;
     let mut asker = Asker::new(alloc, problem)?;
-    let mut search = Search::from(alloc, problem, start, end)?;
+    let mut search = search_by(alloc, problem, way, start, end)?;
     let mut text = String::new(alloc);
     for _time in 0..times {
         if tell_next(&mut text, problem, &mut asker, &mut search, left)? {
@@ -132,9 +158,9 @@ fn met(
 }
 
 /// What a search meets that has no node left right behind each world, and then goes on to the next world.
-fn met_behind(alloc: Global, problem: &Problem) -> Result<String, AllocError> {
+fn met_behind(alloc: Global, problem: &Problem, way: Way) -> Result<String, AllocError> {
     let mut asker = Asker::new(alloc, problem)?;
-    let mut search = Search::from(alloc, problem, Position::new(alloc), None)?;
+    let mut search = search_by(alloc, problem, way, Position::new(alloc), None)?;
     let mut text = String::new(alloc);
     for _world in 0..1000 {
         let mut free = Nodes { left: None };
@@ -206,7 +232,31 @@ fn wanted_behind(
     Ok(text)
 }
 
-/// How many nodes there are. What a search meets is what the lists say, whatever the count of nodes at which it stops.
+/// What a search meets in one of the ways is what the lists say: at once, node by node, and right behind each world.
+fn compare_by(
+    rt: &impl Abort,
+    alloc: Global,
+    problem: &Problem,
+    way: Way,
+    nodes: &[Position],
+    worlds: &[Position],
+) -> Result<(), AllocError> {
+    for left in [None, Some(1), Some(2), Some(7)] {
+        let found = met(alloc, problem, way, ("", None), left, 1000)?;
+        let listed = wanted(alloc, nodes, worlds, left, 1000)?;
+        assert_eq!(rt; found.as_str(), listed.as_str(), "{way:?} {left:?}");
+    }
+    let found = met_behind(alloc, problem, way)?;
+    let listed = wanted_behind(alloc, nodes, worlds)?;
+    assert_eq!(rt;
+        found.as_str(),
+        listed.as_str(),
+        "{way:?} behind each world"
+    );
+    Ok(())
+}
+
+/// The same in both ways. How many nodes there are.
 fn compare(
     rt: &impl Abort,
     alloc: Global,
@@ -217,31 +267,69 @@ fn compare(
     let start = Position::new(alloc);
     let nodes = nodes_between(alloc, &problem, &start, None)?;
     let worlds = worlds_between(alloc, &problem, &start, None)?;
-    for left in 0..=nodes.len() as u64 {
-        let found = met(alloc, &problem, "", None, Some(left), 1)?;
-        let listed = wanted(alloc, &nodes, &worlds, Some(left), 1)?;
-        assert_eq!(rt; found.as_str(), listed.as_str(), "{left}");
+    for way in [Way::Table, Way::Asker] {
+        compare_by(rt, alloc, &problem, way, &nodes, &worlds)?;
     }
-    for left in [None, Some(1), Some(2), Some(7)] {
-        let found = met(alloc, &problem, "", None, left, 1000)?;
-        let listed = wanted(alloc, &nodes, &worlds, left, 1000)?;
-        assert_eq!(rt; found.as_str(), listed.as_str(), "{left:?}");
-    }
-    let found = met_behind(alloc, &problem)?;
-    let listed = wanted_behind(alloc, &nodes, &worlds)?;
-    assert_eq!(rt; found.as_str(), listed.as_str(), "behind each world");
     Ok(nodes.len())
+}
+
+/// Problems of several families: alone, flat, with a sum, with three taxonomies, with sets that are not whole, with no possible
+/// world, and with each switch off.
+const FAMILIES: [(&str, Switches); 12] = [
+    (TWO_ALONE, ALL),
+    (TWO_ALONE, EMPTY),
+    (TWO_PARTINGS, ALL),
+    (PARTS_EQUAL, UNCOVERED),
+    (ONE_CHILD, ALL),
+    (ONE_CHILD, UNCOVERED),
+    (TWO_EQUAL, EMPTY),
+    (TWO_EQUAL, SHARED),
+    (THREE_CHILDREN, ALL),
+    (THREE_TAXONOMIES, ALL),
+    (ONE_SUM, ALL),
+    (NO_SUM, ALL),
+];
+
+#[test]
+fn a_search_meets_what_the_plain_program_lists(rt: HostRuntime) -> Result<(), Fail> {
+    for (text, switches) in FAMILIES {
+        compare(&rt, rt.alloc(), text, switches)?;
+    }
+    Ok(())
+}
+
+// Node by node, where the plain program would take long.
+#[test]
+fn both_ways_meet_the_same(rt: HostRuntime) -> Result<(), Fail> {
+    let alloc = rt.alloc();
+    let problem = problem_of(alloc, LOOSE_BLOCK, ALL)?;
+    let by_table = met(alloc, &problem, Way::Table, ("", None), Some(1), 10000)?;
+    let by_asker = met(alloc, &problem, Way::Asker, ("", None), Some(1), 10000)?;
+    assert_eq!(rt; by_table.as_str(), by_asker.as_str());
+    assert!(rt; by_table.as_str().ends_with("end -"));
+    Ok(())
 }
 
 // The numbers of nodes were counted by hand. Where a parent has one child, dead nodes stand right behind a world.
 #[test]
 fn a_search_stops_at_each_count_of_nodes(rt: HostRuntime) -> Result<(), Fail> {
     let alloc = rt.alloc();
-    assert_eq!(rt; compare(&rt, alloc, TWO_ALONE, ALL)?, 6);
-    assert_eq!(rt; compare(&rt, alloc, ONE_CHILD, ALL)?, 12);
-    assert_eq!(rt; compare(&rt, alloc, ONE_CHILD, UNCOVERED)?, 17);
-    compare(&rt, alloc, TWO_PARTINGS, ALL)?;
-    compare(&rt, alloc, ONE_SUM, ALL)?;
+    for (text, switches, count) in [
+        (TWO_ALONE, ALL, 6),
+        (ONE_CHILD, ALL, 12),
+        (ONE_CHILD, UNCOVERED, 17),
+    ] {
+        let problem = problem_of(alloc, text, switches)?;
+        let start = Position::new(alloc);
+        let nodes = nodes_between(alloc, &problem, &start, None)?;
+        let worlds = worlds_between(alloc, &problem, &start, None)?;
+        assert_eq!(rt; nodes.len(), count);
+        for left in 0..=count as u64 {
+            let found = met(alloc, &problem, Way::Table, ("", None), Some(left), 1)?;
+            let listed = wanted(alloc, &nodes, &worlds, Some(left), 1)?;
+            assert_eq!(rt; found.as_str(), listed.as_str(), "{left}");
+        }
+    }
     Ok(())
 }
 
@@ -260,7 +348,7 @@ fn a_search_begins_and_ends_at_positions(rt: HostRuntime) -> Result<(), Fail> {
         ("x", Some(">"), "end x "),
     ];
     for (from, to, listed) in rows {
-        let found = met(alloc, &problem, from, to, None, 1)?;
+        let found = met(alloc, &problem, Way::Table, (from, to), None, 1)?;
         assert_eq!(rt; found.as_str(), listed, "{from} {to:?}");
     }
     Ok(())
@@ -282,7 +370,7 @@ fn a_start_and_an_end_need_not_be_nodes(rt: HostRuntime) -> Result<(), Fail> {
         ("=>><!<<>x>>!>>!", Some(">"), "=>><!<<>x>>!>>! end -"),
     ];
     for (from, to, listed) in rows {
-        let found = met(alloc, &problem, from, to, None, 1)?;
+        let found = met(alloc, &problem, Way::Table, (from, to), None, 1)?;
         assert_eq!(rt; found.as_str(), listed, "{from} {to:?}");
     }
     let sum = problem_of(alloc, ONE_SUM, ALL)?;
@@ -291,7 +379,7 @@ fn a_start_and_an_end_need_not_be_nodes(rt: HostRuntime) -> Result<(), Fail> {
         (">=", Some(">>x"), ">=< end >>x "),
     ];
     for (from, to, listed) in rows {
-        let found = met(alloc, &sum, from, to, None, 1)?;
+        let found = met(alloc, &sum, Way::Table, (from, to), None, 1)?;
         assert_eq!(rt; found.as_str(), listed, "{from} {to:?}");
     }
     Ok(())

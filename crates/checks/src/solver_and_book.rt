@@ -4,7 +4,7 @@ ghost use Rattle.std.specs.Prelude.{◌≡◌, ◌<◌, [], false, IfOk};
 ghost use Rattle.lits_core.specs.Literals.{variable_of, is_negative};
 
 use learn_solver::{Answer, Solver};
-use lits_core::{Clause, Line, LineFault, Lit};
+use lits_core::{Bits, Clause, Line, LineFault, Lit};
 use proof_check::Book;
 use std::alloc::{AllocError, Global};
 use std::test::Fail;
@@ -26,7 +26,7 @@ fn variable(number: i32) -> Lit
 
 /// A over B and C, and D: B and C are in A and apart, and A is in B or C. Then for each pair of concepts three selectors,
 /// each of which rules out one of their regions. A short clause repeats a literal.
-const REGIONS: [[i32; 3]; 22] = [
+pub(crate) const REGIONS: [[i32; 3]; 22] = [
     [-2, 1, 1],
     [-3, 1, 1],
     [-2, -3, -3],
@@ -53,7 +53,7 @@ const REGIONS: [[i32; 3]; 22] = [
 
 /// Four pigeons in three holes: the pigeons' clauses, and then for each hole no two of them. Variable `3 * p + h + 1` puts
 /// pigeon `p` into hole `h`.
-const PIGEONS: [[i32; 3]; 22] = [
+pub(crate) const PIGEONS: [[i32; 3]; 22] = [
     [1, 2, 3],
     [4, 5, 6],
     [7, 8, 9],
@@ -89,7 +89,7 @@ fn add(solver: &mut Solver, lits: [i32; 3]) -> Result<u64, AllocError>
     solver.add(&[lit(lits[0]), lit(lits[1]), lit(lits[2])])
 }
 
-fn solver_of(alloc: Global, clauses: [[i32; 3]; 22]) -> Result<Solver, AllocError>
+pub(crate) fn solver_of(alloc: Global, clauses: [[i32; 3]; 22]) -> Result<Solver, AllocError>
     ensures { IfOk result (λ solver. solver.variables ≡ 22) }
 {
     let mut solver = Solver::new(alloc, 22)?;
@@ -99,7 +99,7 @@ fn solver_of(alloc: Global, clauses: [[i32; 3]; 22]) -> Result<Solver, AllocErro
     Ok(solver)
 }
 
-fn book_of(alloc: Global, clauses: [[i32; 3]; 22]) -> Result<Book, AllocError> {
+pub(crate) fn book_of(alloc: Global, clauses: [[i32; 3]; 22]) -> Result<Book, AllocError> {
     let mut given = Vec::new(alloc);
     for lits in clauses {
         let clause = Clause::from_lits(alloc, &[lit(lits[0]), lit(lits[1]), lit(lits[2])])?;
@@ -108,7 +108,7 @@ fn book_of(alloc: Global, clauses: [[i32; 3]; 22]) -> Result<Book, AllocError> {
     Book::new(alloc, given)
 }
 
-fn accept_all(book: &mut Book, lines: &[Line]) -> Result<(), LineFault> {
+pub(crate) fn accept_all(book: &mut Book, lines: &[Line]) -> Result<(), LineFault> {
     for line in lines {
         book.add_line(line)?;
     }
@@ -116,12 +116,18 @@ fn accept_all(book: &mut Book, lines: &[Line]) -> Result<(), LineFault> {
 }
 
 /// Solves with three variables assumed, each by its number.
-fn solve(solver: &mut Solver, numbers: [i32; 3]) -> Result<Answer, AllocError>
+pub(crate) fn solve(solver: &mut Solver, numbers: [i32; 3]) -> Result<Answer, AllocError>
     requires { solver.old.variables ≡ 22 }
     ensures { solver.new.variables ≡ 22 }
 {
     let [a, b, c] = numbers;
     solver.solve(&[variable(a), variable(b), variable(c)])
+}
+
+/// Whether bits say that a variable holds, given by its number.
+fn is_true(bits: &Bits, number: i32) -> bool {
+    let lit = variable(number);
+    (lit.variable() as usize) < bits.len() && lit.true_in(bits)
 }
 
 /// Whether a literal is the negation of one of these variables.
@@ -146,6 +152,24 @@ fn a_book_accepts_the_lines_of_a_refutation(rt: HostRuntime) -> Result<(), Fail>
         panic!(rt; "no clause");
     };
     assert!(rt; lits.iter().all(|lit| is_ruled_out(*lit, &[2, 8, 13])));
+    Ok(())
+}
+
+// The same where the clauses that are idle are forgotten after the first answer: in the bits, "B" and "D" hold.
+#[test]
+fn an_answer_stands_after_forgetting(rt: HostRuntime) -> Result<(), Fail> {
+    let mut solver = solver_of(rt.alloc(), REGIONS)?;
+    let mut book = book_of(rt.alloc(), REGIONS)?;
+    let Answer::Refuted(_) = solve(&mut solver, [2, 8, 13])? else {
+        panic!(rt; "bits");
+    };
+    solver.tidy()?;
+    assert_eq!(rt; solver.idle(), 0);
+    let Answer::Bits(bits) = solve(&mut solver, [2, 8, 10])? else {
+        panic!(rt; "refuted");
+    };
+    assert!(rt; is_true(&bits, 2) && is_true(&bits, 4));
+    assert_eq!(rt; accept_all(&mut book, solver.lines()), Ok(()));
     Ok(())
 }
 

@@ -10,7 +10,8 @@
 //! - `family FILE TIMES` asks so many times whether a family of 1,000 elements meets the problem in the file and has its table;
 //! - `chain TIMES VARIABLES` propagates so many times along a chain of so many variables, each of which implies the next;
 //! - `random TIMES VARIABLES` assumes random literals over random clauses until one is false, so many times;
-//! - `solve FILE 1` gives the solver the formula in the file, which is in the DIMACS form.
+//! - `solve FILE SPLITS` gives the solver the formula in the file, which is in the DIMACS form. So many of its first variables
+//!   are assumed, in each way one after the other, and idle clauses are forgotten in between.
 #![tactic(auto)]
 
 mod derive;
@@ -48,7 +49,7 @@ fn answer(rt: &HostRuntime, command: &str, name: &str, count: &str) -> Result<St
         "family" => families::meet(alloc, &mut FileStore::new(alloc, rt), name, count),
         "chain" => propagation::follow_chain(alloc, files::number(name), count),
         "random" => propagation::follow_random(alloc, files::number(name), count),
-        "solve" => solving::solve(alloc, &mut FileStore::new(alloc, rt), name),
+        "solve" => solving::solve(alloc, &mut FileStore::new(alloc, rt), name, count),
         _ => format!(in alloc; "unknown"),
     }
 }

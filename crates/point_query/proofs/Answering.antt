@@ -1,54 +1,29 @@
--- What a walk whose needs are settled answers.
-use Rattle.std.proofs.Common.{◌≡◌, ℕ, ◌+◌, ◌*◌, ◌/◌, ◌%◌, ◌-◌, ◌<◌, Bool, true, false, cond, List, [], ◌∷◌, ◌++◌, get_or, ◌⊎◌, ◌≤◌, inl, inr, sym, ap, ◌∙◌, subst, arith}
-use Rattle.std.specs.Prelude.{IsTrue, Contains, Some, None, nat_lt}
-use Rattle.std.proofs.lemmas.List.{append-nil}
-use Rattle.std.proofs.lemmas.Bool.{cases_lt, lt-ltb, le-ltb}
+-- What is answered of a pool.
+use Rattle.std.proofs.Common.{◌≡◌, ℕ, Bool, true, List, sym, subst}
+use Rattle.std.specs.Prelude.{IsTrue}
+use Rattle.std.proofs.lemmas.Bool.{and_from}
 use Rattle.rcc5_core.specs.declared.Rel.{Rel}
-use Rattle.rcc5_core.specs.declared.Occupancy.TheVariants.{Occupied}
-use Rattle.rcc5_core.specs.Region.{word_at, same_word}
 use Rattle.learn_solver.specs.Solving.{SolverState}
-use Rattle.world_model.specs.Problem.{Problem, concept_count, pair_count}
-use Rattle.world_model.specs.Node.{pair_at}
-use Rattle.world_model.specs.Alive.{Need, InRegion, InConcept, all_allow, needs, problem_at, HasPoint, IsAlive}
-use Rattle.world_model.proofs.Members.{In, none_in, in_from_contains}
-use Rattle.world_model.proofs.PointAlive as alive
-use Rattle.cert_model.specs.Forced.{region_with, need_with, IsNeed}
-use Rattle.point_encode.specs.declared.need.Need as code
-use Rattle.point_encode.specs.declared.need.Need.TheVariants.{Region, Concept}
-use Rattle.point_encode.specs.Needs.{need_seen, number_of, IsInRange}
-use Rattle.point_query.specs.declared.walk.Walk.{Walk}
-use Rattle.point_query.specs.Answers.{EachServed, IsServed, IsFirstClosed}
+use Rattle.world_model.specs.Problem.{Problem}
+use Rattle.world_model.specs.Alive.{Need, all_allow, needs, problem_at, HasPoint}
+use Rattle.world_model.proofs.Members.{in_from_contains}
+use Rattle.point_pool.specs.declared.pool.Pool.{Pool}
+use Rattle.point_pool.specs.Needs.{EachServed, need_at, needs_below}
+use Rattle.point_query.specs.Answers.{IsServed, IsFirstClosed}
 use Rattle.point_query.specs.Queries.{asker_with}
-use Rattle.point_query.specs.Stands.{StandState, need_at, is_needed, forced_at, needs_below}
-use Rattle.point_query.specs.Walks.{need_count, point_at, IsWalk, IsServedNow, IsFirstStuck}
-use Rattle.point_query.proofs.Prefixes.{needed_by, needed_past}
-use Rattle.point_query.proofs.Numbering.{needs_numbered, needs_more, needs_split, from_below, IsNumbered}
-use Rattle.point_query.proofs.Serving.{each_push, served}
-use Rattle.point_query.proofs.Walking.{served_has, served_point}
+use Rattle.point_query.specs.Closing.{IsFirstStuck}
+use Rattle.point_pool.proofs.Numbering.{needs_split, from_below, IsNumbered}
+use Rattle.point_pool.proofs.Serving.{each_are_points, each_have_one}
 
--- where no number waits each need is served
-pub served_now : (w : Walk) (number : ℕ) → IsWalk w → w.waiting ≡ [] → number < need_count w.stand.problem → is_needed (problem_at w.stand.problem w.stand.path) number ≡ true → IsServedNow w number
-served_now w number is none within needed = elim (is.watched number within needed) [
-  | inr served ↦ served
-  | inl waits ↦ absurd (none_in (in_from_contains [] (subst (λ ns. Contains ns number) none waits)))
-]
-
--- so the prefix is alive, if each pair allows something
-pub settled_alive : (w : Walk) → IsWalk w → w.waiting ≡ [] → IsTrue (all_allow (problem_at w.stand.problem w.stand.path)) → IsAlive (problem_at w.stand.problem w.stand.path)
-settled_alive w is none allow =
-    let q = problem_at w.stand.problem w.stand.path in
-    record {
-      allow = allow;
-      points = λ need there.
-          let n : IsNumbered q need (need_count q) = from_below q (need_count q) need (subst (λ ns. In need ns) (needs_numbered q) (in_from_contains (needs q) there)) in
-          subst (λ x. HasPoint q x) (sym n.is) (served_has w n.number (get_or w.witness.items n.number 0) is.kept (served_now w n.number is none n.below n.needed));
-    }
+-- such points show that the problem is alive
+pub served : (p : Problem) (points : List (List Bool)) → IsTrue (all_allow p) → EachServed p (needs p) points → IsServed p points
+served p points allow each = record { allow = allow; each = each; serve = and_from _ _ (each_are_points p (needs p) points each) (each_have_one p (needs p) points each) }
 
 -- the first need without a point
-pub stuck_first : (w : Walk) (s : SolverState) (number id : ℕ) → IsFirstStuck w s number id → IsTrue (all_allow (problem_at w.stand.problem w.stand.path)) →
-    IsFirstClosed (asker_with w.stand.problem s) w.stand.problem w.stand.path (need_at w.stand.problem number) id
+pub stuck_first : (w : Pool) (s : SolverState) (number id : ℕ) → IsFirstStuck w s number id → IsTrue (all_allow (problem_at w.cursor.problem w.cursor.path)) →
+    IsFirstClosed (asker_with w.cursor.problem s) w.cursor.problem w.cursor.path (need_at w.cursor.problem number) id
 stuck_first w s number id stuck allow =
-    let q = problem_at w.stand.problem w.stand.path in
+    let q = problem_at w.cursor.problem w.cursor.path in
     record {
       allow = allow;
       before = needs_below q number;
@@ -60,89 +35,13 @@ stuck_first w s number id stuck allow =
       closed = stuck.closed;
     }
 
--- the points of the needs below one number more
-pub witness_skipped : (q : Problem) (number : ℕ) (list : List (List Bool)) → is_needed q number ≡ false → EachServed q (needs_below q number) list → EachServed q (needs_below q (number + 1)) list
-witness_skipped q number list none served =
-    let same : needs_below q (number + 1) ≡ needs_below q number =
-    needs_more q number ∙ ap (λ b. needs_below q number ++ cond b (need_at q number ∷ []) []) none ∙ append-nil (needs_below q number) in
-    subst (λ ns. EachServed q ns list) (sym same) served
-
-pub witness_pushed : (w : Walk) (number : ℕ) (list new : List (List Bool)) (bits : List Bool) → IsWalk w → w.waiting ≡ [] → number < need_count w.stand.problem →
-    is_needed (problem_at w.stand.problem w.stand.path) number ≡ true → bits ≡ point_at w.points.items (get_or w.witness.items number 0) → new ≡ list ++ bits ∷ [] →
-    EachServed (problem_at w.stand.problem w.stand.path) (needs_below (problem_at w.stand.problem w.stand.path) number) list →
-    EachServed (problem_at w.stand.problem w.stand.path) (needs_below (problem_at w.stand.problem w.stand.path) (number + 1)) new
-witness_pushed w number list new bits is none within needed by same served =
-    let q = problem_at w.stand.problem w.stand.path in
-    let place = get_or w.witness.items number 0 in
-    let has = served_point w number place is.kept (served_now w number is none within needed) in
-    let needs_are : needs_below q (number + 1) ≡ needs_below q number ++ need_at q number ∷ [] = needs_more q number ∙ ap (λ b. needs_below q number ++ cond b (need_at q number ∷ []) []) needed in
-    let pushed = each_push q (needs_below q number) list (need_at q number) (point_at w.points.items place) served has.0 has.1 in
-    subst (λ ns. EachServed q ns new) (sym needs_are) (subst (λ bs. EachServed q (needs_below q number ++ need_at q number ∷ []) bs) (sym (same ∙ ap (λ b. list ++ b ∷ []) by)) pushed)
-
--- a need as callers have it, by its number
-pub numbered_need : (p : Problem) (need : code.Need) → IsInRange p need → (number_of p need < need_count p) × (need_at p (number_of p need) ≡ need_seen p need)
-numbered_need p (Region pair part) range =
-    let small : 3 * pair + part < 3 * pair_count p = omega (arith, range) in
-    let third : (3 * pair + part) / 3 ≡ pair = omega (arith, range) in
-    let rest : (3 * pair + part) % 3 ≡ part = omega (arith, range) in (
-      omega (arith, range),
-      ap (λ b. cond b (InRegion (pair_at p ((3 * pair + part) / 3)) (region_with ((3 * pair + part) % 3))) (InConcept ((3 * pair + part) - 3 * pair_count p))) (lt-ltb (3 * pair + part) (3 * pair_count p) small) ∙
-          ap (λ k. InRegion (pair_at p k) (region_with ((3 * pair + part) % 3))) third ∙ ap (λ k. InRegion (pair_at p pair) (region_with k)) rest,
-    )
-numbered_need p (Concept c) range =
-    let left : (3 * pair_count p + c) - 3 * pair_count p ≡ c = omega arith in (
-      omega (arith, range),
-      ap (λ b. cond b (InRegion (pair_at p ((3 * pair_count p + c) / 3)) (region_with ((3 * pair_count p + c) % 3))) (InConcept ((3 * pair_count p + c) - 3 * pair_count p))) (le-ltb (3 * pair_count p + c) (3 * pair_count p) (omega arith)) ∙
-          ap InConcept left,
-    )
-
--- numbers name needs
-pub need_named : (p : Problem) (number : ℕ) → number < need_count p → IsNeed p (need_at p number)
-need_named p number within = (number, named (cases_lt number (3 * pair_count p)))
-  where
-    named : (number < 3 * pair_count p) ⊎ (3 * pair_count p ≤ number) → need_with p number ≡ Some (need_at p number)
-    named (inl small) =
-        ap (λ b. cond b (Some (InRegion (pair_at p (number / 3)) (region_with (number % 3)))) (cond (nat_lt number (3 * pair_count p + concept_count p)) (Some (InConcept (number - 3 * pair_count p))) None))
-        (lt-ltb number (3 * pair_count p) small) ∙
-        ap (λ b. Some (cond b (InRegion (pair_at p (number / 3)) (region_with (number % 3))) (InConcept (number - 3 * pair_count p)))) (sym (lt-ltb number (3 * pair_count p) small))
-    named (inr past) =
-        ap (λ b. cond b (Some (InRegion (pair_at p (number / 3)) (region_with (number % 3)))) (cond (nat_lt number (3 * pair_count p + concept_count p)) (Some (InConcept (number - 3 * pair_count p))) None))
-        (le-ltb number (3 * pair_count p) past) ∙
-        ap (λ b. cond b (Some (InConcept (number - 3 * pair_count p))) None) (lt-ltb number (3 * pair_count p + concept_count p) within) ∙
-        ap (λ b. Some (cond b (InRegion (pair_at p (number / 3)) (region_with (number % 3))) (InConcept (number - 3 * pair_count p)))) (sym (le-ltb number (3 * pair_count p) past))
-
-pub seen_named : (p : Problem) (need : code.Need) → IsInRange p need → IsNeed p (need_seen p need)
-seen_named p need range = subst (λ x. IsNeed p x) (numbered_need p need range).1 (need_named p (number_of p need) (numbered_need p need range).0)
-
-pub numbered_needed : (p : Problem) (m : List Rel) (need : code.Need) → IsInRange p need → Contains (needs (problem_at p m)) (need_seen p need) → is_needed (problem_at p m) (number_of p need) ≡ true
-numbered_needed p m (Region pair part) range there =
-    let q = problem_at p m in
-    let number = 3 * pair + part in
-    let forced = (alive.from_needs q (InRegion (pair_at p pair) (region_with part)) (in_from_contains (needs q) there)).1 in
-    let third : number / 3 ≡ pair = omega (arith, range) in
-    let rest : number % 3 ≡ part = omega (arith, range) in
-    needed_by q number (omega (arith, range)) ∙ ap (λ k. same_word (word_at (forced_at q k) (region_with (number % 3))) Occupied) third ∙
-    ap (λ k. same_word (word_at (forced_at q pair) (region_with k)) Occupied) rest ∙ forced.same
-numbered_needed p m (Concept c) range there =
-    let q = problem_at p m in
-    needed_past q (3 * pair_count p + c) (omega arith) ∙ (alive.from_needs q (InConcept c) (in_from_contains (needs q) there)).0
-
--- the parts of a stand
-pub stand_from : (s : StandState) (p : Problem) (m : List Rel) → s.problem ≡ p → s.path ≡ m → s ≡ record { problem = p; path = m }
-stand_from s p m problem path = ap (λ (q : Problem). record s { problem = q }) problem ∙ ap (λ (n : List Rel). record { problem = p; path = n }) path
-
--- the same answers at the prefix that was asked about
-pub alive_at : (w : Walk) (p : Problem) (m : List Rel) → w.stand ≡ record { problem = p; path = m } → IsWalk w → w.waiting ≡ [] → all_allow (problem_at p m) ≡ true → IsAlive (problem_at p m)
-alive_at w p m same is none allow =
-    subst (λ s. IsAlive (problem_at s.problem s.path)) same (settled_alive w is none (subst (λ s. all_allow (problem_at s.problem s.path) ≡ true) (sym same) allow))
-
-pub closed_at : (w : Walk) (s : SolverState) (p : Problem) (m : List Rel) (number id : ℕ) (need : Need) → w.stand ≡ record { problem = p; path = m } → IsFirstStuck w s number id →
+pub closed_at : (w : Pool) (s : SolverState) (p : Problem) (m : List Rel) (number id : ℕ) (need : Need) → w.cursor ≡ record { problem = p; path = m } → IsFirstStuck w s number id →
     all_allow (problem_at p m) ≡ true → need ≡ need_at p number → IsFirstClosed (asker_with p s) p m need id
 closed_at w s p m number id need same stuck allow is =
     subst (λ x. IsFirstClosed (asker_with p s) p m x id) (sym is)
     (subst (λ st. IsFirstClosed (asker_with st.problem s) st.problem st.path (need_at st.problem number) id) same
     (stuck_first w s number id stuck (subst (λ st. all_allow (problem_at st.problem st.path) ≡ true) (sym same) allow)))
 
-pub points_at : (w : Walk) (p : Problem) (m : List Rel) (points : List (List Bool)) → w.stand ≡ record { problem = p; path = m } → all_allow (problem_at p m) ≡ true →
-    EachServed (problem_at w.stand.problem w.stand.path) (needs (problem_at w.stand.problem w.stand.path)) points → IsServed (problem_at p m) points
+pub points_at : (w : Pool) (p : Problem) (m : List Rel) (points : List (List Bool)) → w.cursor ≡ record { problem = p; path = m } → all_allow (problem_at p m) ≡ true →
+    EachServed (problem_at w.cursor.problem w.cursor.path) (needs (problem_at w.cursor.problem w.cursor.path)) points → IsServed (problem_at p m) points
 points_at w p m points same allow each = served (problem_at p m) points allow (subst (λ s. EachServed (problem_at s.problem s.path) (needs (problem_at s.problem s.path)) points) same each)

@@ -1,5 +1,5 @@
 -- Sets of relations that lead on from a prefix, gathered relation by relation.
-use Rattle.std.proofs.Common.{◌≡◌, ◌↔◌, ◌<◌, true, false, ◌||◌, ◌⊎◌, inl, inr, List, [], ◌∷◌, ◌++◌, length, ⊎_elim, true≢false, refl, sym, ap, ◌∙◌, subst, arith, IsTrue}
+use Rattle.std.proofs.Common.{◌≡◌, ◌↔◌, true, false, ◌||◌, ◌⊎◌, inl, inr, List, [], ◌∷◌, ◌++◌, ⊎_elim, refl, sym, ap, ◌∙◌, subst, arith, IsTrue}
 use Rattle.std.specs.Prelude.{Contains}
 use Rattle.std.specs.Ordering.{nat_cmp}
 use Rattle.std.proofs.lemmas.Bool.{or_cases, eqb-true}
@@ -9,14 +9,8 @@ use Rattle.rcc5_core.specs.declared.Rel.{Rel}
 use Rattle.rcc5_core.specs.declared.Rel.TheVariants.{Equals, Includes, IncludedIn, Overlaps, Disjoint}
 use Rattle.rcc5_core.specs.declared.RelSet.{RelSet}
 use Rattle.rcc5_core.specs.Relation.{rank_of, same_rel}
-use Rattle.rcc5_core.specs.RelationSet.{has, no_rels, adding, only}
-use Rattle.rcc5_core.specs.Region.{is_whole_set}
-use Rattle.world_model.specs.Problem.{Problem, pair_count}
-use Rattle.world_model.specs.Node.{pair_at}
-use Rattle.world_model.specs.Alive.{allowed, problem_at, IsAlive}
+use Rattle.rcc5_core.specs.RelationSet.{has, no_rels, adding}
 use Rattle.world_model.proofs.OrderPositions.{exact_rels, rel_itself}
-use Rattle.point_query.specs.After.{AreLeft}
-use Rattle.point_query.proofs.Following.{whole_child}
 
 -- the relations, the last first
 abbrev pub last_first : List Rel
@@ -91,42 +85,3 @@ one_out IsSo rels r set has_those out q = (
       (λ (now : r ≡ q). absurd (out (subst IsSo (sym now) h.1)))
       (Contains-push_cases rels r q h.0),
 )
-
--- a set has only relations that the next pair allows, and each of some that leads to an alive prefix
-pub record AreLeftOf (p : Problem) (m rels : List Rel) (set : RelSet) : Type 0 where
-  pub allow : (rel : Rel) → has set rel ≡ true → has (allowed p (pair_at p (length m))) rel ≡ true
-  pub none_lost : (rel : Rel) → Contains rels rel → IsAlive (problem_at p (m ++ rel ∷ [])) → has set rel ≡ true
-
-pub left_in : (p : Problem) (m rels : List Rel) (r : Rel) (set : RelSet) → AreLeftOf p m rels set → has (allowed p (pair_at p (length m))) r ≡ true → AreLeftOf p m (rels ++ r ∷ []) (adding set r)
-left_in p m rels r set are allows = record {
-  allow = λ q h. ⊎_elim (are.allow q) (λ (now : r ≡ q). subst (λ x. has (allowed p (pair_at p (length m))) x ≡ true) now allows) (added_cases set r q h);
-  none_lost = λ q i alive. ⊎_elim
-      (λ before. added_stays set r q (are.none_lost q before alive))
-      (λ (now : r ≡ q). subst (λ x. has (adding set r) x ≡ true) now (added_there set r))
-      (Contains-push_cases rels r q i);
-}
-
-pub left_out : (p : Problem) (m rels : List Rel) (r : Rel) (set : RelSet) → AreLeftOf p m rels set → (IsAlive (problem_at p (m ++ r ∷ [])) → ⊥) → AreLeftOf p m (rels ++ r ∷ []) set
-left_out p m rels r set are dead = record {
-  allow = are.allow;
-  none_lost = λ q i alive. ⊎_elim
-      (λ before. are.none_lost q before alive)
-      (λ (now : r ≡ q). absurd (dead (subst (λ x. IsAlive (problem_at p (m ++ x ∷ []))) (sym now) alive)))
-      (Contains-push_cases rels r q i);
-}
-
--- the one relation that is left of a whole set leads to an alive prefix
-pub one_is_sure : (p : Problem) (m : List Rel) (set : RelSet) → AreLeft p m set → IsAlive (problem_at p m) → length m < pair_count p → is_whole_set (allowed p (pair_at p (length m))) ≡ true →
-    ((r : Rel) × (set ≡ only r)) → (rel : Rel) → IsTrue (has set rel) ↔ IsAlive (problem_at p (m ++ rel ∷ []))
-one_is_sure p m set left alive short whole one rel =
-    let child = whole_child p m alive short whole in
-    let there : has set child.0 ≡ true = left.none_lost child.0 child.2 in (
-      λ h. subst (λ r. IsAlive (problem_at p (m ++ r ∷ []))) (same (only one.0) one.0 child.0 rel refl (subst (λ s. has s child.0 ≡ true) one.1 there) (subst (λ s. has s rel ≡ true) one.1 h)) child.2,
-      left.none_lost rel,
-    )
-  where
-    only_one : (r q : Rel) → has (only r) q ≡ true → r ≡ q
-    only_one r q h = ⊎_elim (λ none. absurd (true≢false (sym none ∙ has_none q))) (λ now. now) (added_cases no_rels r q h)
-
-    same : (set : RelSet) (r a b : Rel) → set ≡ only r → has set a ≡ true → has set b ≡ true → a ≡ b
-    same set r a b e h g = sym (only_one r a (subst (λ s. has s a ≡ true) e h)) ∙ only_one r b (subst (λ s. has s b ≡ true) e g)

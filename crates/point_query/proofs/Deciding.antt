@@ -6,14 +6,13 @@ use Rattle.rcc5_core.specs.declared.Rel.{Rel}
 use Rattle.rcc5_core.specs.RelationSet.{is_empty_set}
 use Rattle.world_model.specs.Problem.{Problem, pairs}
 use Rattle.world_model.specs.Node.{pair_at}
-use Rattle.world_model.specs.Alive.{Need, allowed, needs, problem_at, IsAlive}
+use Rattle.world_model.specs.Alive.{Need, allowed, needs, problem_at, HasPoint, IsAlive}
 use Rattle.world_model.proofs.Members.{here, In-right, contains_from_in, all_at, In-get_or}
 use Rattle.point_query.specs.Asking.{AskerState}
-use Rattle.point_query.specs.Bare.{IsBare}
-use Rattle.point_query.specs.Stands.{need_at, is_needed}
-use Rattle.point_query.specs.Walks.{need_count}
-use Rattle.point_query.proofs.Numbering.{need_in}
-use Rattle.point_query.specs.Answers.{IsFirstEmpty, IsFirstClosed}
+use Rattle.point_pool.specs.Needs.{need_at, is_needed, need_count}
+use Rattle.point_pool.proofs.Numbering.{need_in}
+use Rattle.point_pool.specs.Cursors.{IsFirstEmpty}
+use Rattle.point_query.specs.Answers.{IsFirstClosed}
 
 -- a pair that allows nothing
 pub empty_is_dead : (p : Problem) (pair : ℕ) → IsFirstEmpty p pair → IsAlive p → ⊥
@@ -28,5 +27,5 @@ closed_is_dead asker p m need id closed alive =
     closed.closed.no_point (alive.points need among)
 
 -- a need that no point of the prefix is in
-pub lost_is_dead : (p : Problem) (m : List Rel) (number : ℕ) → number < need_count p → is_needed (problem_at p m) number ≡ true → IsBare p m (need_at p number) → IsAlive (problem_at p m) → ⊥
-lost_is_dead p m number within needed bare alive = bare (alive.points (need_at p number) (contains_from_in (need_in (problem_at p m) number within needed)))
+pub lost_is_dead : (p : Problem) (m : List Rel) (number : ℕ) → number < need_count p → is_needed (problem_at p m) number ≡ true → (HasPoint (problem_at p m) (need_at p number) → ⊥) → IsAlive (problem_at p m) → ⊥
+lost_is_dead p m number within needed none alive = none (alive.points (need_at p number) (contains_from_in (need_in (problem_at p m) number within needed)))

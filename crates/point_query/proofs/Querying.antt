@@ -24,9 +24,11 @@ use Rattle.cert_model.specs.Forced.{selectors_of, need_lits, asked_of, IsClosedA
 use Rattle.cert_model.specs.Laws.{ClausesArePoints, NeedsAreLiterals, Extends}
 use Rattle.point_query.specs.Asking.{AskerState, AskerGoes}
 use Rattle.point_query.specs.Answers.{IsClosed}
-use Rattle.point_query.specs.Queries.{IsSolverOf, AreSelectors, asker_with}
-use Rattle.point_query.specs.declared.walk.Walk.{Walk}
-use Rattle.point_query.specs.Walks.{IsWalk, IsKeptAsker}
+use Rattle.point_query.specs.Queries.{IsSolverOf, asker_with}
+use Rattle.point_pool.specs.Cursors.{AreSelectors}
+use Rattle.point_pool.specs.declared.pool.Pool.{Pool}
+use Rattle.point_pool.specs.Pools.{IsPool}
+use Rattle.point_query.specs.Closing.{IsKeptAsker}
 
 -- what holds of all of a list holds of all of a list inside it
 all_inside : (test : ℕ → Bool) (xs ys : List ℕ) → ((x : ℕ) → Contains xs x → Contains ys x) → list_all test ys ≡ true → list_all test xs ≡ true
@@ -216,10 +218,10 @@ solver_moves p q s same is = record {
 pub asker_goes_nowhere : (s : AskerState) → AskerGoes s s
 asker_goes_nowhere s = record { shape = refl; solver = goes_nowhere s.solver }
 
--- so does an asker's, and the walk that it keeps
-pub keeps_walk : (shape p : Problem) (s : SolverState) (walk : Option Walk) → shape_of shape ≡ shape_of p → IsSolverOf p s → MatchOption walk (Unit {0}) (λ w. IsWalk w × SameShape w.stand.problem shape) →
-    IsKeptAsker shape s walk
-keeps_walk shape p s walk same is walked = record { solved = solver_moves p shape s (sym same) is; walked = walked }
+-- so does an asker's, and the pool that it keeps
+pub keeps_pool : (shape p : Problem) (s : SolverState) (pool : Option Pool) → shape_of shape ≡ shape_of p → IsSolverOf p s → MatchOption pool (Unit {0}) (λ w. IsPool w × SameShape w.cursor.problem shape) →
+    IsKeptAsker shape s pool
+keeps_pool shape p s pool same is walked = record { solved = solver_moves p shape s (sym same) is; walked = walked }
 
 -- a live clause with only negations of what must be true closes the need
 pub known_is_closed : ClausesArePoints → NeedsAreLiterals → LiteralsAreSets → (p : Problem) (m : List Rel) (need : Need) (s : SolverState) (id : ℕ) →

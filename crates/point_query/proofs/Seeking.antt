@@ -12,12 +12,14 @@ use Rattle.world_model.specs.Alive.{all_allow, problem_at, meets_structure, is_p
 use Rattle.world_model.proofs.Members.{In-map, from_map, in_from_contains, contains_from_in, IsImage}
 use Rattle.point_encode.specs.declared.need.Need as code
 use Rattle.point_encode.specs.Needs.{need_seen, IsInRange}
-use Rattle.point_query.specs.Answers.{EachServed, IsServed, IsClosed, IsFirstClosed}
-use Rattle.point_query.specs.declared.seek.Sought.TheVariants.{Points, Closed}
+use Rattle.point_pool.specs.Needs.{EachServed}
+use Rattle.point_query.specs.Answers.{IsServed, IsClosed, IsFirstClosed}
+use Rattle.point_query.specs.declared.each_need.Sought.TheVariants.{Points, Closed}
 use Rattle.point_query.specs.Asking.{AskerState}
 use Rattle.point_query.specs.Queries.{ArePoints}
 use Rattle.point_query.specs.Seeking.{chosen, AreServed, IsStopped, IsFront, IsSoughtAt}
-use Rattle.point_query.proofs.Serving.{each_push, each_has, served, served_is_alive}
+use Rattle.point_pool.proofs.Serving.{each_push, each_has, served_is_alive}
+use Rattle.point_query.proofs.Answering.{served}
 
 -- points have a bit for each concept
 pub point_length : (p : Problem) (bits : List Bool) → IsTrue (is_point p bits) → length bits ≡ concept_count p

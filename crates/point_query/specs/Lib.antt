@@ -1,9 +1,7 @@
 pub mod Asking
 pub mod Answers
 pub mod Queries
-pub mod Stands
-pub mod After
-pub mod Bare
-pub mod Walks
+pub mod Leading
+pub mod Closing
 pub mod Seeking
 pub mod Remembered

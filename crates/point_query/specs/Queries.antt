@@ -1,12 +1,10 @@
 -- What a query is asked with.
-use Rattle.std.specs.Prelude.{◌≡◌, ℕ, Bool, List, All, Contains, IsTrue}
-use Rattle.rcc5_core.specs.declared.Rel.{Rel}
+use Rattle.std.specs.Prelude.{◌≡◌, Bool, List, All, IsTrue}
 use Rattle.lits_core.specs.Derivation.{SameGiven}
 use Rattle.world_model.specs.Problem.{Problem}
 use Rattle.world_model.specs.Alive.{is_point}
 use Rattle.constraint_set.specs.Shape.{shape_of}
 use Rattle.cert_model.specs.Clauses.{given_clauses, variable_count}
-use Rattle.cert_model.specs.Forced.{selectors_of}
 use Rattle.learn_solver.specs.Solving.{SolverState}
 use Rattle.point_query.specs.Asking.{AskerState}
 
@@ -14,11 +12,6 @@ use Rattle.point_query.specs.Asking.{AskerState}
 pub record IsSolverOf (p : Problem) (s : SolverState) : Type 0 where
   pub variables : s.variables ≡ variable_count p
   pub given : SameGiven (given_clauses p) s.state.given
-
--- literals are those of a prefix's selectors, in any order
-pub record AreSelectors (p : Problem) (m : List Rel) (lits : List ℕ) : Type 0 where
-  pub there : (lit : ℕ) → Contains (selectors_of p m) lit → Contains lits lit
-  pub no_others : (lit : ℕ) → Contains lits lit → Contains (selectors_of p m) lit
 
 -- an asker with this solver
 abbrev pub asker_with : Problem → SolverState → AskerState

@@ -5,13 +5,14 @@ use Rattle.world_model.specs.Problem.{Problem}
 use Rattle.world_model.specs.Alive.{HasPoint, is_in_need, needs, problem_at}
 use Rattle.point_encode.specs.declared.need.Need.{Need}
 use Rattle.point_encode.specs.Needs.{need_seen, IsInRange}
-use Rattle.point_query.specs.declared.seek.Sought.{Sought}
-use Rattle.point_query.specs.declared.seek.Sought.TheVariants.{Points, Closed}
-use Rattle.point_query.specs.declared.seek.Placed.{Placed}
-use Rattle.point_query.specs.declared.seek.Placed.TheVariants.{At}
-use Rattle.point_query.specs.declared.seek.Placed.TheVariants as placed
+use Rattle.point_query.specs.declared.each_need.Sought.{Sought}
+use Rattle.point_query.specs.declared.each_need.Sought.TheVariants.{Points, Closed}
+use Rattle.point_query.specs.declared.each_need.Placed.{Placed}
+use Rattle.point_query.specs.declared.each_need.Placed.TheVariants.{At}
+use Rattle.point_query.specs.declared.each_need.Placed.TheVariants as placed
 use Rattle.point_query.specs.Asking.{AskerState}
-use Rattle.point_query.specs.Answers.{EachServed, IsClosed}
+use Rattle.point_pool.specs.Needs.{EachServed}
+use Rattle.point_query.specs.Answers.{IsClosed}
 
 -- the points at these places
 abbrev pub chosen : List (List Bool) → List ℕ → List (List Bool)

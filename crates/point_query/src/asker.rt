@@ -1,25 +1,25 @@
 //! The asker, as its users see it.
-ghost use Rattle.std.specs.Prelude.{◌≡◌, ◌<◌, ◌≤◌, ◌↔◌, [], ◌∷◌, ◌++◌, length, IfOk, OnOk, OnErr, IfSome, IfNone, IsTrue, Contains};
-ghost use Rattle.rcc5_core.specs.declared.Rel.{Rel};
-ghost use Rattle.rcc5_core.specs.RelationSet.{has};
-ghost use Rattle.world_model.specs.Problem.{pair_count};
-ghost use Rattle.world_model.specs.Alive.{needs, problem_at, IsAlive};
 ghost use Rattle.constraint_set.specs.Shape.{shape_of};
-ghost use Rattle.point_encode.specs.Needs.{need_seen, IsInRange};
 ghost use Rattle.learn_solver.specs.Solving.{IsTidied};
-ghost use Rattle.point_query.specs.Asking.{IsNewAsker, AskerGoes, IsAsker};
-ghost use Rattle.point_query.specs.Answers.{IsFound, IsAliveAnswer, IsProbeAnswer, IsServedByFew};
-ghost use Rattle.point_query.specs.Walks.{IsWalkAt};
+ghost use Rattle.point_encode.specs.Needs.{IsInRange, need_seen};
+ghost use Rattle.point_pool.specs.Pools.{IsPoolAt};
+ghost use Rattle.point_query.specs.Answers.{IsAliveAnswer, IsFound, IsProbeAnswer, IsServedByFew};
+ghost use Rattle.point_query.specs.Asking.{AskerGoes, IsAsker, IsNewAsker};
+ghost use Rattle.rcc5_core.specs.RelationSet.{has};
+ghost use Rattle.rcc5_core.specs.declared.Rel.{Rel};
+ghost use Rattle.std.specs.Prelude.{Contains, IfNone, IfOk, IfSome, IsTrue, OnErr, OnOk, [], length, ◌++◌, ◌+◌, ◌<◌, ◌↔◌, ◌∷◌, ◌≡◌, ◌≤◌};
+ghost use Rattle.world_model.specs.Alive.{IsAlive, needs, problem_at};
+ghost use Rattle.world_model.specs.Problem.{pair_count};
 
-use crate::after::alive_after;
 use crate::answers::{Alive, Found, Points, Probe};
+use crate::closer::Closer;
 use crate::given::solver_of;
-use crate::oracle::Oracle;
-use crate::same::same_problem;
-use crate::walk::Walk;
+use crate::leading::alive_after;
+use crate::probe::{alive, ask, probe, serving};
 use constraint_set::Problem;
 use lits_core::{Line, law_derived_clauses_follow};
 use point_encode::Need;
+use point_pool::{Pool, same_problem};
 use rcc5_core::{Position, RelSet};
 use std::alloc::{AllocError, Global};
 use std::marker::Model;
@@ -27,13 +27,13 @@ use std::marker::Model;
 /// Asks for points of the prefixes of problems of one shape.
 ///
 /// Points that were found are kept, and the last prefix with a point for each of its needs: a prefix that differs from it by
-/// a relation costs a look at the points, and at the needs that lost theirs, of which few go to the solver. So does a walk
+/// a relation costs a look at the points, and at the needs that lost theirs, of which few go to the solver. So does a pool
 /// down and up a tree of prefixes. Another problem of the shape keeps the points that meet it.
 #[derive(Drop)]
 pub struct Asker {
     shape: Problem,
-    solver: Oracle,
-    walk: Option<Walk>,
+    solver: Closer,
+    pool: Option<Pool>,
     alloc: Global,
 }
 
@@ -43,11 +43,11 @@ impl Model for Asker {
 
     ghost Value = { AskerState };
 
-    ghost use Rattle.point_query.specs.Walks.{IsKeptAsker};
+    ghost use Rattle.point_query.specs.Closing.{IsKeptAsker};
 
     ghost view = { λ s. asker_with s.shape s.solver };
 
-    ghost invariant = { λ s. IsKeptAsker s.shape s.solver s.walk };
+    ghost invariant = { λ s. IsKeptAsker s.shape s.solver s.pool };
 }
 
 impl Asker {
@@ -56,12 +56,12 @@ impl Asker {
         ensures { IfOk result (IsNewAsker problem.now) }
     {
         let solver = solver_of(alloc, problem)?;
-        let solver = Oracle::new(alloc, solver, problem)?;
+        let solver = Closer::new(alloc, solver, problem)?;
         let shape = same_problem(alloc, problem)?;
         Ok(Asker {
             shape,
             solver,
-            walk: None,
+            pool: None,
             alloc,
         })
     }
@@ -80,9 +80,9 @@ impl Asker {
         ensures kept { AskerGoes self.old self.new }
         ensures found { IfOk result (IsFound self.new problem.now prefix.now (need_seen problem.now need)) }
     {
-        let mut walk = self.take_walk(problem)?;
-        let found = walk.ask(&mut self.solver, prefix, need)?;
-        self.walk = Some(walk);
+        let mut pool = self.take_pool(problem)?;
+        let found = ask(&mut pool, &mut self.solver, prefix, need)?;
+        self.pool = Some(pool);
         Ok(found)
     }
 
@@ -93,9 +93,9 @@ impl Asker {
         ensures kept { AskerGoes self.old self.new }
         ensures answer { IfOk result (IsAliveAnswer self.new problem.now prefix.now) }
     {
-        let mut walk = self.take_walk(problem)?;
-        let answer = walk.alive(&mut self.solver, prefix)?;
-        self.walk = Some(walk);
+        let mut pool = self.take_pool(problem)?;
+        let answer = alive(&mut pool, &mut self.solver, prefix)?;
+        self.pool = Some(pool);
         Ok(answer)
     }
 
@@ -111,9 +111,9 @@ impl Asker {
         ensures some { IfOk result (λ found. IfSome found (IsServedByFew (problem_at problem.now prefix.now))) }
         ensures none { IfOk result (λ found. IfNone found (IsAlive (problem_at problem.now prefix.now) → ⊥)) }
     {
-        let mut walk = self.take_walk(problem)?;
-        let points = walk.serving(&mut self.solver, prefix)?;
-        self.walk = Some(walk);
+        let mut pool = self.take_pool(problem)?;
+        let points = serving(&mut pool, &mut self.solver, prefix)?;
+        self.pool = Some(pool);
         Ok(points)
     }
 
@@ -124,9 +124,9 @@ impl Asker {
         ensures kept { AskerGoes self.old self.new }
         ensures answer { IfOk result (IsProbeAnswer self.new problem.now prefix.now) }
     {
-        let mut walk = self.take_walk(problem)?;
-        let answer = walk.probe(&mut self.solver, prefix)?;
-        self.walk = Some(walk);
+        let mut pool = self.take_pool(problem)?;
+        let answer = probe(&mut pool, &mut self.solver, prefix)?;
+        self.pool = Some(pool);
         Ok(answer)
     }
 
@@ -137,10 +137,11 @@ impl Asker {
         ensures kept { AskerGoes self.old self.new }
         ensures alive { IfOk result (λ yes. IsTrue yes ↔ IsAlive (problem_at problem.now prefix.now)) }
     {
-        let mut walk = self.take_walk(problem)?;
-        let alive = walk.is_alive(&mut self.solver, prefix)?;
-        self.walk = Some(walk);
-        Ok(alive)
+        match self.probe(problem, prefix)? {
+            Probe::Alive => Ok(true),
+            Probe::EmptyPair(_) => Ok(false),
+            Probe::Closed(_, _) => Ok(false),
+        }
     }
 
     /// The relations that lead on from an alive prefix to an alive one.
@@ -155,21 +156,21 @@ impl Asker {
         ensures kept { AskerGoes self.old self.new }
         ensures each { IfOk result (λ set. (rel : Rel) → IsTrue (has set rel) ↔ IsAlive (problem_at problem.now (prefix.now ++ rel ∷ []))) }
     {
-        let mut walk = self.take_walk(problem)?;
-        let set = alive_after(&mut walk, &mut self.solver, prefix)?;
-        self.walk = Some(walk);
+        let mut pool = self.take_pool(problem)?;
+        let set = alive_after(&mut pool, &mut self.solver, prefix)?;
+        self.pool = Some(pool);
         Ok(set)
     }
 
-    // The walk that was kept, brought to a problem. Until it is put back the asker keeps none.
-    fn take_walk(&mut self, problem: &Problem) -> Result<Walk, AllocError>
+    // The pool that was kept, brought to a problem. Until it is put back the asker keeps none.
+    fn take_pool(&mut self, problem: &Problem) -> Result<Pool, AllocError>
         requires shape { self.old.shape ≡ shape_of problem.now }
         ensures same { self.new ≡ self.old }
-        ensures walk { IfOk result (IsWalkAt problem.now) }
+        ensures pool { IfOk result (IsPoolAt problem.now) }
     {
-        match self.walk.take() {
-            Some(walk) => walk.moved_to(self.alloc, problem),
-            None => new_walk(self.alloc, problem),
+        match self.pool.take() {
+            Some(pool) => pool.moved_to(self.alloc, problem),
+            None => new_pool(self.alloc, problem),
         }
     }
 
@@ -219,9 +220,9 @@ impl Asker {
     }
 }
 
-// A walk at a problem, without points.
-fn new_walk(alloc: Global, problem: &Problem) -> Result<Walk, AllocError>
-    ensures { IfOk result (IsWalkAt problem.now) }
+// A pool at a problem, without points.
+fn new_pool(alloc: Global, problem: &Problem) -> Result<Pool, AllocError>
+    ensures { IfOk result (IsPoolAt problem.now) }
 {
-    Walk::new(alloc, same_problem(alloc, problem)?, Vec::new(alloc))
+    Pool::new(alloc, same_problem(alloc, problem)?, Vec::new(alloc))
 }

@@ -1,9 +1,9 @@
 //! A solver over the given clauses of a problem.
-ghost use Rattle.std.specs.Prelude.{◌≡◌, [], IfOk, OnOk};
-ghost use Rattle.lits_core.specs.Derivation.{first_state, SameState};
 ghost use Rattle.cert_model.specs.Clauses.{given_clauses, variable_count};
+ghost use Rattle.lits_core.specs.Derivation.{SameState, first_state};
 ghost use Rattle.point_query.specs.Asking.{IsNewAsker};
 ghost use Rattle.point_query.specs.Queries.{asker_with};
+ghost use Rattle.std.specs.Prelude.{IfOk, OnOk, [], ◌≡◌};
 
 use constraint_set::Problem;
 use learn_solver::Solver;

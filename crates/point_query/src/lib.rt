@@ -1,25 +1,18 @@
 //! Whether a prefix is alive, by asking for single points.
 #![tactic(auto)]
 
-mod after;
 mod answers;
 mod asker;
-mod assume;
+mod closer;
+mod closes;
 mod closings;
-mod draft;
-mod fresh;
+mod each_need;
 mod given;
-mod oracle;
+mod leading;
 mod plain;
+mod probe;
 mod query;
-mod reading;
-mod replies;
-mod rule_out;
-mod same;
-mod seek;
-mod stand;
-mod waiting;
-mod walk;
+mod settle;
 
 pub use answers::{Alive, Found, Points, Probe};
 pub use asker::Asker;

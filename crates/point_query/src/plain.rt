@@ -1,23 +1,23 @@
 //! The plain asker: nothing is kept from call to call.
-ghost use Rattle.std.specs.Prelude.{◌≡◌, ◌<◌, ◌≤◌, All, length, IfOk, OnOk, OnErr, Contains};
-ghost use Rattle.world_model.specs.Problem.{pair_count};
-ghost use Rattle.world_model.specs.Alive.{needs, problem_at};
 ghost use Rattle.constraint_set.specs.Shape.{shape_of};
-ghost use Rattle.point_encode.specs.Needs.{need_seen, IsInRange};
 ghost use Rattle.learn_solver.specs.Solving.{IsTidied};
-ghost use Rattle.point_query.specs.Asking.{IsNewAsker, AskerGoes};
-ghost use Rattle.point_query.specs.Answers.{IsFound, IsAliveAnswer, IsProbeAnswer};
-ghost use Rattle.point_query.specs.Seeking.{chosen, IsSoughtAt};
+ghost use Rattle.point_encode.specs.Needs.{IsInRange, need_seen};
+ghost use Rattle.point_query.specs.Answers.{IsAliveAnswer, IsFound, IsProbeAnswer};
+ghost use Rattle.point_query.specs.Asking.{AskerGoes, IsNewAsker};
+ghost use Rattle.point_query.specs.Seeking.{IsSoughtAt, chosen};
+ghost use Rattle.std.specs.Prelude.{All, Contains, IfOk, OnErr, OnOk, length, ◌<◌, ◌≡◌, ◌≤◌};
+ghost use Rattle.world_model.specs.Alive.{needs, problem_at};
+ghost use Rattle.world_model.specs.Problem.{pair_count};
 
 use crate::answers::{Alive, Found, Points, Probe};
+use crate::each_need::{Sought, first_empty, points_for_all};
 use crate::given::solver_of;
-use crate::query::{copy, query};
-use crate::same::same_problem;
-use crate::seek::{Sought, first_empty, seek};
+use crate::query::query;
 use constraint_set::Problem;
 use learn_solver::Solver;
 use lits_core::{Bits, law_derived_clauses_follow};
 use point_encode::{Need, needs_of, selectors_of};
+use point_pool::{copy, same_problem};
 use rcc5_core::Position;
 use std::alloc::{AllocError, Global};
 use std::marker::Model;
@@ -90,7 +90,7 @@ impl PlainAsker {
         if let Some(pair) = first_empty(problem, prefix) {
             return Ok(Alive::EmptyPair(pair));
         }
-        match self.seek(problem, prefix)? {
+        match self.points_for_all(problem, prefix)? {
             Sought::Points { found, places } => {
                 let points = copies(self.alloc, &found, &places)?;
                 Ok(Alive::Points(points))
@@ -109,7 +109,7 @@ impl PlainAsker {
         if let Some(pair) = first_empty(problem, prefix) {
             return Ok(Probe::EmptyPair(pair));
         }
-        match self.seek(problem, prefix)? {
+        match self.points_for_all(problem, prefix)? {
             Sought::Points { .. } => Ok(Probe::Alive),
             Sought::Closed(need, id) => Ok(Probe::Closed(need, id)),
         }
@@ -135,7 +135,7 @@ impl PlainAsker {
     }
 
     // Points for all needs of a prefix, or the first need without a point.
-    fn seek(&mut self, problem: &Problem, prefix: &Position) -> Result<Sought, AllocError>
+    fn points_for_all(&mut self, problem: &Problem, prefix: &Position) -> Result<Sought, AllocError>
         requires shape { self.old.shape ≡ shape_of problem.now }
         requires prefix { length prefix.now ≤ pair_count problem.now }
         ensures kept { AskerGoes self.old self.new }
@@ -143,7 +143,7 @@ impl PlainAsker {
     {
         let selectors = selectors_of(self.alloc, problem, prefix)?;
         let needs = needs_of(self.alloc, problem, prefix)?;
-        seek(
+        points_for_all(
             self.alloc,
             &mut self.solver,
             problem,

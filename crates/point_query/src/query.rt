@@ -1,17 +1,19 @@
 //! Asking the solver for one point.
-ghost use Rattle.std.specs.Prelude.{◌≡◌, ◌≤◌, ◌++◌, length, take, IfOk, OnOk, None};
 ghost use Rattle.cert_model.specs.Forced.{need_lits};
-ghost use Rattle.point_encode.specs.Needs.{need_seen, lits_there, IsInRange};
 ghost use Rattle.learn_solver.specs.Solving.{GoesTo};
+ghost use Rattle.point_encode.specs.Needs.{IsInRange, lits_there, need_seen};
+ghost use Rattle.point_pool.specs.Cursors.{AreSelectors};
 ghost use Rattle.point_query.specs.Answers.{IsFound};
-ghost use Rattle.point_query.specs.Queries.{IsSolverOf, AreSelectors, asker_with};
+ghost use Rattle.point_query.specs.Queries.{IsSolverOf, asker_with};
+ghost use Rattle.std.specs.Prelude.{IfOk, None, OnOk, ◌++◌, ◌+◌, ◌≡◌};
 
 use crate::answers::Found;
 use cert_model::{clauses_are_points, needs_are_literals};
 use constraint_set::Problem;
 use learn_solver::{Answer, Solver};
-use lits_core::{Bits, Lit, law_derived_clauses_follow, law_literals_are_sets};
+use lits_core::{Lit, law_derived_clauses_follow, law_literals_are_sets};
 use point_encode::{Need, need_lits};
+use point_pool::front;
 use rcc5_core::Rel;
 use std::alloc::{AllocError, Global};
 
@@ -74,23 +76,4 @@ fn push_there(all: &mut Vec<Lit>, lit: Option<Lit>) -> Result<(), AllocError>
         }
         None => Ok(()),
     }
-}
-
-// The first bits.
-fn front(alloc: Global, bits: &Bits, count: usize) -> Result<Bits, AllocError>
-    requires { count ≤ length bits.now }
-    ensures { IfOk result (λ front. front ≡ take count bits.now) }
-{
-    let mut front = Bits::new(alloc, count)?;
-    for place in 0..count {
-        front.set(place, bits.get(place));
-    }
-    Ok(front)
-}
-
-// A second list of the same bits.
-pub(crate) fn copy(alloc: Global, bits: &Bits) -> Result<Bits, AllocError>
-    ensures { IfOk result (λ copy. copy ≡ bits.now) }
-{
-    front(alloc, bits, bits.len())
 }

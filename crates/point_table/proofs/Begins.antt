@@ -11,8 +11,8 @@ use Rattle.world_model.specs.Trial.{bit_lists, points_by_trial}
 use Rattle.world_model.proofs.Members.{In, In-get_or, from_filter}
 use Rattle.world_model.proofs.PointRules.{structure_parts}
 use Rattle.world_model.proofs.PointAlive.{point_parts}
+use Rattle.bit_rows.specs.Rows.{has_bit, SomePlace, BitRows, bit_in, IsPushed, IsPut}
 use Rattle.point_table.specs.declared.rules.Rules.{Rules}
-use Rattle.point_table.specs.Rows.{has_bit, SomePlace, BitRows, bit_in, IsPushed, IsPut}
 use Rattle.point_table.specs.Growing.{points_below, NoneBegins, IsTried, AreRules}
 
 -- what begins with one bit more begins without it, and has that bit
@@ -132,14 +132,6 @@ below_all p = ap (filter (is_point p)) (same (bit_lists (concept_count p)))
     same : (lists : List (List Bool)) → map (λ (rest : List Bool). [] ++ rest) lists ≡ lists
     same [] = refl
     same (rest ∷ lists) = ap (λ xs. rest ∷ xs) (same lists)
-
--- a common place of two rows, by the bits that they show
-pub shown_common : (one other : List ℕ) (f g : ℕ → Bool) → ((k : ℕ) → has_bit one k ≡ f k) → ((k : ℕ) → has_bit other k ≡ g k) →
-    SomePlace (λ k. has_bit one k && has_bit other k) → SomePlace (λ k. f k && g k)
-shown_common one other f g ones others some = record {
-  place = some.place;
-  passes = ap (λ b. b && g some.place) (sym (ones some.place)) ∙ ap (λ b. has_bit one some.place && b) (sym (others some.place)) ∙ some.passes;
-}
 
 pub not_false : (b : Bool) → not b ≡ false → b ≡ true
 not_false true h = refl

@@ -1,16 +1,3 @@
-pub mod WordBits
-pub mod RowBits
 pub mod PointTests
 pub mod Begins
 pub mod Building
-pub mod Frames
-pub mod Owing
-pub mod Narrowing
-pub mod Alike
-pub mod Serving
-pub mod Ladders
-pub mod InForce
-pub mod Along
-pub mod Climbing
-pub mod Bounding
-pub mod BoundSteps

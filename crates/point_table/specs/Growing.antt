@@ -4,10 +4,10 @@ use Rattle.world_model.specs.Problem.{Problem, concept_count}
 use Rattle.world_model.specs.Alive.{bit_of, is_point}
 use Rattle.std.specs.List.{list_any}
 use Rattle.world_model.specs.Trial.{bit_lists}
+use Rattle.bit_rows.specs.Rows.{SomePlace, BitRows, bit_in}
 use Rattle.point_table.specs.declared.rules.Rules.{Rules}
 use Rattle.point_table.specs.declared.grow.Terms.{Terms}
 use Rattle.point_table.specs.Points.{AreAllowed, empty_pairs}
-use Rattle.point_table.specs.Rows.{SomePlace, BitRows, bit_in}
 
 -- the points with these bits and then n more, in order
 unfoldable pub points_below : Problem → List Bool → ℕ → List (List Bool)

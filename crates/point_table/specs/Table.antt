@@ -1,7 +1,9 @@
 -- Points in rows of bits: one row a concept, one place a point.
 use Rattle.std.specs.Prelude.{◌≡◌, ℕ, ◌+◌, ◌/◌, ◌<◌, Bool, List, [], length, slice_index_or}
+use Rattle.world_model.specs.Problem.{Problem, concept_count}
 use Rattle.world_model.specs.Alive.{bit_of}
-use Rattle.point_table.specs.Rows.{BitRows, bit_in}
+use Rattle.world_model.specs.Trial.{points_by_trial}
+use Rattle.bit_rows.specs.Rows.{BitRows, bit_in}
 
 -- the point at a place, and none of all concepts past the last
 abbrev pub point_at : List (List Bool) → ℕ → List Bool
@@ -11,7 +13,8 @@ point_at points place = slice_index_or points place []
 pub record AreShown (points : List (List Bool)) (rows : BitRows) : Type 0 where
   pub bits : (c k : ℕ) → c < rows.count → bit_in rows c k ≡ bit_of (point_at points k) c
 
--- what a table keeps: a row for each concept that a point has a bit for, each as wide as the points need
-pub record IsTable (points : List (List Bool)) (rows : BitRows) : Type 0 where
-  pub shown : AreShown points rows
-  pub width : rows.width ≡ length points / 64 + 1
+-- rows show all points of a problem, one row a concept
+pub record AreRowsOf (p : Problem) (rows : BitRows) : Type 0 where
+  pub shown : AreShown (points_by_trial p) rows
+  pub counted : rows.count ≡ concept_count p
+  pub width : rows.width ≡ length (points_by_trial p) / 64 + 1

@@ -1,16 +1,15 @@
 //! The rules of a problem: what its trees, pairs and sums say of two concepts, closed under implication, and which heads need
 //! one of a row.
-ghost use Rattle.std.specs.Prelude.{◌≡◌, ◌≢◌, ℕ, ◌+◌, ◌*◌, ◌/◌, ◌<◌, ◌≤◌, true, false, length, All, ◌⊎◌, Contains, IfOk, OnOk, IsTrue};
+ghost use Rattle.std.specs.Prelude.{◌≡◌, ◌≢◌, ℕ, ◌+◌, ◌*◌, ◌/◌, ◌<◌, ◌≤◌, true, false, length, All, ◌⊎◌, Contains, IfOk, OnOk};
 ghost use Rattle.rcc5_core.specs.declared.Occupancy.TheVariants.{Empty};
 ghost use Rattle.rcc5_core.specs.Region.{same_word};
 ghost use Rattle.world_model.specs.Problem.{Problem, concept_count, children_of, pair_count};
-ghost use Rattle.point_table.specs.Rows.{has_bit, bit_in};
-ghost use Rattle.point_table.specs.Points.{AreAllowed, empty_pairs};
+ghost use Rattle.bit_rows.specs.Rows.{has_bit, bit_in};
+ghost use Rattle.point_table.specs.Points.{AreAllowed};
 ghost use Rattle.point_table.specs.Growing.{AreImplied, AreExcluded, AreCovers, FitConcepts, AreRules, IsSquare, IsSameSize, HasCover, IsMoreCovered};
 
-use crate::rows::Rows;
 use crate::rules::Rules;
-use crate::words::has_bit;
+use bit_rows::{Rows, has_bit};
 use constraint_set::Problem;
 use rcc5_core::{Occupancy, RelSet, forced};
 use std::alloc::{AllocError, Global};

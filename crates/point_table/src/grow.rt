@@ -1,13 +1,12 @@
 //! All points of a problem, by a search through the lists of bits that turns back where no point begins.
-ghost use Rattle.std.specs.Prelude.{◌≡◌, ℕ, ◌+◌, ◌-◌, ◌<◌, ◌≤◌, true, false, [], ◌∷◌, ◌++◌, if◌then◌else◌, length, IfOk, IsTrue};
+ghost use Rattle.std.specs.Prelude.{◌≡◌, ◌+◌, ◌-◌, ◌<◌, true, false, [], ◌∷◌, ◌++◌, if◌then◌else◌, length, IfOk};
 ghost use Rattle.world_model.specs.Problem.{concept_count};
 ghost use Rattle.world_model.specs.Alive.{is_point};
-ghost use Rattle.point_table.specs.Points.{AreAllowed, empty_pairs};
-ghost use Rattle.point_table.specs.Growing.{points_below, IsTried, FitConcepts, AreRules, AreTerms};
+ghost use Rattle.point_table.specs.Growing.{points_below, IsTried, AreTerms};
 
 use crate::points::is_point;
-use crate::rows::Rows;
 use crate::rules::Rules;
+use bit_rows::Rows;
 use constraint_set::Problem;
 use lits_core::Bits;
 use rcc5_core::RelSet;

@@ -1,5 +1,5 @@
 //! The test of a point: whether a list of bits, one a concept, is a point of a problem.
-ghost use Rattle.std.specs.Prelude.{◌≡◌, ℕ, ◌+◌, ◌<◌, ◌==◌, ◌&&◌, ◌||◌, not, [], ◌∷◌, ◌++◌, if◌then◌else◌, length, All, IfOk, OnOk};
+ghost use Rattle.std.specs.Prelude.{◌≡◌, ◌+◌, ◌<◌, ◌==◌, ◌&&◌, ◌||◌, not, [], ◌∷◌, ◌++◌, if◌then◌else◌, length, All, IfOk, OnOk};
 ghost use Rattle.std.specs.List.{list_all, list_any};
 ghost use Rattle.world_model.specs.Problem.{concept_count, children_of, pair_count, kept_sums};
 ghost use Rattle.world_model.specs.Family.{implies};
@@ -14,8 +14,8 @@ use std::alloc::{AllocError, Global};
 // The regions of a pair, in their order.
 const REGIONS: [Region; 3] = [Region::LeftOnly, Region::Both, Region::RightOnly];
 
-// What each pair allows, by its number.
-pub(crate) fn allowed_sets(alloc: Global, problem: &Problem) -> Result<Vec<RelSet>, AllocError>
+/// What each pair allows, by its number.
+pub fn allowed_sets(alloc: Global, problem: &Problem) -> Result<Vec<RelSet>, AllocError>
     ensures { IfOk result (λ sets. AreAllowed problem.now sets.items) }
 {
     let mut sets = Vec::with_capacity(alloc, problem.pair_count() as usize)?;

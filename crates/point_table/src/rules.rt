@@ -1,11 +1,10 @@
 //! Rules on the points of a problem, of two concepts or of a concept and some others, closed under implication.
-ghost use Rattle.std.specs.Prelude.{◌≡◌, ◌↔◌, ℕ, ◌+◌, ◌*◌, ◌<◌, ◌≤◌, ◌&&◌, Bool, true, false, List, [], ◌∷◌, ◌++◌, length, All, IsTrue, IfOk, OnOk};
-ghost use Rattle.world_model.specs.Problem.{Problem, concept_count};
-ghost use Rattle.point_table.specs.Rows.{has_bit, SomePlace, bit_in};
-ghost use Rattle.point_table.specs.Growing.{NoneBegins, AreImplied, AreExcluded, AreCovers, IsTried, FitConcepts, AreRules};
+ghost use Rattle.std.specs.Prelude.{◌≡◌, ◌+◌, ◌*◌, ◌<◌, ◌&&◌, Bool, true, false, List, [], ◌∷◌, ◌++◌, length, IfOk};
+ghost use Rattle.world_model.specs.Problem.{Problem};
+ghost use Rattle.bit_rows.specs.Rows.{has_bit};
+ghost use Rattle.point_table.specs.Growing.{NoneBegins, IsTried, FitConcepts, AreRules};
 
-use crate::rows::Rows;
-use crate::words::{Cells, has_bit, meets};
+use bit_rows::{Rows, has_bit, have_common, is_inside};
 use std::alloc::{AllocError, Global};
 
 // What follows from a concept's bit, and what does not go with it; and heads that need one of a row, by the last concept in it.
@@ -16,20 +15,6 @@ pub(crate) struct Rules {
     pub(crate) heads: Vec<usize>,
     pub(crate) covers: Rows,
     pub(crate) last: Vec<Vec<usize>>,
-}
-
-// Whether two rows have a place in common.
-pub(crate) fn have_common(one: &[u64], other: &[u64]) -> bool
-    ensures { IsTrue result ↔ SomePlace (λ k. has_bit one.now k && has_bit other.now k) }
-{
-    meets(one, other, one, other, Cells::all())
-}
-
-// Whether a row's places are all in another.
-pub(crate) fn is_inside(one: &[u64], other: &[u64]) -> bool
-    ensures { IsTrue result ↔ ((k : ℕ) → has_bit one.now k ≡ true → has_bit other.now k ≡ true) }
-{
-    !meets(one, one, other, other, Cells::neither())
 }
 
 impl Rules {

@@ -1,25 +1,24 @@
 //! All points of a problem, as a list and as rows of bits.
-ghost use Rattle.std.specs.Prelude.{◌≡◌, ℕ, ◌+◌, ◌*◌, ◌/◌, ◌<◌, ◌≤◌, true, false, [], length, All, IfOk, IfSome, OnOk, slice_index_or};
+ghost use Rattle.std.specs.Prelude.{◌≡◌, ℕ, ◌+◌, ◌*◌, ◌/◌, ◌<◌, false, length, All, IfOk, IfSome};
 ghost use Rattle.world_model.specs.Problem.{concept_count};
 ghost use Rattle.world_model.specs.Alive.{bit_of};
 ghost use Rattle.world_model.specs.Trial.{points_by_trial};
-ghost use Rattle.point_table.specs.Rows.{word_bit, has_bit, bit_in};
+ghost use Rattle.bit_rows.specs.Rows.{word_bit, has_bit};
 ghost use Rattle.point_table.specs.Points.{AreAllowed};
 ghost use Rattle.point_table.specs.Table.{point_at, AreShown};
 
 use crate::build::{nothing_known, rules_of};
 use crate::grow::{Search, Terms, grow};
 use crate::points::{allowed_sets, pairs_with_empty};
-use crate::rows::Rows;
-use crate::words::{Cells, with_bit};
+use bit_rows::{Cells, Rows, with_bit};
 use constraint_set::Problem;
 use lits_core::Bits;
 use rcc5_core::RelSet;
 use std::alloc::{AllocError, Global};
 use std::marker::Model;
 
-// All points of a problem, if they are at most so many and are found in so many tries.
-pub(crate) fn all_points(
+/// All points of a problem, if they are at most so many and are found in so many tries.
+pub fn all_points(
     alloc: Global,
     problem: &Problem,
     sets: &[RelSet],
@@ -94,8 +93,8 @@ fn row_of(alloc: Global, points: &[Bits], concept: usize) -> Result<Vec<u64>, Al
     Ok(row)
 }
 
-// The rows of so many concepts.
-pub(crate) fn rows_of(alloc: Global, points: &[Bits], count: usize) -> Result<Rows, AllocError>
+/// The rows of so many concepts.
+pub fn rows_of(alloc: Global, points: &[Bits], count: usize) -> Result<Rows, AllocError>
     requires { All (λ bits. length bits ≡ count) points.now }
     ensures count { IfOk result (λ rows. rows.count ≡ count) }
     ensures width { IfOk result (λ rows. rows.width ≡ length points.now / 64 + 1) }
@@ -109,22 +108,18 @@ pub(crate) fn rows_of(alloc: Global, points: &[Bits], count: usize) -> Result<Ro
     Ok(rows)
 }
 
-/// All points of a problem, each once, in order, with a row of bits for each concept.
+/// All points of a problem, each once, in order.
 #[derive(Drop)]
 pub struct PointTable {
     points: Vec<Bits>,
-    rows: Rows,
 }
 
 impl Model for PointTable {
     ghost use Rattle.std.specs.Prelude.{Bool, List};
-    ghost use Rattle.point_table.specs.Table.{IsTable};
 
     ghost Value = { List (List Bool) };
 
     ghost view = { λ t. t.points.items };
-
-    ghost invariant = { λ t. IsTable t.points.items t.rows };
 }
 
 impl PointTable {
@@ -140,7 +135,10 @@ impl PointTable {
         ensures { IfOk result (λ found. IfSome found (λ table. table ≡ points_by_trial problem.now)) }
     {
         let sets = allowed_sets(alloc, problem)?;
-        table_of(alloc, problem, &sets, most, tries)
+        let Some(points) = all_points(alloc, problem, &sets, most, tries)? else {
+            return Ok(None);
+        };
+        Ok(Some(PointTable { points }))
     }
 
     /// The points, in order.
@@ -149,40 +147,4 @@ impl PointTable {
     {
         &self.points
     }
-
-    // How many words a row has.
-    pub(crate) fn width(&self) -> usize
-        ensures { result ≡ length self.now / 64 + 1 }
-    {
-        self.rows.width()
-    }
-
-    // A concept's row: its bit in each point.
-    pub(crate) fn row(&self, concept: usize) -> Option<&[u64]>
-        ensures { IfSome result (λ row. (k : ℕ) → has_bit row.now k ≡ bit_of (point_at self.now k) concept) }
-    {
-        if concept < self.rows.count() {
-            Some(self.rows.row(concept))
-        } else {
-            None
-        }
-    }
-}
-
-// The table of a problem, by what its pairs allow.
-pub(crate) fn table_of(
-    alloc: Global,
-    problem: &Problem,
-    sets: &[RelSet],
-    most: usize,
-    tries: usize,
-) -> Result<Option<PointTable>, AllocError>
-    requires { AreAllowed problem.now sets.now }
-    ensures { IfOk result (λ found. IfSome found (λ table. table ≡ points_by_trial problem.now)) }
-{
-    let Some(points) = all_points(alloc, problem, sets, most, tries)? else {
-        return Ok(None);
-    };
-    let rows = rows_of(alloc, &points, problem.concept_count() as usize)?;
-    Ok(Some(PointTable { points, rows }))
 }

@@ -1,4 +1,4 @@
-//! How many points small problems have, and which; and how far a ladder goes along decided pairs.
+//! How many points small problems have, and which.
 ghost use Rattle.std.specs.Prelude.{◌≡◌, false, length, IfOk, IsTrue};
 ghost use Rattle.std.specs.List.{list_all};
 ghost use Rattle.rcc5_core.specs.RelationSet.{is_empty_set};
@@ -6,7 +6,7 @@ ghost use Rattle.constraint_set.specs.Build.{size_of};
 ghost use Rattle.constraint_set.specs.Facts.{is_said};
 ghost use Rattle.constraint_set.specs.Samples.{fits_three_and_three};
 
-use super::{Ladder, PointTable};
+use super::PointTable;
 use constraint_set::{Articulation, Problem, Switches};
 use rcc5_core::{Rel, RelSet};
 use std::alloc::{AllocError, Global};
@@ -113,26 +113,5 @@ fn too_many_points_or_tries_give_no_table(rt: HostRuntime) -> Result<(), Fail> {
     assert!(rt; PointTable::of(alloc, &free, 5, 99)?.is_some());
     assert!(rt; PointTable::of(alloc, &free, 4, 99)?.is_none());
     assert!(rt; PointTable::of(alloc, &free, 5, 5)?.is_none());
-    Ok(())
-}
-
-// How many pairs a ladder over bounds passes at once from its start.
-fn passed(alloc: Global, problem: &Problem) -> Result<usize, AllocError> {
-    let Some(mut ladder) = Ladder::bounded(alloc, problem, 9, 99)? else {
-        return Ok(0);
-    };
-    if ladder.is_alive() {
-        ladder.skip();
-    }
-    Ok(ladder.path().len())
-}
-
-#[test]
-fn decided_pairs_are_passed_at_once(rt: HostRuntime) -> Result<(), Fail> {
-    let alloc = rt.alloc();
-    let free = sample(alloc, RelSet::all())?;
-    let equal = sample(alloc, RelSet::one(Rel::Equals))?;
-    assert!(rt; passed(alloc, &free)? == 4);
-    assert!(rt; passed(alloc, &equal)? == 15);
     Ok(())
 }

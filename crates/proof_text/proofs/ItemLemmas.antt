@@ -17,7 +17,7 @@ pub record IsWordOf (item : List ℕ → Option ℕ) (x : ℕ) (word : List ℕ)
   pub clean : (byte : ℕ) → byte < 45 → has_byte byte word ≡ false
   pub other : bytes_eq word zero_word ≡ false
 
-item_at-some : (item : List ℕ → Option ℕ) (word : List ℕ) (x : ℕ) → 0 < length word → item word ≡ Some x → item_at item word ≡ Ok x
+pub item_at-some : (item : List ℕ → Option ℕ) (word : List ℕ) (x : ℕ) → 0 < length word → item word ≡ Some x → item_at item word ≡ Ok x
 item_at-some item [] x some e = absurd (omega arith)
 item_at-some item (first ∷ others) x some e = ap (λ o. ok_or o BadNumber) e
 

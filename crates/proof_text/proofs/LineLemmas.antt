@@ -35,7 +35,7 @@ list_of-words item text (x ∷ items) rest h =
     ∙ ap (λ read. read >>= λ others. Ok (x ∷ others.0, others.1)) (list_of-words item text items rest h.1)
 
 -- a byte below `-` (45) is in no word
-abbrev AreClean : ℕ → List (List ℕ) → Type 0
+abbrev pub AreClean : ℕ → List (List ℕ) → Type 0
 AreClean byte words = AllByRecursion (λ word. has_byte byte word ≡ false) words
 
 clean_words : (byte : ℕ) → byte < 45 → (item : List ℕ → Option ℕ) (text : ℕ → List ℕ) (items : List ℕ) (rest : List (List ℕ)) →
@@ -61,7 +61,7 @@ clean_ids byte low ids h =
     subst (AreClean byte) (append-nil (list_words decimal ids)) (clean_words byte low id_in decimal ids [] (id_words ids h) tt)
 
 -- no byte below `-` is in a word of a line
-clean_line : (byte : ℕ) → byte < 45 → (line : Line) → IsLine line → AreClean byte (line_words line)
+pub clean_line : (byte : ℕ) → byte < 45 → (line : Line) → IsLine line → AreClean byte (line_words line)
 clean_line byte low (Derive id lits hints) h = (
   other_letter byte low,
   (
@@ -77,7 +77,7 @@ clean_line byte low (Forget ids) h = (other_letter byte low, clean_ids byte low 
     other_letter : (byte : ℕ) → byte < 45 → has_byte byte (codes "k") ≡ false
     other_letter byte low = grind (arith, nat_tests)
 
-derive_of-words : (id : ℕ) (lits hints : List ℕ) → IsLine (Derive id lits hints) →
+pub derive_of-words : (id : ℕ) (lits hints : List ℕ) → IsLine (Derive id lits hints) →
     derive_of (decimal id ∷ list_words literal_text lits ++ list_words decimal hints) ≡ Ok (Derive id lits hints)
 unfolding derive_of
 derive_of-words id lits hints h =
@@ -88,7 +88,7 @@ derive_of-words id lits hints h =
     ∙ ap (λ read. read >>= λ lits. list_of id_in lits.1 >>= λ hints. whole hints.1 (Derive id lits.0 hints.0)) (list_of-words literal_in literal_text lits (list_words decimal hints) (literal_words lits h.1))
     ∙ ap (λ read. read >>= λ hints. whole hints.1 (Derive id lits hints.0)) (list_of-ids hints h.2)
 
-forget_of-words : (ids : List ℕ) → All IsId ids → forget_of (list_words decimal ids) ≡ Ok (Forget ids)
+pub forget_of-words : (ids : List ℕ) → All IsId ids → forget_of (list_words decimal ids) ≡ Ok (Forget ids)
 unfolding forget_of
 forget_of-words ids h = ap (λ read. read >>= λ ids. whole ids.1 (Forget ids.0)) (list_of-ids ids h)
 
@@ -111,11 +111,11 @@ pub line_text-no_lf : (line : Line) → IsLine line → has_byte 10 (line_text l
 line_text-no_lf line h = joined-clean 32 10 (line_words line) refl (clean_line 10 (omega arith) line h)
 
 -- a step that gave a value
-bind_ok : {A B : Type 0} (f : A → Result B LineTextFault) (read : Result A LineTextFault) (y : B) → (read >>= f) ≡ Ok y → (x : A) × (read ≡ Ok x) × (f x ≡ Ok y)
+pub bind_ok : {A B : Type 0} (f : A → Result B LineTextFault) (read : Result A LineTextFault) (y : B) → (read >>= f) ≡ Ok y → (x : A) × (read ≡ Ok x) × (f x ≡ Ok y)
 bind_ok f (Ok x) y e = (x, refl, e)
 bind_ok f (Err k) y e = absurd (cc)
 
-ok_same : {A : Type 0} (x y : A) → ◌≡◌ {A = Result A LineTextFault} (Ok x) (Ok y) → x ≡ y
+pub ok_same : {A : Type 0} (x y : A) → ◌≡◌ {A = Result A LineTextFault} (Ok x) (Ok y) → x ≡ y
 ok_same x y e = cc
 
 -- the items of a list are those that its words spell
@@ -155,7 +155,7 @@ whole-read [] line read e = (refl, ok_same line read e)
 whole-read (word ∷ words) line read e = absurd (cc)
 
 -- the words of a line, behind the one of its kind
-abbrev IsReadLine : List (List ℕ) → Line → Type 0
+abbrev pub IsReadLine : List (List ℕ) → Line → Type 0
 IsReadLine words line = (words ≡ line_words line) × IsLine line
 
 derive_words : (id : ℕ) (lits hints : List ℕ) (words after_id after_lits after_hints : List (List ℕ)) → words ≡ decimal id ∷ after_id →
@@ -179,7 +179,7 @@ derive_read id lits hints words line at_id at_lits at_hints at_end =
       (id_is.1, All-from_recursion (λ lit. lit < 2 ^ 32) lits.0 lits_are.1, All-from_recursion IsId hints.0 hints_are.1),
     )
 
-derive_of-read : (words : List (List ℕ)) (line : Line) → derive_of words ≡ Ok line → IsReadLine (codes "d" ∷ words) line
+pub derive_of-read : (words : List (List ℕ)) (line : Line) → derive_of words ≡ Ok line → IsReadLine (codes "d" ∷ words) line
 unfolding derive_of
 derive_of-read words line e =
     let id = bind_ok (λ id. list_of literal_in id.1 >>= λ lits. list_of id_in lits.1 >>= λ hints. whole hints.1 (Derive id.0 lits.0 hints.0)) (first_of id_in words) line e in
@@ -196,7 +196,7 @@ forget_read ids words line at_ids at_end =
     subst (IsReadLine (codes "k" ∷ words)) end.1
     (ap (λ ws. codes "k" ∷ ws) (ids_are.0 ∙ ap (λ ws. list_words decimal ids.0 ++ ws) end.0 ∙ append-nil (list_words decimal ids.0)), All-from_recursion IsId ids.0 ids_are.1)
 
-forget_of-read : (words : List (List ℕ)) (line : Line) → forget_of words ≡ Ok line → IsReadLine (codes "k" ∷ words) line
+pub forget_of-read : (words : List (List ℕ)) (line : Line) → forget_of words ≡ Ok line → IsReadLine (codes "k" ∷ words) line
 unfolding forget_of
 forget_of-read words line e =
     let ids = bind_ok (λ ids. whole ids.1 (Forget ids.0)) (list_of id_in words) line e in

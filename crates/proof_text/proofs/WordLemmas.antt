@@ -41,14 +41,14 @@ words_left-none separator text found =
     slice_split_none p text (λ k d h. fails_before_first p text k d (omega arith))
 
 -- a word without separators is the first of a text that goes on behind its separator
-words_of-next : (separator : ℕ) (word rest : List ℕ) → has_byte separator word ≡ false → words_of separator (word ++ separator ∷ rest) ≡ word ∷ words_of separator rest
+pub words_of-next : (separator : ℕ) (word rest : List ℕ) → has_byte separator word ≡ false → words_of separator (word ++ separator ∷ rest) ≡ word ∷ words_of separator rest
 words_of-next separator [] rest h = slice_split-cons_yes (λ b. eqb b separator) separator rest (eq-eqb separator separator refl)
 words_of-next separator (x ∷ word) rest h =
     let parts = or_parts (eqb x separator) (has_byte separator word) h in
     slice_split-cons_no (λ b. eqb b separator) x (word ++ separator ∷ rest) parts.0 ∙ ap (onto_first x) (words_of-next separator word rest parts.1)
 
 -- and of a text that ends
-words_of-last : (separator : ℕ) (word : List ℕ) → has_byte separator word ≡ false → words_of separator word ≡ word ∷ []
+pub words_of-last : (separator : ℕ) (word : List ℕ) → has_byte separator word ≡ false → words_of separator word ≡ word ∷ []
 words_of-last separator [] h = refl
 words_of-last separator (x ∷ word) h =
     let parts = or_parts (eqb x separator) (has_byte separator word) h in
@@ -72,7 +72,7 @@ parted-append separator (word ∷ front) back =
     ap (λ text. separator ∷ word ++ text) (parted-append separator front back)
     ∙ sym (append_assoc (separator ∷ word) (parted separator front) (parted separator back))
 
-has_byte-append : (byte : ℕ) (front back : List ℕ) → has_byte byte front ≡ false → has_byte byte back ≡ false → has_byte byte (front ++ back) ≡ false
+pub has_byte-append : (byte : ℕ) (front back : List ℕ) → has_byte byte front ≡ false → has_byte byte back ≡ false → has_byte byte (front ++ back) ≡ false
 has_byte-append byte [] back h more = more
 has_byte-append byte (x ∷ front) back h more =
     let parts = or_parts (eqb x byte) (has_byte byte front) h in

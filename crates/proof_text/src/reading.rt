@@ -36,8 +36,9 @@ fn read_words(alloc: Global, words: &mut Words) -> Result<Line, LineTextFault>
     }
 }
 
+/// A derive line from the words after its `d`.
 #[tactic(auto, unfolding(crate::specs::Lines::derive_of))]
-fn read_derive(alloc: Global, words: &mut Words) -> Result<Line, LineTextFault>
+pub fn read_derive(alloc: Global, words: &mut Words) -> Result<Line, LineTextFault>
     ensures { Gives (λ line. line) result (derive_of words.old) }
 {
     let id = read_first_id(words)?;
@@ -48,8 +49,9 @@ fn read_derive(alloc: Global, words: &mut Words) -> Result<Line, LineTextFault>
     whole(words, Line::Derive { id, lits, hints })
 }
 
+/// A forget line from the words after its `k`.
 #[tactic(auto, unfolding(crate::specs::Lines::forget_of))]
-fn read_forget(alloc: Global, words: &mut Words) -> Result<Line, LineTextFault>
+pub fn read_forget(alloc: Global, words: &mut Words) -> Result<Line, LineTextFault>
     ensures { Gives (λ line. line) result (forget_of words.old) }
 {
     let ids = read_ids(alloc, words)?;

@@ -10,7 +10,7 @@ use Rattle.world_model.specs.Problem.{Problem, pairs, pair_count, is_problem}
 use Rattle.world_model.specs.Family.{IsPossibleWorld}
 use Rattle.world_model.specs.Alive.{problem_at, IsAlive}
 use Rattle.world_model.proofs.PointPositions.{world_is_alive, prefix_is_alive}
-use Rattle.point_table.specs.Ladders.{LadderState, IsBoundOf}
+use Rattle.point_ladder.specs.Ladders.{LadderState, IsBoundOf}
 use Rattle.table_walk.specs.declared.Level.{Level}
 use Rattle.table_walk.specs.declared.way.Stage.TheVariants.{Standing, Told, Past}
 use Rattle.table_walk.specs.declared.way.Way.{Way}

@@ -10,9 +10,9 @@ use Rattle.rcc5_core.specs.declared.RelSet.{RelSet}
 use Rattle.rcc5_core.specs.RelationSet.{has, no_rels, first_of, next_of}
 use Rattle.world_model.specs.Problem.{Problem, pair_count, is_problem}
 use Rattle.world_model.specs.Family.{IsPossibleWorld}
-use Rattle.world_model.specs.Listing.{is_below, is_before_end}
+use Rattle.world_model.specs.Listing.{is_below}
 use Rattle.world_model.specs.Alive.{problem_at, IsAlive}
-use Rattle.world_model.proofs.OrderPositions.{below_itself, below_apart, below_longer, below_branch}
+use Rattle.world_model.proofs.OrderPositions.{below_itself, below_longer, below_branch}
 use Rattle.world_model.proofs.OrderLists.{Between, exactly_from, exactly_join}
 use Rattle.world_model.proofs.PointPositions.{alive_is_world}
 use Rattle.table_walk.specs.declared.Level.{Level}
@@ -20,7 +20,7 @@ use Rattle.table_walk.specs.declared.way.Stage.TheVariants.{Standing, Told}
 use Rattle.table_walk.specs.declared.way.Way.{Way}
 use Rattle.table_walk.specs.Ahead.{IsOnward, Lists, ListsBetween, level_at, rel_at, Begins, IsPast, AreLevels, IsAhead, room}
 use Rattle.table_walk.specs.Ways.{problem_of, place, LeadOn, AreNext, IsUnderWay, IsAtTable, IsWay, IsWayBy, at_by, told_by, at_of, left_by, left_of, WentOn}
-use Rattle.point_table.specs.Ladders.{IsAlong}
+use Rattle.point_ladder.specs.Ladders.{IsAlong}
 use Rattle.table_walk.proofs.Paths.{cut_at, turned, turned_length, turned_take, turned_below}
 use Rattle.table_walk.proofs.Least.{next_is_in}
 use Rattle.table_walk.proofs.Going.{goes_in, goes_in_with, turns_off, only_begun}

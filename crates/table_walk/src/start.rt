@@ -1,12 +1,11 @@
 //! The start of a way, at any position.
 ghost use Rattle.std.specs.Prelude.{◌≡◌, ◌<◌, ◌≤◌, [], length, Some, None, IfOk, OnOk, IsTrue};
 ghost use Rattle.world_model.specs.Problem.{pair_count, is_problem};
-ghost use Rattle.table_walk.specs.Ahead.{Lists};
-ghost use Rattle.table_walk.specs.Ways.{problem_of, place, IsWay, at_of, told_of, HasBegun, Follows};
+ghost use Rattle.table_walk.specs.Ways.{problem_of, place, IsWay, told_of, HasBegun, Follows};
 ghost use Rattle.table_walk.specs.declared.way.Stage.TheVariants.{Standing};
 
 use crate::way::{Stage, Way, go_on, settle, turn_off};
-use point_table::Ladder;
+use point_ladder::Ladder;
 use rcc5_core::{Position, Rel};
 use std::alloc::{AllocError, Global};
 

@@ -6,7 +6,7 @@ ghost use Rattle.table_walk.specs.Tables.{IsNewListing, IsAtWorld, PassedTold, K
 use crate::start::way_from;
 use crate::way::{Way, next_world};
 use constraint_set::Problem;
-use point_table::Ladder;
+use point_ladder::Ladder;
 use rcc5_core::{Position, Rel};
 use std::alloc::{AllocError, Global};
 use std::marker::Model;

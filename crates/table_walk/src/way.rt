@@ -1,5 +1,5 @@
 //! A way along the prefixes that lead to worlds, from one world to the next.
-ghost use Rattle.std.specs.Prelude.{◌≡◌, ◌≢◌, ◌<◌, ◌≤◌, List, [], ◌∷◌, length, Some, None, IfOk, IfSome, IfNone, OnOk, OnErr, IsTrue};
+ghost use Rattle.std.specs.Prelude.{◌≡◌, ◌<◌, ◌≤◌, [], length, Some, None, IfOk, IfSome, IfNone, OnOk, OnErr, IsTrue};
 ghost use Rattle.world_model.specs.Problem.{pair_count};
 ghost use Rattle.rcc5_core.specs.RelationSet.{has, next_of};
 ghost use Rattle.table_walk.specs.Ahead.{Lists, Begins, BeginAlike, IsPast, IsAhead, level_at, rel_at, room};
@@ -7,7 +7,7 @@ ghost use Rattle.table_walk.specs.Ways.{problem_of, place, IsUnderWay, IsWay, at
 ghost use Rattle.table_walk.specs.declared.way.Stage.TheVariants.{Standing, Told, Past};
 
 use crate::Level;
-use point_table::Ladder;
+use point_ladder::Ladder;
 use rcc5_core::{Rel, RelSet};
 use std::alloc::AllocError;
 

@@ -5,7 +5,7 @@ use Rattle.rcc5_core.specs.declared.Rel.{Rel}
 use Rattle.world_model.specs.Problem.{Problem}
 use Rattle.world_model.specs.Alive.{problem_at, IsAlive}
 use Rattle.world_model.specs.Laws.{PrefixesOfTheAliveAreAlive}
-use Rattle.point_table.specs.Ladders.{LadderState}
+use Rattle.point_ladder.specs.Ladders.{LadderState}
 use Rattle.world_search.specs.declared.guide.Guide.{Guide}
 use Rattle.world_search.specs.Guiding.{IsLadderOf, IsGuideOf}
 use Rattle.world_search.proofs.Leading.{rest_begins}

@@ -2,7 +2,7 @@
 use Rattle.std.specs.Prelude.{◌≡◌, ◌≤◌, List, ◌++◌, length, Option, IfSome}
 use Rattle.rcc5_core.specs.declared.Rel.{Rel}
 use Rattle.world_model.specs.Problem.{Problem, pair_count}
-use Rattle.point_table.specs.Ladders.{LadderState}
+use Rattle.point_ladder.specs.Ladders.{LadderState}
 use Rattle.world_search.specs.declared.guide.Guide.{Guide}
 use Rattle.world_search.specs.declared.walk.Walk.{Walk}
 use Rattle.world_search.specs.Walking.{IsPlaced, Knows}

@@ -8,8 +8,8 @@ ghost use Rattle.world_search.specs.Walking.{AreOpenAfter};
 ghost use Rattle.world_search.specs.Guiding.{IsLadderOf, IsGuideOf};
 
 use constraint_set::Problem;
+use point_ladder::Ladder;
 use point_query::Asker;
-use point_table::Ladder;
 use rcc5_core::{Position, RelSet};
 use std::alloc::{AllocError, Global};
 use world_model::prefixes_of_the_alive_are_alive;
@@ -82,6 +82,13 @@ impl Guide {
     {
         let ladder = Ladder::new(alloc, problem, MOST_POINTS, MOST_TRIES)?;
         Ok(Guide { ladder })
+    }
+
+    /// A guide that asks, whether the problem has a table or not.
+    pub fn asking() -> Guide
+        ensures { (p : Problem) → IsGuideOf p [] result }
+    {
+        Guide { ladder: None }
     }
 
     /// Goes back with a prefix that grew shorter.

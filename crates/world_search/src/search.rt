@@ -2,6 +2,7 @@
 ghost use Rattle.std.specs.Prelude.{◌≡◌, ◌≤◌, [], length, IfOk, OnOk, OnErr, IfSome};
 ghost use Rattle.world_model.specs.Problem.{pair_count};
 ghost use Rattle.constraint_set.specs.Shape.{shape_of};
+ghost use Rattle.world_search.specs.Guiding.{IsGuideOf};
 ghost use Rattle.world_search.specs.Searching.{begun, Came};
 ghost use Rattle.world_search.specs.Steps.{IsStepped, IsTableStep};
 
@@ -54,21 +55,22 @@ impl Search {
         requires to { IfSome to (λ end. length end ≤ pair_count problem.now) }
         ensures { IfOk result (λ search. search ≡ begun problem.now from to) }
     {
-        let problem = problem.copy()?;
-        let guide = Guide::new(alloc, &problem)?;
-        let walk = Walk {
-            stage: Stage::Start,
-            path: Position::new(alloc),
-            next: None,
-            open: None,
-        };
-        Ok(Search {
-            problem,
-            span: Span { from, to },
-            walk,
-            guide,
-            alloc,
-        })
+        let guide = Guide::new(alloc, problem)?;
+        begin_at(alloc, problem, from, to, guide)
+    }
+
+    /// The same, but the asker is asked about each node, also where the problem has a table of its points.
+    pub fn without_table(
+        alloc: Global,
+        problem: &Problem,
+        from: Position,
+        to: Option<Position>,
+    ) -> Result<Search, AllocError>
+        requires from { length from ≤ pair_count problem.now }
+        requires to { IfSome to (λ end. length end ≤ pair_count problem.now) }
+        ensures { IfOk result (λ search. search ≡ begun problem.now from to) }
+    {
+        begin_at(alloc, problem, from, to, Guide::asking())
     }
 
     /// Visits the next nodes, up to the next world, or until none may be visited or none is left. Each visit lowers `left`.
@@ -121,4 +123,33 @@ impl Search {
         asker.clear_lines();
         Ok(step)
     }
+}
+
+// A search that begins at a position, by a guide at the empty prefix.
+fn begin_at(
+    alloc: Global,
+    problem: &Problem,
+    from: Position,
+    to: Option<Position>,
+    guide: Guide,
+) -> Result<Search, AllocError>
+    requires from { length from ≤ pair_count problem.now }
+    requires to { IfSome to (λ end. length end ≤ pair_count problem.now) }
+    requires guide { IsGuideOf problem.now [] guide }
+    ensures { IfOk result (λ search. search ≡ begun problem.now from to) }
+{
+    let problem = problem.copy()?;
+    let walk = Walk {
+        stage: Stage::Start,
+        path: Position::new(alloc),
+        next: None,
+        open: None,
+    };
+    Ok(Search {
+        problem,
+        span: Span { from, to },
+        walk,
+        guide,
+        alloc,
+    })
 }

@@ -3,7 +3,7 @@ use Rattle.std.specs.Prelude.{IsTrue}
 use Rattle.world_model.specs.Alive.{is_point, is_in_need, problem_at}
 use Rattle.learn_solver.specs.Answers.{IsAnswer}
 use Rattle.point_encode.specs.Needs.{need_seen}
-use Rattle.point_query.proofs.Answering.{seen_named}
+use Rattle.point_pool.proofs.Settling.{seen_named}
 use Rattle.point_query.proofs.Querying.{goes_nowhere, asked_in_range, asked_consistent, model_is_point, refuted_is_closed, solver_stays}
 use Rattle.point_query.proofs.query.query.Goals as goal
 

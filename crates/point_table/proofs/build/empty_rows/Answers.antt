@@ -1,5 +1,5 @@
 use Rattle.std.proofs.Common.{◌∙◌, ap, ◌+◌}
-use Rattle.point_table.proofs.RowBits.{empty_more}
+use Rattle.bit_rows.proofs.RowBits.{empty_more}
 use Rattle.point_table.proofs.build.empty_rows.Goals as goal
 
 pub loop-row-preserved : goal.loop-row-preserved

@@ -1,5 +1,5 @@
 use Rattle.std.proofs.Common.{◌≡◌, ℕ, false}
-use Rattle.point_table.specs.Rows.{bit_in}
+use Rattle.bit_rows.specs.Rows.{bit_in}
 use Rattle.point_table.proofs.build.empty_rows.Given as goal
 
 abbrev pub invariant-loop-row : goal.invariant-loop-row

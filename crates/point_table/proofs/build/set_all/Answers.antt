@@ -3,7 +3,7 @@ use Rattle.std.specs.Prelude.{◌==◌}
 use Rattle.std.proofs.Math.Bool.{or-true}
 use Rattle.std.proofs.lemmas.Bool.{cases_lt, eq-eqb}
 use Rattle.std.proofs.lemmas.List.{get_or_default}
-use Rattle.point_table.specs.Rows.{bit_in}
+use Rattle.bit_rows.specs.Rows.{bit_in}
 use Rattle.point_table.proofs.Building.{same_size, put_size}
 use Rattle.point_table.proofs.build.set_all.Goals as goal
 

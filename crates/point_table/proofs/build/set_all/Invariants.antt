@@ -1,5 +1,5 @@
 use Rattle.std.proofs.Common.{◌≡◌, ◌≢◌, ◌<◌, ℕ, true, get_or}
-use Rattle.point_table.specs.Rows.{bit_in}
+use Rattle.bit_rows.specs.Rows.{bit_in}
 use Rattle.point_table.specs.Growing.{IsSameSize}
 use Rattle.point_table.proofs.build.set_all.Given as goal
 

@@ -1,5 +1,5 @@
 use Rattle.std.proofs.Common.{◌≡◌, ℕ, sym, ap, ◌∙◌}
-use Rattle.point_table.specs.Rows.{has_bit, bit_in}
+use Rattle.bit_rows.specs.Rows.{has_bit, bit_in}
 use Rattle.point_table.proofs.Building.{same_size, size_after, joined_implied}
 use Rattle.point_table.proofs.build.spread_implied.Goals as goal
 

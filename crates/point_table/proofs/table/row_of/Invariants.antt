@@ -1,6 +1,6 @@
 use Rattle.std.proofs.Common.{◌≡◌, ◌*◌, ◌<◌, ℕ, length}
 use Rattle.world_model.specs.Alive.{bit_of}
-use Rattle.point_table.specs.Rows.{has_bit}
+use Rattle.bit_rows.specs.Rows.{has_bit}
 use Rattle.point_table.specs.Table.{point_at}
 use Rattle.point_table.proofs.table.row_of.Given as goal
 

@@ -1,5 +1,5 @@
 use Rattle.std.proofs.Common.{arith}
-use Rattle.point_table.proofs.WordBits.{word_zero}
+use Rattle.bit_rows.proofs.WordBits.{word_zero}
 use Rattle.point_table.proofs.table.word_of.Goals as goal
 
 pub loop-i-init : goal.loop-i-init

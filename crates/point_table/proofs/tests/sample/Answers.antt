@@ -1,4 +1,4 @@
-use Rattle.std.proofs.Common.{◌≡◌, true, false, List, [], ◌∷◌, ◌++◌, replicate, ap, ◌∙◌}
+use Rattle.std.proofs.Common.{◌≡◌, true, List, [], ◌∷◌, ◌++◌, replicate, ap, ◌∙◌}
 use Rattle.std.specs.List.{list_all}
 use Rattle.taxon_tree.specs.Trees.{Trees}
 use Rattle.world_model.specs.declared.Articulation.{Articulation}

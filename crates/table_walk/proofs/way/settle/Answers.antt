@@ -2,7 +2,7 @@ use Rattle.std.proofs.Common.{◌≡◌, ◌++◌, [], ◌∷◌, append-nil, Bo
 use Rattle.std.specs.Prelude.{None}
 use Rattle.std.specs.Option.{option_to_list}
 use Rattle.rcc5_core.specs.declared.Rel.{Rel}
-use Rattle.point_table.specs.Ladders.{LadderState, IsPushed}
+use Rattle.point_ladder.specs.Ladders.{LadderState, IsPushed}
 use Rattle.world_model.specs.Alive.{problem_at, IsAlive}
 use Rattle.world_model.proofs.PointPositions.{prefix_is_alive}
 use Rattle.table_walk.proofs.Stepping.{under, same_way, stays}

@@ -2,7 +2,7 @@ use Rattle.std.proofs.Common.{◌≡◌, ℕ, ◌-◌, ◌+◌, ◌++◌, List, 
 use Rattle.std.proofs.lemmas.List.{get_or_default, take-append-drop}
 use Rattle.rcc5_core.specs.declared.Rel.{Rel}
 use Rattle.world_model.specs.Problem.{Problem}
-use Rattle.point_table.specs.Ladders.{LadderState}
+use Rattle.point_ladder.specs.Ladders.{LadderState}
 use Rattle.std.specs.Prelude.{Some, None}
 use Rattle.rcc5_core.specs.RelationSet.{no_rels, next_of}
 use Rattle.table_walk.specs.declared.way.Stage.TheVariants.{Standing}

@@ -1,6 +1,6 @@
 use Rattle.std.proofs.Common.{◌≡◌, length, true≢false, sym, ◌∙◌, subst}
 use Rattle.std.specs.Prelude.{slice_get, Some}
-use Rattle.point_table.specs.Ladders.{IsPushed}
+use Rattle.point_ladder.specs.Ladders.{IsPushed}
 use Rattle.world_search.proofs.Guiding.{ladder_step, dead_at, dead_behind}
 use Rattle.world_search.proofs.guide.climb_to.Goals as goal
 

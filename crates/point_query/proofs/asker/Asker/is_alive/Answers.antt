@@ -1,29 +1,26 @@
-use Rattle.std.proofs.Common.{sym, ap, ◌∙◌, subst}
-use Rattle.constraint_set.specs.Shape.{shape_of}
-use Rattle.point_query.specs.Asking.{AskerGoes}
-use Rattle.point_query.specs.Queries.{IsSolverOf}
-use Rattle.point_query.proofs.Querying.{asker_goes_nowhere, solver_moves, keeps_walk}
+use Rattle.std.proofs.Common.{refl, subst}
+use Rattle.std.proofs.lemmas.Bool.{false≢true}
+use Rattle.world_model.specs.Alive.{problem_at}
+use Rattle.point_encode.specs.Needs.{need_seen}
+use Rattle.point_query.specs.Answers.{IsProbeAnswer}
+use Rattle.point_query.proofs.Deciding.{empty_is_dead, closed_is_dead}
 use Rattle.point_query.proofs.asker.Asker.is_alive.Goals as goal
 
-pub returns-in_err-walk-clause-kept : goal.returns-in_err-walk-clause-kept
-returns-in_err-walk-clause-kept c = subst (λ a. AskerGoes c.args.self.now a) (sym c.in_err-walk.ensures.same) (asker_goes_nowhere c.args.self.now)
+pub returns-in-Alive-clause-alive : goal.returns-in-Alive-clause-alive
+returns-in-Alive-clause-alive c =
+    let answer = subst (λ a. IsProbeAnswer c.probe.new.self c.args.problem.now c.args.prefix.now a) c.in-Alive.is c.in_ok-probe.ensures.answer in
+    (λ yes. answer, λ alive. refl)
 
-pub is_alive-requires-clause-solver : goal.is_alive-requires-clause-solver
-is_alive-requires-clause-solver c =
-    let s = c.self.inside in
-    let shape = ap (λ a. a.shape) (c.self.view_is ∙ c.in_ok-walk.ensures.same) ∙ c.requires.shape in
-    subst (λ q. IsSolverOf q s.solver) (sym c.in_ok-walk.ensures.walk.problem) (solver_moves s.shape c.args.problem.now s.solver shape c.self.invariant.solved)
+pub returns-in-EmptyPair-clause-alive : goal.returns-in-EmptyPair-clause-alive
+returns-in-EmptyPair-clause-alive c =
+    let p = c.args.problem.now in
+    let m = c.args.prefix.now in
+    let answer = subst (λ a. IsProbeAnswer c.probe.new.self p m a) c.in-EmptyPair.is c.in_ok-probe.ensures.answer in
+    (λ yes. absurd (false≢true yes), λ alive. absurd (empty_is_dead (problem_at p m) c.in-EmptyPair.field-0 answer alive))
 
-pub invariant_of-self : goal.invariant_of-self
-invariant_of-self c =
-    let s = c.self.inside in
-    let shape = ap (λ a. a.shape) (c.self.view_is ∙ c.in_ok-walk.ensures.same) ∙ c.requires.shape in
-    keeps_walk s.shape c.args.problem.now c.is_alive.new.solver s.walk shape (subst (λ q. IsSolverOf q c.is_alive.new.solver) c.in_ok-walk.ensures.walk.problem c.is_alive.ensures.solver) c.self.invariant.walked
-
-pub invariant_of-self-2 : goal.invariant_of-self-2
-invariant_of-self-2 c =
-    let s = c.self.inside in
-    let shape = ap (λ a. a.shape) (c.self.view_is ∙ c.in_ok-walk.ensures.same) ∙ c.requires.shape in
-    let problem = c.in_ok-alive.ensures.problem ∙ c.in_ok-walk.ensures.walk.problem in
-    keeps_walk s.shape c.args.problem.now c.is_alive.new.solver _ shape (subst (λ q. IsSolverOf q c.is_alive.new.solver) c.in_ok-walk.ensures.walk.problem c.is_alive.ensures.solver)
-    (c.in_ok-alive.ensures.walk, ap shape_of problem ∙ sym shape)
+pub returns-in-Closed-clause-alive : goal.returns-in-Closed-clause-alive
+returns-in-Closed-clause-alive c =
+    let p = c.args.problem.now in
+    let m = c.args.prefix.now in
+    let answer = subst (λ a. IsProbeAnswer c.probe.new.self p m a) c.in-Closed.is c.in_ok-probe.ensures.answer in
+    (λ yes. absurd (false≢true yes), λ alive. absurd (closed_is_dead c.probe.new.self p m (need_seen p c.in-Closed.field-0) c.in-Closed.field-1 answer.1 alive))

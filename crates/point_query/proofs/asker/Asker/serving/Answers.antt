@@ -2,28 +2,28 @@ use Rattle.std.proofs.Common.{sym, ap, ◌∙◌, subst}
 use Rattle.constraint_set.specs.Shape.{shape_of}
 use Rattle.point_query.specs.Asking.{AskerGoes}
 use Rattle.point_query.specs.Queries.{IsSolverOf}
-use Rattle.point_query.proofs.Querying.{asker_goes_nowhere, solver_moves, keeps_walk}
+use Rattle.point_query.proofs.Querying.{asker_goes_nowhere, solver_moves, keeps_pool}
 use Rattle.point_query.proofs.asker.Asker.serving.Goals as goal
 
-pub returns-in_err-walk-clause-kept : goal.returns-in_err-walk-clause-kept
-returns-in_err-walk-clause-kept c = subst (λ a. AskerGoes c.args.self.now a) (sym c.in_err-walk.ensures.same) (asker_goes_nowhere c.args.self.now)
+pub returns-in_err-pool-clause-kept : goal.returns-in_err-pool-clause-kept
+returns-in_err-pool-clause-kept c = subst (λ a. AskerGoes c.args.self.now a) (sym c.in_err-pool.ensures.same) (asker_goes_nowhere c.args.self.now)
 
 pub serving-requires-clause-solver : goal.serving-requires-clause-solver
 serving-requires-clause-solver c =
     let s = c.self.inside in
-    let shape = ap (λ a. a.shape) (c.self.view_is ∙ c.in_ok-walk.ensures.same) ∙ c.requires.shape in
-    subst (λ q. IsSolverOf q s.solver) (sym c.in_ok-walk.ensures.walk.problem) (solver_moves s.shape c.args.problem.now s.solver shape c.self.invariant.solved)
+    let shape = ap (λ a. a.shape) (c.self.view_is ∙ c.in_ok-pool.ensures.same) ∙ c.requires.shape in
+    subst (λ q. IsSolverOf q s.solver) (sym c.in_ok-pool.ensures.pool.problem) (solver_moves s.shape c.args.problem.now s.solver shape c.self.invariant.solved)
 
 pub invariant_of-self : goal.invariant_of-self
 invariant_of-self c =
     let s = c.self.inside in
-    let shape = ap (λ a. a.shape) (c.self.view_is ∙ c.in_ok-walk.ensures.same) ∙ c.requires.shape in
-    keeps_walk s.shape c.args.problem.now c.serving.new.solver s.walk shape (subst (λ q. IsSolverOf q c.serving.new.solver) c.in_ok-walk.ensures.walk.problem c.serving.ensures.solver) c.self.invariant.walked
+    let shape = ap (λ a. a.shape) (c.self.view_is ∙ c.in_ok-pool.ensures.same) ∙ c.requires.shape in
+    keeps_pool s.shape c.args.problem.now c.serving.new.solver s.pool shape (subst (λ q. IsSolverOf q c.serving.new.solver) c.in_ok-pool.ensures.pool.problem c.serving.ensures.solver) c.self.invariant.walked
 
 pub invariant_of-self-2 : goal.invariant_of-self-2
 invariant_of-self-2 c =
     let s = c.self.inside in
-    let shape = ap (λ a. a.shape) (c.self.view_is ∙ c.in_ok-walk.ensures.same) ∙ c.requires.shape in
-    let problem = c.in_ok-points.ensures.problem ∙ c.in_ok-walk.ensures.walk.problem in
-    keeps_walk s.shape c.args.problem.now c.serving.new.solver _ shape (subst (λ q. IsSolverOf q c.serving.new.solver) c.in_ok-walk.ensures.walk.problem c.serving.ensures.solver)
-    (c.in_ok-points.ensures.walk, ap shape_of problem ∙ sym shape)
+    let shape = ap (λ a. a.shape) (c.self.view_is ∙ c.in_ok-pool.ensures.same) ∙ c.requires.shape in
+    let problem = c.in_ok-points.ensures.problem ∙ c.in_ok-pool.ensures.pool.problem in
+    keeps_pool s.shape c.args.problem.now c.serving.new.solver _ shape (subst (λ q. IsSolverOf q c.serving.new.solver) c.in_ok-pool.ensures.pool.problem c.serving.ensures.solver)
+    (c.in_ok-points.ensures.pool, ap shape_of problem ∙ sym shape)

@@ -17,10 +17,10 @@ returns-clause-answer c =
     let allow : IsTrue (all_allow (problem_at p m)) = c.in_default.ensures.none in
     elim c.match-branch-2.branch [
       | in-Points+in_ok-points-in-Points w ↦
-          let sought = subst (λ s. IsSoughtAt c.seek.new.self p m s) w.in-Points.is c.in_ok-found.ensures.sought in
+          let sought = subst (λ s. IsSoughtAt c.points_for_all.new.self p m s) w.in-Points.is c.in_ok-found.ensures.sought in
           let points = w.in_ok-points-in-Points.ensures ∙ ap (λ ps. chosen ps w.deref-in-Points.result.now) w.deref.ensures.value ∙ ap (chosen w.in-Points.found.items) w.deref-in-Points.ensures.value in
-          rw w.result-is (answer_points c.seek.new.self p m w.in-Points.found w.in-Points.places w.in_ok-points-in-Points.points allow sought points)
+          rw w.result-is (answer_points c.points_for_all.new.self p m w.in-Points.found w.in-Points.places w.in_ok-points-in-Points.points allow sought points)
       | in-Closed w ↦
-          let sought = subst (λ s. IsSoughtAt c.seek.new.self p m s) w.in-Closed.is c.in_ok-found.ensures.sought in
-          rw w.result-is (answer_closed c.seek.new.self p m w.in-Closed.need w.in-Closed.id allow sought)
+          let sought = subst (λ s. IsSoughtAt c.points_for_all.new.self p m s) w.in-Closed.is c.in_ok-found.ensures.sought in
+          rw w.result-is (answer_closed c.points_for_all.new.self p m w.in-Closed.need w.in-Closed.id allow sought)
     ]

@@ -17,9 +17,9 @@ returns-clause-answer c =
     let allow : IsTrue (all_allow (problem_at p m)) = c.in_default.ensures.none in
     elim c.match-branch-2.branch [
       | in-Points w ↦
-          let sought = subst (λ s. IsSoughtAt c.seek.new.self p m s) w.in-Points.is c.in_ok-need.ensures.sought in
-          rw w.result-is (answer_alive c.seek.new.self p m w.in-Points.found w.in-Points.places allow sought)
+          let sought = subst (λ s. IsSoughtAt c.points_for_all.new.self p m s) w.in-Points.is c.in_ok-need.ensures.sought in
+          rw w.result-is (answer_alive c.points_for_all.new.self p m w.in-Points.found w.in-Points.places allow sought)
       | in-Closed w ↦
-          let sought = subst (λ s. IsSoughtAt c.seek.new.self p m s) w.in-Closed.is c.in_ok-need.ensures.sought in
-          rw w.result-is (answer_closed c.seek.new.self p m w.in-Closed.need w.in-Closed.id allow sought)
+          let sought = subst (λ s. IsSoughtAt c.points_for_all.new.self p m s) w.in-Closed.is c.in_ok-need.ensures.sought in
+          rw w.result-is (answer_closed c.points_for_all.new.self p m w.in-Closed.need w.in-Closed.id allow sought)
     ]

@@ -1,5 +1,5 @@
 use Rattle.std.proofs.Common.{◌≡◌, ◌<◌, refl, sym, ap, ◌∙◌, subst, arith, length, get_or}
-use Rattle.point_table.specs.Rows.{bit_in}
+use Rattle.bit_rows.specs.Rows.{bit_in}
 use Rattle.point_table.proofs.Begins.{uncovered_is_dead}
 use Rattle.point_table.proofs.rules.Rules.covers_may_hold.Goals as goal
 

@@ -1,5 +1,5 @@
 use Rattle.std.proofs.Common.{◌++◌, ◌∷◌, [], true, false, refl, sym, ◌∙◌, subst, arith}
-use Rattle.point_table.specs.Rows.{has_bit, IsPushed}
+use Rattle.bit_rows.specs.Rows.{has_bit, IsPushed}
 use Rattle.point_table.specs.Growing.{IsTried}
 use Rattle.point_table.proofs.Begins.{IsCopy, copied_row, known_on, known_off}
 use Rattle.point_table.proofs.rules.Rules.next_known.Goals as goal

@@ -1,6 +1,0 @@
-use Rattle.std.proofs.Common.{◌≡◌, ◌++◌, take, flat_map, string_bytes}
-use Rattle.align_top.specs.Help.{command_form}
-use Rattle.align_top.proofs.help.put_commands.Given as goal
-
-abbrev pub invariant-commands : goal.invariant-commands
-invariant-commands l = string_bytes l.out ≡ string_bytes l.initial.out ++ flat_map command_form (take l.command-index l.commands)

@@ -1,6 +1,0 @@
-use Rattle.std.proofs.Common.{◌≡◌, ◌++◌, take, flat_map, string_bytes}
-use Rattle.align_top.specs.Help.{required_form}
-use Rattle.align_top.proofs.help.put_required.Given as goal
-
-abbrev pub invariant-keys : goal.invariant-keys
-invariant-keys l = string_bytes l.out ≡ string_bytes l.initial.out ++ flat_map required_form (take l.key-index l.keys)

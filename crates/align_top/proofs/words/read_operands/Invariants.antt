@@ -1,6 +1,0 @@
-use Rattle.std.proofs.Common.{◌≡◌, [], map, drop, string_bytes}
-use Rattle.align_top.specs.Words.{row_of, operands_of}
-use Rattle.align_top.proofs.words.read_operands.Given as goal
-
-abbrev pub invariant-further : goal.invariant-further
-invariant-further l = operands_of (row_of l.command) [] (map string_bytes l.words) ≡ operands_of (row_of l.command) l.operands.items (map string_bytes (drop l.word-index l.words))

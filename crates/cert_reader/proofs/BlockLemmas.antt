@@ -1,0 +1,62 @@
+-- Bytes of a block up to the next LF.
+use Rattle.std.proofs.Common.{◌≡◌, ℕ, ◌+◌, ◌-◌, ◌<◌, ◌≤◌, Bool, true, false, eqb, ltb, cond, List, ◌∷◌, ◌++◌, append-nil, length, length-take, get_or, take, drop, position, Some, None, sym, ap, ◌∙◌, arith}
+use Rattle.std.specs.List.{position_or_len}
+use Rattle.std.proofs.lemmas.Bool.{eqb-true}
+use Rattle.std.proofs.lemmas.Bool.Decides.{nat_tests}
+use Rattle.std.proofs.lemmas.List.{take-append-drop, drop-take, drop-drop, drop_more, get_or-take, get_or_default}
+use Rattle.std.proofs.lemmas.List.Folds.{list_any_none}
+use Rattle.std.proofs.lemmas.List.Quantifiers.{position-Some}
+use Rattle.std.proofs.lemmas.List.Sums.{fails_before_first}
+use Rattle.std.proofs.Math.Seq.{drop-length}
+use Rattle.proof_text.specs.Laws.{has_byte}
+use Rattle.cert_reader.specs.Bytes.{part_of, IsMoved}
+
+-- a part of a block without its first bytes
+pub skip_part : (block : List ℕ) (from upto count : ℕ) → count ≤ length (part_of block from upto) → part_of block (from + count) upto ≡ drop count (part_of block from upto)
+skip_part block from upto count within =
+    let m = upto - (from + count) in
+    let whole : count + m ≡ upto - from = omega (arith, within, length-take (upto - from) (drop from block)) in
+    ap (λ xs. take m xs) (sym (drop-drop count from block)) ∙ sym (drop-take count m (drop from block)) ∙ ap (λ k. drop count (take k (drop from block))) whole
+
+-- the bytes before the first LF have none
+before_lf : (text : List ℕ) (place : ℕ) → position (λ b. eqb b 10) text ≡ Some place → has_byte 10 (take place text) ≡ false
+before_lf text place found =
+    let first = position-Some (λ b. eqb b 10) text place 0 found in
+    list_any_none (λ b. eqb b 10) (take place text) (λ k d within.
+    let small : k < place = omega (arith, within, length-take place text) in
+    ap (λ b. eqb b 10) (get_or_default (take place text) k d 0 within ∙ get_or-take place text k 0 small) ∙ first.2 k small)
+
+-- and behind them stands the LF
+at_lf : (text : List ℕ) (place : ℕ) → position (λ b. eqb b 10) text ≡ Some place → text ≡ take place text ++ 10 ∷ drop (place + 1) text
+at_lf text place found =
+    let first = position-Some (λ b. eqb b 10) text place 0 found in
+    sym (take-append-drop place text) ∙ ap (λ xs. take place text ++ xs) (drop_more text place 0 first.0 ∙ ap (λ b. b ∷ drop (place + 1) text) (eqb-true (get_or text place 0) 10 first.1))
+
+pub moved_some : (text line new_line new : List ℕ) (place : ℕ) → position (λ b. eqb b 10) text ≡ Some place → new_line ≡ line ++ take place text → new ≡ drop (place + 1) text →
+    IsMoved true text new line new_line
+moved_some text line new_line new place found is_line is_new = record {
+  moved = take place text;
+  grown = is_line;
+  no_lf = before_lf text place found;
+  parted = at_lf text place found ∙ ap (λ xs. take place text ++ 10 ∷ xs) (sym is_new);
+  all = λ e. absurd (cc);
+}
+
+at_least : (n m : ℕ) → cond (ltb n m) (Some n) None ≡ None → m ≤ n
+at_least n m h = grind (arith, nat_tests)
+
+-- bytes without an LF
+none_lf : (text : List ℕ) → position (λ b. eqb b 10) text ≡ None → has_byte 10 text ≡ false
+none_lf text found =
+    let p : ℕ → Bool = λ b. eqb b 10 in
+    let whole = at_least (position_or_len p text) (length text) found in
+    list_any_none p text (λ k d within. fails_before_first p text k d (omega (arith, whole, within)))
+
+pub moved_all : (text line new_line new : List ℕ) → position (λ b. eqb b 10) text ≡ None → new_line ≡ line ++ text → new ≡ drop (length text) text → IsMoved false text new line new_line
+moved_all text line new_line new found is_line is_new = record {
+  moved = text;
+  grown = is_line;
+  no_lf = none_lf text found;
+  parted = sym (append-nil text);
+  all = λ e. is_new ∙ drop-length text;
+}

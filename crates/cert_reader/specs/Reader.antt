@@ -1,0 +1,59 @@
+-- What a reader of a certificate answers.
+use Rattle.std.specs.Prelude.{◌≡◌, ℕ, ◌+◌, ◌^◌, ◌<◌, ◌≤◌, true, false, List, [], ◌∷◌, ◌++◌, length, Option, Some, None, option_map, IfSome, Result, Ok, Err, ⊤}
+use Rattle.proof_text.specs.Laws.{has_byte}
+use Rattle.cert_text.specs.declared.line.CertLine.{CertLine}
+use Rattle.cert_reader.specs.declared.spot.Spot.{Spot}
+use Rattle.cert_reader.specs.declared.gather.Gathered.{Gathered}
+use Rattle.cert_reader.specs.declared.gather.Gathered.TheVariants as gathered
+use Rattle.cert_reader.specs.declared.fault.CertTextKind.{CertTextKind}
+use Rattle.cert_reader.specs.declared.fault.CertTextFault.{CertTextFault}
+use Rattle.cert_reader.specs.declared.fault.CertTextFault.TheVariants.{Text, ReadFault, NoMemory}
+use Rattle.cert_reader.specs.Bytes.{to_come}
+use Rattle.cert_reader.specs.Reading.{Faulty, Reading, whole, with_first, reading_from}
+
+-- a reader: the spot of the next line, the bytes that were taken and are still to come, and its refusal, if there was one
+pub record Reader : Type 0 where
+  pub spot : Spot
+  pub pending : List ℕ
+  pub refusal : Option CertTextFault
+
+-- a spot within the greatest length, with a number that its place allows
+abbrev pub IsSpot : Spot → Type 0
+IsSpot spot = (spot.place ≤ 2 ^ 36) × (spot.line ≤ spot.place + 1)
+
+-- what was gathered of some bytes: a line up to its LF, all the rest, or more than there is room for
+abbrev pub IsGathered : Gathered → ℕ → Option (List ℕ) → Option (List ℕ) → List ℕ → Type 0
+IsGathered gathered.Line room old new line = (has_byte 10 line ≡ false) × (old ≡ option_map (λ rest. line ++ 10 ∷ rest) new)
+IsGathered gathered.Rest room old new line = (has_byte 10 line ≡ false) × (length line ≤ room) × IfSome old (λ bytes. bytes ≡ line)
+IsGathered gathered.TooLong room old new line = (has_byte 10 line ≡ false) × (room < length line) × IfSome old (λ bytes. (rest : List ℕ) × (bytes ≡ line ++ rest))
+
+-- what a call answered is what reading a spot gives, unless memory ran out
+abbrev pub IsToldAt : {A : Type 0} → Spot → Result A CertTextKind → Result A CertTextFault → Type 0
+IsToldAt spot read (Ok x) = read ≡ Ok x
+IsToldAt spot read (Err (Text line kind)) = (line ≡ spot.line) × (read ≡ Err kind)
+IsToldAt spot read (Err ReadFault) = false ≡ true
+IsToldAt spot read (Err NoMemory) = ⊤
+
+-- what a reader is to read: the bytes to come from its spot on, where they are told
+abbrev pub to_read : Reader → Option (List ℕ) → Option Reading
+to_read reader left = option_map (λ bytes. reading_from reader.spot bytes) (to_come reader.pending left)
+
+-- an answer by what there was to read and what there is now: the first line, or none where the text is whole, or the first fault
+abbrev pub IsAnswer : Result (Option CertLine) CertTextFault → Option Reading → Option Reading → Type 0
+IsAnswer (Ok (Some line)) old new = old ≡ option_map (λ reading. with_first line reading) new
+IsAnswer (Ok None) old new = IfSome old (λ reading. reading ≡ whole)
+IsAnswer (Err (Text line kind)) old new = IfSome old (λ reading. reading ≡ record { lines = []; ends = Faulty line kind })
+IsAnswer (Err ReadFault) old new = ⊤
+IsAnswer (Err NoMemory) old new = ⊤
+
+-- the answer at the end of the bytes
+abbrev pub ended_by : Spot → Option CertTextKind → Result (Option CertLine) CertTextFault
+ended_by spot None = Ok None
+ended_by spot (Some kind) = Err (Text spot.line kind)
+
+-- one fact where the answer is ReadFault, and another at every other answer
+abbrev pub IfReadFault : {T : Type 0} → Result T CertTextFault → Type 0 → Type 0 → Type 0
+IfReadFault (Ok value) failed other = other
+IfReadFault (Err (Text line kind)) failed other = other
+IfReadFault (Err ReadFault) failed other = failed
+IfReadFault (Err NoMemory) failed other = other

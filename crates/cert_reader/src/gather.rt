@@ -1,0 +1,49 @@
+//! A line brought together from blocks.
+
+ghost use Rattle.std.specs.Prelude.{◌≡◌, ◌≤◌, ◌^◌, [], IfOk, ⊤};
+ghost use Rattle.outer_store.specs.Faults.{Rose, IfFailed};
+ghost use Rattle.cert_reader.specs.Bytes.{to_come};
+ghost use Rattle.cert_reader.specs.Reader.{IsGathered};
+
+use crate::blocks::Blocks;
+use outer_store::{Source, StoreFault};
+
+/// What was brought together.
+#[derive(Clone, Copy, Debug, PartialEq, Eq)]
+pub(crate) enum Gathered {
+    /// A line up to its LF.
+    Line,
+    /// All that was left, with no LF.
+    Rest,
+    /// More than there is room for.
+    TooLong,
+}
+
+/// Puts the bytes up to the next LF, or all that are left, into an empty line; but it stops once these are more than
+/// there is room for.
+pub(crate) fn gather<R: Source>(
+    blocks: &mut Blocks,
+    line: &mut Vec<u8>,
+    room: u64,
+    source: &mut R,
+) -> Result<Gathered, StoreFault>
+    requires empty { line.old.items ≡ [] }
+    requires room { room ≤ 2 ^ 36 }
+    ensures bytes { IfOk result (λ how. IsGathered how room (to_come blocks.old (R.left source.old)) (to_come blocks.new (R.left source.new)) line.new.items) }
+    ensures cause { IfFailed result (Rose (R.faults source.old) (R.faults source.new)) (R.faults source.new ≡ R.faults source.old) }
+    ensures later { R.faults source.old ≤ R.faults source.new }
+    ensures steady { R.steady source.old source.new }
+    ensures quiet { IfFailed result ⊤ (R.quiet source.old source.new) }
+{
+    loop {
+        if blocks.take_line(line)? {
+            return Ok(Gathered::Line);
+        }
+        if line.len() as u64 > room {
+            return Ok(Gathered::TooLong);
+        }
+        if !blocks.fill(source)? {
+            return Ok(Gathered::Rest);
+        }
+    }
+}

@@ -1,0 +1,13 @@
+pub mod Order
+pub mod Trees
+pub mod Listings
+pub mod ClaimLists
+pub mod Files
+pub mod Samples
+pub mod Laws
+pub mod ShownNodes
+pub mod Writing
+pub mod FromTheEnd
+pub mod ClaimWriting
+pub mod Selected
+pub mod NodeProblems

@@ -1,0 +1,6 @@
+pub mod EachLemmas
+pub mod LineLemmas
+pub mod OneTextLemmas
+pub mod ReadLemmas
+pub mod TextLemmas
+pub mod WordLemmas

@@ -1,0 +1,6 @@
+use Rattle.std.proofs.Common.{◌≡◌, ◌++◌, take, flat_map, string_bytes}
+use Rattle.command_line.specs.Help.{required_form}
+use Rattle.command_line.proofs.help.put_required.Given as goal
+
+abbrev pub invariant-keys : goal.invariant-keys
+invariant-keys l = string_bytes l.out ≡ string_bytes l.initial.out ++ flat_map required_form (take l.key-index l.keys)

@@ -1,0 +1,217 @@
+-- The words of the command line: a request, or the first usage fault.
+use Rattle.std.specs.Prelude.{ℕ, ◌==◌, Bool, true, false, not, ◌||◌, ◌&&◌, ◌-◌, ◌^◌, List, [], ◌∷◌, ◌++◌, length, find, Option, Some, None, option_map, option_and_then, unwrap_or, Result, Ok, Err, if◌then◌else◌, bytes_eq, codes, ⊤}
+use Rattle.std.specs.List.{list_any, before_first, after_first}
+use Rattle.proof_text.specs.Numbers.{number_in}
+use Rattle.world_model.specs.declared.Switches.{Switches}
+use Rattle.command_line.specs.declared.Key.{Key}
+use Rattle.command_line.specs.declared.Key.TheVariants.{In, Nonempty, Sibling, Coverage, Nodes, Worlds, Token, Resume}
+use Rattle.command_line.specs.declared.KeyKind.{KeyKind}
+use Rattle.command_line.specs.declared.KeyKind.TheVariants.{FileName, OnOff, Limit}
+use Rattle.command_line.specs.declared.Command.{Command}
+use Rattle.command_line.specs.declared.Command.TheVariants as command
+use Rattle.command_line.specs.declared.Operand.{Operand}
+use Rattle.command_line.specs.declared.UsageKind.{UsageKind}
+use Rattle.command_line.specs.declared.UsageKind.TheVariants.{NoCommand, UnknownCommand, NotOperand, UnknownKey, KeyTwice, BadSwitch, BadNumber, ZeroBudget, EmptyName, MissingKey, BudgetWithoutToken, SameName}
+use Rattle.command_line.specs.declared.Request.{Request}
+use Rattle.command_line.specs.declared.Request.TheVariants.{Align}
+use Rattle.command_line.specs.declared.WordsFault.{WordsFault}
+use Rattle.command_line.specs.declared.WordsFault.TheVariants.{Usage, NoMemory}
+
+-- how a key is written
+abbrev pub key_name : Key → List ℕ
+key_name In = codes "in"
+key_name Nonempty = codes "nonempty"
+key_name Sibling = codes "sibling"
+key_name Coverage = codes "coverage"
+key_name Nodes = codes "nodes"
+key_name Worlds = codes "worlds"
+key_name Token = codes "token"
+key_name Resume = codes "resume"
+
+-- what a key's value is
+abbrev pub kind_of : Key → KeyKind
+kind_of In = FileName
+kind_of Nonempty = OnOff
+kind_of Sibling = OnOff
+kind_of Coverage = OnOff
+kind_of Nodes = Limit
+kind_of Worlds = Limit
+kind_of Token = FileName
+kind_of Resume = FileName
+
+-- whether two keys are one
+abbrev pub same_key : Key → Key → Bool
+same_key a b = bytes_eq (key_name a) (key_name b)
+
+-- a row of the table of commands: the name, the required keys and the optional ones
+pub record Row : Type 0 where
+  pub name : List ℕ
+  pub required : List Key
+  pub optional : List Key
+
+-- the table of commands
+abbrev pub row_of : Command → Row
+row_of command.Align = record {
+  name = codes "align";
+  required = In ∷ [];
+  optional = Nonempty ∷ Sibling ∷ Coverage ∷ Nodes ∷ Worlds ∷ Token ∷ Resume ∷ [];
+}
+
+-- the commands, in the order of the table
+abbrev pub all_commands : List Command
+all_commands = command.Align ∷ []
+
+-- the command with this name
+abbrev pub command_named : List ℕ → Option Command
+command_named word = find (λ c. bytes_eq word (row_of c).name) all_commands
+
+-- whether a byte is =
+abbrev pub is_equals : ℕ → Bool
+is_equals b = b == 61
+
+-- the key's name and the value of a word: cut at its first =
+abbrev pub cut_word : List ℕ → Option (List ℕ × List ℕ)
+cut_word word = if list_any is_equals word then Some (before_first is_equals word, after_first is_equals word) else None
+
+-- the fault where the test holds, and else the rest
+abbrev pub fail_if : {X : Type 0} → Bool → UsageKind → Result X UsageKind → Result X UsageKind
+fail_if test kind rest = if test then Err kind else rest
+
+-- the fault where there is no value, and else what comes of it
+abbrev pub need : {X Y : Type 0} → Option X → UsageKind → (X → Result Y UsageKind) → Result Y UsageKind
+need None kind further = Err kind
+need (Some x) kind further = further x
+
+-- a fault, or what comes of the value
+abbrev pub and_then : {X Y : Type 0} → Result X UsageKind → (X → Result Y UsageKind) → Result Y UsageKind
+and_then (Ok x) further = further x
+and_then (Err kind) further = Err kind
+
+-- the fault, if there is one, and else the rest
+abbrev pub unless : {X : Type 0} → Option UsageKind → Result X UsageKind → Result X UsageKind
+unless None rest = rest
+unless (Some kind) rest = Err kind
+
+-- the first of some keys with this name
+abbrev pub key_among : List Key → List ℕ → Option Key
+key_among keys name = find (λ key. bytes_eq name (key_name key)) keys
+
+-- the key of a command with this name
+abbrev pub key_in : Row → List ℕ → Option Key
+key_in row name = key_among (row.required ++ row.optional) name
+
+-- whether a value is that of a switch
+abbrev pub is_switch : List ℕ → Bool
+is_switch value = bytes_eq value (codes "on") || bytes_eq value (codes "off")
+
+-- the number that a word is, up to the last value of a u64
+abbrev pub number_of : List ℕ → Option ℕ
+number_of word = number_in 0 (2 ^ 64 - 1) word
+
+-- what is wrong with a number that is a limit
+abbrev pub limit_fault : Option ℕ → Option UsageKind
+limit_fault None = Some BadNumber
+limit_fault (Some number) = if number == 0 then Some ZeroBudget else None
+
+-- what is wrong with a key's value
+abbrev pub value_fault : KeyKind → List ℕ → Option UsageKind
+value_fault Limit value = limit_fault (number_of value)
+value_fault OnOff value = if is_switch value then None else Some BadSwitch
+value_fault FileName value = if length value == 0 then Some EmptyName else None
+
+-- whether a key is given
+abbrev pub is_given : List Operand → Key → Bool
+is_given operands key = list_any (λ operand. same_key operand.key key) operands
+
+-- a further word after some operands
+abbrev pub operand_of : Row → List Operand → List ℕ → Result Operand UsageKind
+operand_of row earlier word =
+    need (cut_word word) NotOperand (λ cut.
+    need (key_in row cut.0) UnknownKey (λ key.
+    fail_if (is_given earlier key) KeyTwice (
+    unless (value_fault (kind_of key) cut.1) (
+    Ok (record { key = key; value = cut.1 })))))
+
+-- the further words, from the left
+abbrev pub operands_of : Row → List Operand → List (List ℕ) → Result (List Operand) UsageKind
+operands_of row earlier [] = Ok earlier
+operands_of row earlier (word ∷ words) =
+    and_then (operand_of row earlier word) (λ operand. operands_of row (earlier ++ operand ∷ []) words)
+
+-- the value of a key, if it is given
+abbrev pub value_of : List Operand → Key → Option (List ℕ)
+value_of operands key = option_map (λ operand. operand.value) (find (λ operand. same_key operand.key key) operands)
+
+-- a switch is on where it isn't given
+abbrev pub is_on : Option (List ℕ) → Bool
+is_on None = true
+is_on (Some value) = bytes_eq value (codes "on")
+
+abbrev pub switches_of : List Operand → Switches
+switches_of operands = record {
+  nonempty = is_on (value_of operands Nonempty);
+  sibling = is_on (value_of operands Sibling);
+  coverage = is_on (value_of operands Coverage);
+}
+
+-- whether a required key is missing
+abbrev pub is_lacking : Row → List Operand → Bool
+is_lacking row operands = list_any (λ key. not (is_given operands key)) row.required
+
+-- the number of a key, if it is given
+abbrev pub limit_of : List Operand → Key → Option ℕ
+limit_of operands key = option_and_then number_of (value_of operands key)
+
+-- whether a limit is given, but no token
+abbrev pub lacks_token : List Operand → Bool
+lacks_token operands = (is_given operands Nodes || is_given operands Worlds) && not (is_given operands Token)
+
+-- whether two values are given and are one
+abbrev pub is_same_value : Option (List ℕ) → Option (List ℕ) → Bool
+is_same_value None other = false
+is_same_value (Some value) None = false
+is_same_value (Some value) (Some other) = bytes_eq value other
+
+-- whether two of the file names are one
+abbrev pub has_same_name : List Operand → Bool
+has_same_name operands =
+    is_same_value (value_of operands In) (value_of operands Token) || is_same_value (value_of operands In) (value_of operands Resume) ||
+    is_same_value (value_of operands Token) (value_of operands Resume)
+
+-- the request of a command, whose required keys are given
+abbrev pub request_for : Command → List Operand → Request
+request_for command.Align operands =
+    Align (unwrap_or (value_of operands In) []) (switches_of operands) (limit_of operands Nodes) (limit_of operands Worlds)
+    (value_of operands Token) (value_of operands Resume)
+
+-- what words ask for, or their first fault
+abbrev pub request_of : List (List ℕ) → Result Request UsageKind
+request_of [] = Err NoCommand
+request_of (word ∷ words) =
+    need (command_named word) UnknownCommand (λ c.
+    and_then (operands_of (row_of c) [] words) (λ operands.
+    fail_if (is_lacking (row_of c) operands) MissingKey (
+    fail_if (lacks_token operands) BudgetWithoutToken (
+    fail_if (has_same_name operands) SameName (
+    Ok (request_for c operands))))))
+
+-- a fact of the fault of the words that is answered
+abbrev pub IfUsage : {X : Type 0} → Result X WordsFault → (UsageKind → Type 0) → Type 0
+IfUsage (Ok x) P = ⊤
+IfUsage (Err (Usage kind)) P = P kind
+IfUsage (Err NoMemory) P = ⊤
+
+-- the names of faults, as they are printed
+abbrev pub usage_name : UsageKind → List ℕ
+usage_name NoCommand = codes "NoCommand"
+usage_name UnknownCommand = codes "UnknownCommand"
+usage_name NotOperand = codes "NotOperand"
+usage_name UnknownKey = codes "UnknownKey"
+usage_name KeyTwice = codes "KeyTwice"
+usage_name BadSwitch = codes "BadSwitch"
+usage_name BadNumber = codes "BadNumber"
+usage_name ZeroBudget = codes "ZeroBudget"
+usage_name EmptyName = codes "EmptyName"
+usage_name MissingKey = codes "MissingKey"
+usage_name BudgetWithoutToken = codes "BudgetWithoutToken"
+usage_name SameName = codes "SameName"

@@ -1,0 +1,172 @@
+//! What the words of the command line ask for.
+#![tactic(auto)]
+
+ghost use Rattle.std.specs.Prelude.{◌≡◌, string_bytes};
+ghost use Rattle.command_line.specs.declared.WordsFault.TheVariants.{NoMemory};
+ghost use Rattle.command_line.specs.Words.{usage_name};
+
+mod help;
+mod words;
+
+pub use help::{fault_place, usage_help};
+use std::alloc::{AllocError, AllocFailed};
+use std::marker::Model;
+use thiserror::Error;
+pub use words::read_words;
+use world_model::Switches;
+
+/// A word, seen as the list of its bytes.
+#[derive(Debug, Drop)]
+pub struct Word {
+    text: String,
+}
+
+impl Model for Word {
+    ghost use Rattle.std.specs.Prelude.{ℕ, List, string_bytes};
+
+    ghost Value = { List ℕ };
+
+    ghost view = { λ word. string_bytes word.text };
+}
+
+impl Word {
+    pub fn new(text: String) -> Word
+        ensures { result ≡ string_bytes text }
+    {
+        Word { text }
+    }
+
+    pub fn text(&self) -> &str
+        ensures { result.now ≡ self.now }
+    {
+        self.text.as_str()
+    }
+}
+
+/// What the words ask for.
+#[derive(Debug, Drop)]
+pub enum Request {
+    /// List the possible worlds of the problem in a file.
+    Align {
+        input: Word,
+        switches: Switches,
+        nodes: Option<u64>,
+        worlds: Option<u64>,
+        token: Option<Word>,
+        resume: Option<Word>,
+    },
+}
+
+/// What is wrong with the words.
+#[derive(Clone, Copy, Debug, PartialEq, Eq, Error)]
+pub enum UsageKind {
+    #[error("there is no command")]
+    NoCommand,
+    #[error("the first word is no command")]
+    UnknownCommand,
+    #[error("a word is not KEY=VALUE")]
+    NotOperand,
+    #[error("the command has no such key")]
+    UnknownKey,
+    #[error("a key is given twice")]
+    KeyTwice,
+    #[error("a switch is neither on nor off")]
+    BadSwitch,
+    #[error("a limit is no number, or one of more than 64 bits")]
+    BadNumber,
+    #[error("a limit is 0")]
+    ZeroBudget,
+    #[error("a file name is empty")]
+    EmptyName,
+    #[error("a required key is missing")]
+    MissingKey,
+    #[error("a limit is given, but no file for the token")]
+    BudgetWithoutToken,
+    #[error("two of the files are one")]
+    SameName,
+}
+
+impl UsageKind {
+    /// Its name, as it is printed.
+    pub fn name(self) -> &'static str
+        ensures { result.now ≡ usage_name self }
+    {
+        match self {
+            UsageKind::NoCommand => "NoCommand",
+            UsageKind::UnknownCommand => "UnknownCommand",
+            UsageKind::NotOperand => "NotOperand",
+            UsageKind::UnknownKey => "UnknownKey",
+            UsageKind::KeyTwice => "KeyTwice",
+            UsageKind::BadSwitch => "BadSwitch",
+            UsageKind::BadNumber => "BadNumber",
+            UsageKind::ZeroBudget => "ZeroBudget",
+            UsageKind::EmptyName => "EmptyName",
+            UsageKind::MissingKey => "MissingKey",
+            UsageKind::BudgetWithoutToken => "BudgetWithoutToken",
+            UsageKind::SameName => "SameName",
+        }
+    }
+}
+
+/// Why words gave no request.
+#[derive(Clone, Copy, Debug, PartialEq, Eq, Error)]
+pub enum WordsFault {
+    #[error("{0}")]
+    Usage(UsageKind),
+    #[error("out of memory")]
+    NoMemory,
+}
+
+impl From<AllocError> for WordsFault {
+    ghost from_gives = { λ _ fault. fault ≡ NoMemory };
+
+    fn from(_refused: AllocError) -> Self {
+        WordsFault::NoMemory
+    }
+}
+
+impl<T: Drop> From<AllocFailed<T>> for WordsFault {
+    ghost from_gives = { λ _ fault. fault ≡ NoMemory };
+
+    fn from(_refused: AllocFailed<T>) -> Self {
+        WordsFault::NoMemory
+    }
+}
+
+/// A command of the command line.
+#[derive(Clone, Copy, Debug, PartialEq, Eq)]
+pub enum Command {
+    Align,
+}
+
+/// What a key's value is.
+#[derive(Clone, Copy, Debug, PartialEq, Eq)]
+pub enum KeyKind {
+    FileName,
+    OnOff,
+    /// A number that isn't 0.
+    Limit,
+}
+
+/// A key of the command line.
+#[derive(Clone, Copy, Debug, PartialEq, Eq)]
+pub enum Key {
+    In,
+    Nonempty,
+    Sibling,
+    Coverage,
+    Nodes,
+    Worlds,
+    Token,
+    Resume,
+}
+
+/// A key with its value.
+#[derive(Debug, Drop)]
+pub struct Operand {
+    pub key: Key,
+    pub value: Word,
+}
+
+#[cfg(test)]
+mod tests;

@@ -1,0 +1,11 @@
+pub mod Frames
+pub mod Owing
+pub mod Narrowing
+pub mod Alike
+pub mod Serving
+pub mod Ladders
+pub mod InForce
+pub mod Along
+pub mod Climbing
+pub mod Bounding
+pub mod BoundSteps

@@ -1,0 +1,3 @@
+pub mod Ladders
+pub mod Bounds
+pub mod Stretches

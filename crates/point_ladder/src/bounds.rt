@@ -1,0 +1,166 @@
+//! The bounds of pairs: what is left of what they allow without the relations with which they are dead by themselves.
+ghost use Rattle.std.specs.Prelude.{◌≡◌, ◌+◌, ◌<◌, ◌≤◌, ◌↔◌, true, length, IsTrue, IfOk, OnOk};
+ghost use Rattle.rcc5_core.specs.declared.Rel.{Rel};
+ghost use Rattle.rcc5_core.specs.RelationSet.{has};
+ghost use Rattle.world_model.specs.Problem.{pair_count};
+ghost use Rattle.world_model.specs.Trial.{points_by_trial};
+ghost use Rattle.bit_rows.specs.Rows.{has_bit, bit_in};
+ghost use Rattle.point_table.specs.Points.{AreAllowed};
+ghost use Rattle.point_table.specs.Table.{AreRowsOf};
+ghost use Rattle.point_ladder.specs.Ladders.{Satisfies, IsNarrowed, AreSeen};
+ghost use Rattle.point_ladder.specs.Bounds.{AreBounds, IsAliveIn};
+
+use crate::frame::{is_same, leads_by, narrowed, seen};
+use crate::start::{first_frame, is_alive};
+use bit_rows::{Cells, Rows};
+use constraint_set::Problem;
+use rcc5_core::{Regions, Rel, RelSet, forced};
+use std::alloc::{AllocError, Global};
+
+/// What the pairs of a problem allow after the first so many were narrowed, and the frame then.
+#[derive(Drop)]
+pub(crate) struct Bounds {
+    pub(crate) sets: Vec<RelSet>,
+    pub(crate) count: usize,
+    pub(crate) alive: bool,
+    /// Of use only if the problem is alive then.
+    pub(crate) frame: Rows,
+}
+
+// Whether two sets have the same relations.
+pub(crate) fn are_same(one: RelSet, other: RelSet) -> bool
+    ensures { result ≡ true → one ≡ other }
+{
+    one == other
+}
+
+// The bounds before any pair is narrowed, of a problem that has so many points.
+pub(crate) fn no_bounds(
+    alloc: Global,
+    problem: &Problem,
+    sets: Vec<RelSet>,
+    rows: &Rows,
+    points: usize,
+) -> Result<Bounds, AllocError>
+    requires sets { AreAllowed problem.now sets.items }
+    requires rows { AreRowsOf problem.now rows.now }
+    requires count { points ≡ length (points_by_trial problem.now) }
+    ensures bounds { IfOk result (AreBounds problem.now) }
+    ensures none { IfOk result (λ bounds. bounds.count ≡ 0) }
+{
+    let frame = first_frame(alloc, problem, &sets, rows, points)?;
+    let alive = is_alive(problem, &sets, &frame);
+    Ok(Bounds {
+        sets,
+        count: 0,
+        alive,
+        frame,
+    })
+}
+
+// Whether a set has a relation that leads on.
+fn has_alive(
+    frame: &Rows,
+    left: &[u64],
+    right: &[u64],
+    all: Cells,
+    must: Cells,
+    set: RelSet,
+    rel: Rel,
+) -> bool
+    requires two { 2 ≤ frame.now.count }
+    requires lives { Satisfies frame.now frame.now.count (bit_in frame.now 0) }
+    requires all { AreSeen (bit_in frame.now 0) (has_bit left.now) (has_bit right.now) all }
+    requires must { AreSeen (bit_in frame.now 1) (has_bit left.now) (has_bit right.now) must }
+    ensures { IsTrue result ↔ IsAliveIn frame.now (has_bit left.now) (has_bit right.now) set rel }
+{
+    set.has(rel) && leads_by(frame, left, right, all, must, rel.row())
+}
+
+// The relations of a set that lead on.
+pub(crate) fn bound(frame: &Rows, left: &[u64], right: &[u64], set: RelSet) -> RelSet
+    requires two { 2 ≤ frame.now.count }
+    requires lives { Satisfies frame.now frame.now.count (bit_in frame.now 0) }
+    ensures { (rel : Rel) → IsTrue (has result rel) ↔ IsAliveIn frame.now (has_bit left.now) (has_bit right.now) set rel }
+{
+    let all = seen(frame.row(0), left, right);
+    let must = seen(frame.row(1), left, right);
+    RelSet {
+        equals: has_alive(frame, left, right, all, must, set, Rel::Equals),
+        includes: has_alive(frame, left, right, all, must, set, Rel::Includes),
+        included_in: has_alive(frame, left, right, all, must, set, Rel::IncludedIn),
+        overlaps: has_alive(frame, left, right, all, must, set, Rel::Overlaps),
+        disjoint: has_alive(frame, left, right, all, must, set, Rel::Disjoint),
+    }
+}
+
+// Goes on to the frame after words were said of two sets.
+fn narrow_frame(
+    alloc: Global,
+    left: &[u64],
+    right: &[u64],
+    words: Regions,
+    frame: &mut Rows,
+) -> Result<(), AllocError>
+    requires some { 0 < frame.old.width }
+    requires two { 2 ≤ frame.old.count }
+    ensures { OnOk result (IsNarrowed frame.old frame.new (has_bit left.now) (has_bit right.now) words) }
+{
+    if !is_same(frame, left, right, words) {
+        *frame = narrowed(alloc, frame, left, right, words)?;
+    }
+    Ok(())
+}
+
+// Narrows the next pair to the relations with which it is alive by itself.
+fn narrow_pair(
+    alloc: Global,
+    problem: &Problem,
+    rows: &Rows,
+    pair: u32,
+    bounds: &mut Bounds,
+) -> Result<(), AllocError>
+    requires rows { AreRowsOf problem.now rows.now }
+    requires bounds { AreBounds problem.now bounds.old }
+    requires alive { bounds.old.alive ≡ true }
+    requires next { bounds.old.count ≡ pair }
+    requires within { pair < pair_count problem.now }
+    ensures bounds { OnOk result (AreBounds problem.now bounds.new) }
+    ensures next { OnOk result (bounds.new.count ≡ pair + 1) }
+{
+    let (left, right) = problem.pair_at(pair);
+    let (left, right) = (rows.row(left as usize), rows.row(right as usize));
+    let old = bounds.sets[pair as usize];
+    let set = bound(&bounds.frame, left, right, old);
+    bounds.count = pair as usize + 1;
+    if are_same(set, old) {
+        return Ok(());
+    }
+    bounds.sets[pair as usize] = set;
+    if set.is_empty() {
+        bounds.alive = false;
+        return Ok(());
+    }
+    narrow_frame(alloc, left, right, forced(set), &mut bounds.frame)
+}
+
+// Narrows each pair, unless the problem turns out to be dead.
+pub(crate) fn narrow_all(
+    alloc: Global,
+    problem: &Problem,
+    rows: &Rows,
+    bounds: &mut Bounds,
+) -> Result<(), AllocError>
+    requires rows { AreRowsOf problem.now rows.now }
+    requires bounds { AreBounds problem.now bounds.old }
+    requires none { bounds.old.count ≡ 0 }
+    ensures { OnOk result (AreBounds problem.now bounds.new) }
+{
+    for pair in 0..problem.pair_count() {
+        if !bounds.alive {
+            break;
+        }
+        narrow_pair(alloc, problem, rows, pair, bounds)?;
+    }
+    Ok(())
+}

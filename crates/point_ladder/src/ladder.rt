@@ -1,0 +1,268 @@
+//! The ladder: a path of relations, and what is left of the points at each of its prefixes.
+ghost use Rattle.std.specs.Prelude.{◌≡◌, true, ◌<◌, ◌≤◌, ◌++◌, ◌∷◌, ◌↔◌, [], length, take, IfOk, OnErr, IfSome, IsTrue};
+ghost use Rattle.rcc5_core.specs.declared.Rel.{Rel};
+ghost use Rattle.rcc5_core.specs.RelationSet.{has, only};
+ghost use Rattle.world_model.specs.Problem.{pair_count};
+ghost use Rattle.world_model.specs.Alive.{problem_at, IsAlive};
+ghost use Rattle.point_table.specs.Table.{AreRowsOf};
+ghost use Rattle.point_ladder.specs.Ladders.{IsBoundOf, IsAlong, IsPushed};
+ghost use Rattle.point_ladder.specs.Bounds.{bound_to, AreBounds};
+ghost use Rattle.point_ladder.specs.Stretches.{AreNexts};
+
+use crate::bounds::{Bounds, are_same, bound, narrow_all, no_bounds};
+use crate::frame::{is_same, leads_on, narrowed};
+use crate::stretches::{Stretch, cut};
+use bit_rows::Rows;
+use constraint_set::Problem;
+use point_table::{all_points, allowed_sets, rows_of};
+use rcc5_core::{Rel, RelSet};
+use std::alloc::{AllocError, Global};
+use std::marker::Model;
+
+/// A problem and a path of relations for its first pairs, which tells which relations lead on.
+///
+/// The path is alive, unless it is empty.
+#[derive(Drop)]
+pub struct Ladder {
+    problem: Problem,
+    // How many pairs are narrowed to their bounds, and what all pairs allow then.
+    bounds: usize,
+    sets: Vec<RelSet>,
+    rows: Rows,
+    // A relation a pair: so many of the path, and then the one that is left, at each pair with one left.
+    line: Vec<Rel>,
+    len: usize,
+    // For each pair the next one that has more relations left than the line's, from it on, or the end.
+    nexts: Vec<u32>,
+    stretches: Vec<Stretch>,
+    alive: bool,
+    alloc: Global,
+}
+
+impl Model for Ladder {
+    ghost use Rattle.std.specs.Prelude.{take};
+    ghost use Rattle.point_ladder.specs.Ladders.{LadderState};
+    ghost use Rattle.point_ladder.specs.Bounds.{bound_to};
+    ghost use Rattle.point_ladder.specs.Stretches.{IsLadder};
+
+    ghost Value = { LadderState };
+
+    ghost view = { λ s. record { problem = bound_to s.problem s.sets.items s.bounds; path = take s.len s.line.items } };
+
+    ghost invariant = { λ s. IsLadder s.problem (bound_to s.problem s.sets.items s.bounds) s.sets.items s.rows s.line.items s.len s.nexts.items s.stretches.items s.alive };
+}
+
+// The rows of a problem's points, and its pairs before any is narrowed.
+fn begin(
+    alloc: Global,
+    problem: &Problem,
+    most: usize,
+    tries: usize,
+) -> Result<Option<(Rows, Bounds)>, AllocError>
+    ensures rows { IfOk result (λ found. IfSome found (λ both. AreRowsOf problem.now both.0)) }
+    ensures bounds { IfOk result (λ found. IfSome found (λ both. AreBounds problem.now both.1)) }
+    ensures none { IfOk result (λ found. IfSome found (λ both. both.1.count ≡ 0)) }
+{
+    let sets = allowed_sets(alloc, problem)?;
+    let Some(points) = all_points(alloc, problem, &sets, most, tries)? else {
+        return Ok(None);
+    };
+    let rows = rows_of(alloc, &points, problem.concept_count() as usize)?;
+    let bounds = no_bounds(alloc, problem, sets, &rows, points.len())?;
+    Ok(Some((rows, bounds)))
+}
+
+// The first relation of each set.
+fn first_line(alloc: Global, sets: &[RelSet]) -> Result<Vec<Rel>, AllocError>
+    ensures { IfOk result (λ line. length line.items ≡ length sets.now) }
+{
+    let mut line = Vec::new(alloc);
+    for set in sets {
+        line.push(set.first().unwrap_or(Rel::Equals))?;
+    }
+    Ok(line)
+}
+
+// Whether a set has one relation, and no other.
+fn is_decided(set: RelSet, rel: Rel) -> bool
+    ensures { result ≡ true → set ≡ only rel }
+{
+    are_same(set, RelSet::one(rel))
+}
+
+// For each set the next one that has more than the line's relation, from it on, or the end.
+fn nexts_of(alloc: Global, sets: &[RelSet], line: &[Rel]) -> Result<Vec<u32>, AllocError>
+    requires lined { length line.now ≡ length sets.now }
+    requires few { length sets.now < 4294967296 }
+    ensures { IfOk result (λ nexts. AreNexts sets.now line.now nexts.items) }
+{
+    let mut nexts = Vec::new(alloc);
+    for pair in 0..sets.len() {
+        if !is_decided(sets[pair], line[pair]) {
+            nexts.resize(pair + 1, pair as u32)?;
+        }
+    }
+    nexts.resize(sets.len(), sets.len() as u32)?;
+    Ok(nexts)
+}
+
+// The ladder at its start.
+fn stand(alloc: Global, problem: Problem, rows: Rows, bounds: Bounds) -> Result<Ladder, AllocError>
+    requires rows { AreRowsOf problem rows }
+    requires bounds { AreBounds problem bounds }
+    ensures { IfOk result (λ ladder. ladder ≡ record { problem = bound_to problem bounds.sets.items bounds.count; path = [] }) }
+{
+    let _few = problem.pair_count();
+    let line = first_line(alloc, &bounds.sets)?;
+    let nexts = nexts_of(alloc, &bounds.sets, &line)?;
+    let mut stretches = Vec::new(alloc);
+    let Bounds {
+        sets,
+        count,
+        alive,
+        frame,
+    } = bounds;
+    stretches.push(Stretch { from: 0, frame })?;
+    Ok(Ladder {
+        problem,
+        bounds: count,
+        sets,
+        rows,
+        line,
+        len: 0,
+        nexts,
+        stretches,
+        alive,
+        alloc,
+    })
+}
+
+impl Ladder {
+    /// The empty path, if the problem has at most so many points and a search finds them in so many tries.
+    ///
+    /// Both numbers are hints: nothing is said of when there is no ladder.
+    pub fn new(
+        alloc: Global,
+        problem: &Problem,
+        most: usize,
+        tries: usize,
+    ) -> Result<Option<Ladder>, AllocError>
+        ensures { IfOk result (λ found. IfSome found (λ ladder. ladder ≡ record { problem = problem.now; path = [] })) }
+    {
+        let Some((rows, bounds)) = begin(alloc, problem, most, tries)? else {
+            return Ok(None);
+        };
+        Ok(Some(stand(alloc, problem.copy()?, rows, bounds)?))
+    }
+
+    /// The empty path of a problem with just the same possible worlds, each pair of which is narrowed to the relations that it may have.
+    /// None where `new` would give none.
+    pub fn bounded(
+        alloc: Global,
+        problem: &Problem,
+        most: usize,
+        tries: usize,
+    ) -> Result<Option<Ladder>, AllocError>
+        ensures { IfOk result (λ found. IfSome found (IsBoundOf problem.now)) }
+    {
+        problem.facts();
+        let Some((rows, mut bounds)) = begin(alloc, problem, most, tries)? else {
+            return Ok(None);
+        };
+        narrow_all(alloc, problem, &rows, &mut bounds)?;
+        Ok(Some(stand(alloc, problem.copy()?, rows, bounds)?))
+    }
+
+    /// Whether the path is alive.
+    pub fn is_alive(&self) -> bool
+        ensures { IsTrue result ↔ IsAlive (problem_at self.now.problem self.now.path) }
+    {
+        self.alive
+    }
+
+    // Whether a relation leads to an alive path.
+    fn leads_to(&self, rel: Rel) -> bool
+        requires alive { IsAlive (problem_at self.now.problem self.now.path) }
+        requires short { length self.now.path < pair_count self.now.problem }
+        ensures { IsTrue result ↔ IsAlive (problem_at self.now.problem (self.now.path ++ rel ∷ [])) }
+    {
+        let _few = self.problem.pair_count();
+        let pair = self.len;
+        if !self.sets[pair].has(rel) {
+            return false;
+        }
+        let (left, right) = self.problem.pair_at(pair as u32);
+        let (left, right) = (self.rows.row(left as usize), self.rows.row(right as usize));
+        let last = self.stretches.len() - 1;
+        leads_on(&self.stretches[last].frame, left, right, rel.row())
+    }
+
+    /// The relations that lead to an alive path.
+    pub fn leads_on(&self) -> RelSet
+        requires alive { IsAlive (problem_at self.now.problem self.now.path) }
+        requires short { length self.now.path < pair_count self.now.problem }
+        ensures { (rel : Rel) → IsTrue (has result rel) ↔ IsAlive (problem_at self.now.problem (self.now.path ++ rel ∷ [])) }
+    {
+        let _few = self.problem.pair_count();
+        let pair = self.len;
+        let (left, right) = self.problem.pair_at(pair as u32);
+        let (left, right) = (self.rows.row(left as usize), self.rows.row(right as usize));
+        let last = self.stretches.len() - 1;
+        bound(&self.stretches[last].frame, left, right, self.sets[pair])
+    }
+
+    /// Puts a relation at the end of the path, if that leads to an alive one.
+    pub fn push(&mut self, rel: Rel) -> Result<bool, AllocError>
+        requires alive { IsAlive (problem_at self.old.problem self.old.path) }
+        requires short { length self.old.path < pair_count self.old.problem }
+        ensures pushed { IfOk result (IsPushed self.old self.new rel) }
+        ensures err { OnErr result (self.new ≡ self.old) }
+    {
+        if !self.leads_to(rel) {
+            return Ok(false);
+        }
+        let _few = self.problem.pair_count();
+        let pair = self.len;
+        let (left, right) = self.problem.pair_at(pair as u32);
+        let (left, right) = (self.rows.row(left as usize), self.rows.row(right as usize));
+        let last = self.stretches.len() - 1;
+        let frame = &self.stretches[last].frame;
+        if !is_same(frame, left, right, rel.row()) {
+            let frame = narrowed(self.alloc, frame, left, right, rel.row())?;
+            self.stretches.push(Stretch {
+                from: pair + 1,
+                frame,
+            })?;
+        }
+        self.line[pair] = rel;
+        self.len = pair + 1;
+        Ok(true)
+    }
+
+    /// Goes along the pairs that have one relation left: to the next one that has more, or to the end.
+    pub fn skip(&mut self)
+        requires alive { IsAlive (problem_at self.old.problem self.old.path) }
+        ensures { IsAlong self.old self.new }
+    {
+        let _few = self.problem.pair_count();
+        if self.len < self.nexts.len() {
+            self.len = self.nexts[self.len] as usize;
+        }
+    }
+
+    /// Takes the path back to its first relations.
+    pub fn back_to(&mut self, len: usize)
+        requires { len ≤ length self.old.path }
+        ensures { self.new ≡ record self.old { path = take len self.old.path } }
+    {
+        self.len = len;
+        cut(&mut self.stretches, len);
+    }
+
+    /// The relations.
+    pub fn path(&self) -> &[Rel]
+        ensures { result.now ≡ self.now.path }
+    {
+        &self.line[..self.len]
+    }
+}

@@ -1,0 +1,14 @@
+//! What is left of a problem's points along a path of relations, by which a search tells at each
+//! step which relations lead on.
+#![tactic(auto)]
+
+mod bounds;
+mod frame;
+mod ladder;
+mod start;
+mod stretches;
+
+pub use ladder::Ladder;
+
+#[cfg(test)]
+mod tests;

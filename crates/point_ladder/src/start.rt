@@ -1,0 +1,132 @@
+//! The frame of a problem itself.
+ghost use Rattle.std.specs.Prelude.{◌≡◌, ℕ, ◌*◌, ◌/◌, ◌<◌, ◌≤◌, ◌↔◌, nat_lt, true, length, IsTrue, IfOk, OnOk};
+ghost use Rattle.world_model.specs.Problem.{concept_count, pair_count};
+ghost use Rattle.world_model.specs.Alive.{all_allow, IsAlive};
+ghost use Rattle.world_model.specs.Trial.{points_by_trial};
+ghost use Rattle.bit_rows.specs.Rows.{bit_in};
+ghost use Rattle.point_table.specs.Points.{AreAllowed};
+ghost use Rattle.point_table.specs.Table.{AreRowsOf};
+ghost use Rattle.point_ladder.specs.Ladders.{AreWithin, IsOwing, PairsMet, ConceptsMet, IsFrame};
+
+use crate::frame::{add_need, add_regions, lives};
+use bit_rows::{Cells, Rows};
+use constraint_set::Problem;
+use rcc5_core::{RelSet, forced};
+use std::alloc::{AllocError, Global};
+
+// One row with all of so many places.
+fn full_row(alloc: Global, width: usize, count: usize) -> Result<Rows, AllocError>
+    requires some { 0 < width }
+    requires within { count ≤ 64 * width }
+    ensures count { IfOk result (λ rows. rows.count ≡ 1) }
+    ensures width { IfOk result (λ rows. rows.width ≡ width) }
+    ensures places { IfOk result (λ rows. (k : ℕ) → bit_in rows 0 k ≡ nat_lt k count) }
+{
+    let mut rows = Rows::new(alloc, width);
+    rows.push_empty()?;
+    for place in 0..count {
+        rows.set(0, place);
+    }
+    Ok(rows)
+}
+
+// Adds the regions that each pair has to have.
+fn add_pairs(
+    problem: &Problem,
+    sets: &[RelSet],
+    rows: &Rows,
+    full: &Rows,
+    frame: &mut Rows,
+) -> Result<(), AllocError>
+    requires sets { AreAllowed problem.now sets.now }
+    requires rows { AreRowsOf problem.now rows.now }
+    requires one { 0 < full.now.count }
+    requires wide { full.now.width ≡ frame.old.width }
+    requires some { 0 < frame.old.width }
+    requires two { 2 ≤ frame.old.count }
+    requires full { AreWithin (bit_in frame.old 0) (bit_in full.now 0) }
+    ensures { OnOk result (IsOwing frame.old frame.new (PairsMet problem.now (points_by_trial problem.now) (pair_count problem.now))) }
+{
+    for pair in 0..problem.pair_count() {
+        let (left, right) = problem.pair_at(pair);
+        let (left, right) = (rows.row(left as usize), rows.row(right as usize));
+        add_regions(full.row(0), left, right, forced(sets[pair as usize]), frame)?;
+    }
+    Ok(())
+}
+
+// Adds each concept.
+fn add_concepts(problem: &Problem, rows: &Rows, frame: &mut Rows) -> Result<(), AllocError>
+    requires rows { AreRowsOf problem.now rows.now }
+    requires wide { rows.now.width ≡ frame.old.width }
+    requires some { 0 < frame.old.width }
+    requires two { 2 ≤ frame.old.count }
+    ensures { OnOk result (IsOwing frame.old frame.new (ConceptsMet (points_by_trial problem.now) (concept_count problem.now))) }
+{
+    for concept in 0..rows.count() {
+        let row = rows.row(concept);
+        add_need(row, row, row, row, Cells::all(), frame)?;
+    }
+    Ok(())
+}
+
+// Adds each concept, if none may be empty.
+fn add_nonempty(problem: &Problem, rows: &Rows, frame: &mut Rows) -> Result<(), AllocError>
+    requires rows { AreRowsOf problem.now rows.now }
+    requires wide { rows.now.width ≡ frame.old.width }
+    requires some { 0 < frame.old.width }
+    requires two { 2 ≤ frame.old.count }
+    ensures { OnOk result (IsOwing frame.old frame.new (λ some. problem.now.switches.nonempty ≡ true → ConceptsMet (points_by_trial problem.now) (concept_count problem.now) some)) }
+{
+    if problem.switches().nonempty {
+        add_concepts(problem, rows, frame)?;
+    }
+    Ok(())
+}
+
+// The frame of a problem, whose points are so many.
+pub(crate) fn first_frame(
+    alloc: Global,
+    problem: &Problem,
+    sets: &[RelSet],
+    rows: &Rows,
+    count: usize,
+) -> Result<Rows, AllocError>
+    requires sets { AreAllowed problem.now sets.now }
+    requires rows { AreRowsOf problem.now rows.now }
+    requires count { count ≡ length (points_by_trial problem.now) }
+    ensures { IfOk result (λ frame. IsFrame problem.now (points_by_trial problem.now) frame) }
+{
+    let full = full_row(alloc, rows.width(), count)?;
+    let mut frame = Rows::new(alloc, rows.width());
+    frame.push_copy(full.row(0))?;
+    frame.push_empty()?;
+    add_pairs(problem, sets, rows, &full, &mut frame)?;
+    add_nonempty(problem, rows, &mut frame)?;
+    Ok(frame)
+}
+
+// Whether each pair allows a relation.
+fn all_allow(problem: &Problem, sets: &[RelSet]) -> bool
+    requires { AreAllowed problem.now sets.now }
+    ensures { result ≡ all_allow problem.now }
+{
+    for set in sets {
+        if set.is_empty() {
+            return false;
+        }
+    }
+    true
+}
+
+// Whether a problem is alive, by its frame.
+pub(crate) fn is_alive(problem: &Problem, sets: &[RelSet], frame: &Rows) -> bool
+    requires sets { AreAllowed problem.now sets.now }
+    requires frame { IsFrame problem.now (points_by_trial problem.now) frame.now }
+    ensures { IsTrue result ↔ IsAlive problem.now }
+{
+    if !all_allow(problem, sets) {
+        return false;
+    }
+    lives(frame)
+}

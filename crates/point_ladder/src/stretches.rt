@@ -1,0 +1,25 @@
+//! Stretches of a path, along each of which one frame is in force.
+ghost use Rattle.std.specs.Prelude.{◌<◌, length};
+ghost use Rattle.point_ladder.specs.Stretches.{IsCut};
+
+use bit_rows::Rows;
+
+/// The length of the path from which on a frame is in force, and the frame.
+#[derive(Drop)]
+pub(crate) struct Stretch {
+    pub(crate) from: usize,
+    pub(crate) frame: Rows,
+}
+
+// Drops those that begin past a length.
+pub(crate) fn cut(stretches: &mut Vec<Stretch>, len: usize)
+    ensures { IsCut stretches.old.items stretches.new.items len }
+{
+    while stretches.len() > 0 {
+        let last = stretches.len() - 1;
+        if stretches[last].from <= len {
+            return;
+        }
+        stretches.pop();
+    }
+}

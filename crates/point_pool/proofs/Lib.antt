@@ -1,0 +1,12 @@
+pub mod Cursors
+pub mod Prefixes
+pub mod Numbering
+pub mod Selecting
+pub mod Starting
+pub mod Serving
+pub mod Waits
+pub mod Going
+pub mod Sameness
+pub mod Pooling
+pub mod Settling
+pub mod Gathering

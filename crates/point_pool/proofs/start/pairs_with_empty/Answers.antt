@@ -1,0 +1,12 @@
+use Rattle.std.proofs.Common.{◌++◌, ◌∷◌, [], ◌∙◌, cond, ap}
+use Rattle.point_pool.specs.Needs.{forced_at}
+use Rattle.point_pool.specs.Starts.{has_empty}
+use Rattle.point_pool.proofs.Starting.{pairs_more}
+use Rattle.point_pool.proofs.start.pairs_with_empty.Goals as goal
+
+pub loop-pair-preserved : goal.loop-pair-preserved
+loop-pair-preserved c =
+    let p = c.args.cursor.now.problem in
+    let i = c.loop-pair.pair in
+    pairs_more (λ pair. has_empty (forced_at p pair)) c.loop-pair.pairs.items c.push_if_empty.new.pairs.items i c.loop-pair.invariant
+    (c.in_ok-push_if_empty.ensures ∙ ap (λ r. c.loop-pair.pairs.items ++ cond (has_empty r) (i ∷ []) []) c.start_at.ensures)

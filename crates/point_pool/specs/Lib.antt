@@ -1,0 +1,4 @@
+pub mod Needs
+pub mod Cursors
+pub mod Pools
+pub mod Starts

@@ -1,0 +1,99 @@
+//! Copies of problems and points.
+ghost use Rattle.constraint_set.specs.Shape.{SameShape};
+ghost use Rattle.std.specs.Prelude.{IfOk, length, slice_get, take, true, ◌<◌, ◌≡◌, ◌≤◌};
+
+use constraint_set::Problem;
+use lits_core::Bits;
+use std::alloc::{AllocError, Global};
+
+/// A second problem that is equal to this one.
+pub fn same_problem(alloc: Global, problem: &Problem) -> Result<Problem, AllocError>
+    ensures { IfOk result (λ p. p ≡ problem.now) }
+{
+    let flags = flags_of(alloc, problem)?;
+    problem.restricted(alloc, &flags)
+}
+
+// Which articulations are kept.
+fn flags_of(alloc: Global, problem: &Problem) -> Result<Vec<bool>, AllocError>
+    ensures value { IfOk result (λ flags. flags.items ≡ problem.now.kept) }
+    ensures counted { IfOk result (λ flags. length flags.items ≡ length problem.now.articulations) }
+{
+    let _built = problem.taxonomy_count();
+    let mut flags = Vec::with_capacity(alloc, problem.articulation_count() as usize)?;
+    for index in 0..problem.articulation_count() {
+        flags.push(problem.is_kept(index))?;
+    }
+    Ok(flags)
+}
+
+/// Whether two problems of one shape are equal.
+pub fn is_same(one: &Problem, other: &Problem) -> bool
+    requires { SameShape one.now other.now }
+    ensures { result ≡ true → one.now ≡ other.now }
+{
+    if !same_flags(one, other) {
+        return false;
+    }
+    same_narrowings(one, other)
+}
+
+// Whether two problems of one shape keep the same articulations.
+fn same_flags(one: &Problem, other: &Problem) -> bool
+    requires { one.now.articulations ≡ other.now.articulations }
+    ensures { result ≡ true → one.now.kept ≡ other.now.kept }
+{
+    let _one = one.taxonomy_count();
+    let _other = other.taxonomy_count();
+    for index in 0..one.articulation_count() {
+        if one.is_kept(index) != other.is_kept(index) {
+            return false;
+        }
+    }
+    true
+}
+
+// Whether two problems have the same narrowings.
+fn same_narrowings(one: &Problem, other: &Problem) -> bool
+    ensures { result ≡ true → one.now.narrowings ≡ other.now.narrowings }
+{
+    if one.narrowing_count() != other.narrowing_count() {
+        return false;
+    }
+    for index in 0..one.narrowing_count() {
+        if !same_narrowing(one, other, index) {
+            return false;
+        }
+    }
+    true
+}
+
+// Whether two problems have the same narrowing at a place.
+fn same_narrowing(one: &Problem, other: &Problem, index: usize) -> bool
+    requires one { index < length one.now.narrowings }
+    requires other { index < length other.now.narrowings }
+    ensures { result ≡ true → slice_get one.now.narrowings index ≡ slice_get other.now.narrowings index }
+{
+    let (left, right, set) = one.narrowing(index);
+    let (other_left, other_right, other_set) = other.narrowing(index);
+    left == other_left && right == other_right && set == other_set
+}
+
+/// The first bits.
+pub fn front(alloc: Global, bits: &Bits, count: usize) -> Result<Bits, AllocError>
+    requires { count ≤ length bits.now }
+    ensures { IfOk result (λ front. front ≡ take count bits.now) }
+{
+    let mut front = Bits::new(alloc, count)?;
+    for place in 0..count {
+        front.set(place, bits.get(place));
+    }
+    Ok(front)
+}
+
+/// A second list of the same bits.
+pub fn copy(alloc: Global, bits: &Bits) -> Result<Bits, AllocError>
+    ensures { IfOk result (λ copy. copy ≡ bits.now) }
+{
+    front(alloc, bits, bits.len())
+}

@@ -1,0 +1,20 @@
+//! A prefix of a problem, and the points that were found, kept along it.
+#![tactic(auto)]
+
+mod alike;
+mod copies;
+mod cursor;
+mod depths;
+mod needs;
+mod pool;
+mod selectors;
+mod start;
+mod strike;
+mod waiting;
+mod witness;
+
+pub use copies::{copy, front, same_problem};
+pub use cursor::Cursor;
+pub use needs::{count_needs, count_pairs, lies_in, need_of, number_of, word_of};
+pub use pool::Pool;
+pub use waiting::Waiting;

@@ -1,0 +1,129 @@
+//! The needs of a problem by their numbers, and the regions that they speak of.
+ghost use Rattle.cert_model.specs.Forced.{region_with};
+ghost use Rattle.point_encode.specs.Needs.{IsInRange, need_seen, number_of};
+ghost use Rattle.point_pool.specs.Needs.{IsBelow, lies_by, need_at, need_count, wanted_seen};
+ghost use Rattle.rcc5_core.specs.Region.{word_at};
+ghost use Rattle.std.specs.Prelude.{length, ◌<◌, ◌≡◌, ◌≤◌};
+ghost use Rattle.world_model.specs.Alive.{is_in_need};
+ghost use Rattle.world_model.specs.Problem.{concept_count, pair_count};
+
+use constraint_set::Problem;
+use lits_core::Bits;
+use point_encode::Need;
+use rcc5_core::{Occupancy, Regions};
+use world_model::pairs_stand_once;
+
+/// How many pairs there are, which is not too many to count their regions.
+pub fn count_pairs(problem: &Problem) -> u32
+    ensures count { result ≡ pair_count problem.now }
+    ensures pairs { result ≤ 523776 }
+    ensures concepts { concept_count problem.now ≤ 1024 }
+{
+    let _built = problem.taxonomy_count();
+    pairs_stand_once();
+    problem.pair_count()
+}
+
+/// How many needs there may be.
+pub fn count_needs(problem: &Problem) -> u32
+    ensures { result ≡ need_count problem.now }
+{
+    let pairs = count_pairs(problem);
+    3 * pairs + problem.concept_count()
+}
+
+/// What is known of a region, by its number among the three.
+pub fn word_of(regions: Regions, part: u32) -> Occupancy
+    ensures { result ≡ word_at regions (region_with part) }
+{
+    if part == 0 {
+        regions.left_only
+    } else if part == 1 {
+        regions.both
+    } else {
+        regions.right_only
+    }
+}
+
+/// Whether a point lies in a region of a pair, by whether it is in the left concept and in the right one.
+pub fn lies_in(part: u32, left: bool, right: bool) -> bool
+    ensures { result ≡ lies_by (region_with part) left right }
+{
+    if part == 0 {
+        left && !right
+    } else if part == 1 {
+        left && right
+    } else {
+        !left && right
+    }
+}
+
+// A need, by its concepts: a region of two, by its number among the three, or one concept.
+#[derive(Clone, Copy)]
+pub(crate) enum Wanted {
+    Region { x: u32, y: u32, part: u32 },
+    Concept(u32),
+}
+
+// The need with a number.
+pub(crate) fn by_concepts(problem: &Problem, number: u32) -> Wanted
+    requires { number < need_count problem.now }
+    ensures value { wanted_seen result ≡ need_at problem.now number }
+    ensures below { IsBelow (concept_count problem.now) result }
+{
+    let pairs = problem.pair_count();
+    let pair = number / 3;
+    if pair < pairs {
+        let (x, y) = problem.pair_at(pair);
+        Wanted::Region {
+            x,
+            y,
+            part: number % 3,
+        }
+    } else {
+        Wanted::Concept(number - 3 * pairs)
+    }
+}
+
+// Whether a point is in a need.
+pub(crate) fn is_in(wanted: Wanted, bits: &Bits) -> bool
+    requires { IsBelow (length bits.now) wanted }
+    ensures { result ≡ is_in_need (wanted_seen wanted) bits.now }
+{
+    match wanted {
+        Wanted::Concept(concept) => bits.get(concept as usize),
+        Wanted::Region { x, y, part } => {
+            lies_in(part, bits.get(x as usize), bits.get(y as usize))
+        }
+    }
+}
+
+/// The need with a number, as callers have it.
+pub fn need_of(problem: &Problem, number: u32) -> Need
+    requires { number < need_count problem.now }
+    ensures value { need_seen problem.now result ≡ need_at problem.now number }
+    ensures range { IsInRange problem.now result }
+{
+    let pairs = problem.pair_count();
+    let pair = number / 3;
+    if pair < pairs {
+        Need::Region {
+            pair,
+            part: (number % 3) as u8,
+        }
+    } else {
+        Need::Concept(number - 3 * pairs)
+    }
+}
+
+/// The number of a need.
+pub fn number_of(problem: &Problem, need: Need) -> u32
+    requires { IsInRange problem.now need }
+    ensures { result ≡ number_of problem.now need }
+{
+    let pairs = count_pairs(problem);
+    match need {
+        Need::Region { pair, part } => 3 * pair + u32::from(part),
+        Need::Concept(concept) => 3 * pairs + concept,
+    }
+}

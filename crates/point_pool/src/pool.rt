@@ -1,0 +1,187 @@
+//! Points that were found, kept along a prefix.
+ghost use Rattle.constraint_set.specs.Shape.{SameShape};
+ghost use Rattle.point_pool.specs.Cursors.{IsEmptyPair};
+ghost use Rattle.point_pool.specs.Needs.{is_needed, need_count};
+ghost use Rattle.point_pool.specs.Pools.{IsPool, IsPoolAt, meets_trees};
+ghost use Rattle.rcc5_core.specs.RelationSet.{has};
+ghost use Rattle.std.specs.Prelude.{All, Contains, IfNone, IfOk, IsTrue, OnOk, [], length, take, ℕ, ◌++◌, ◌+◌, ◌<◌, ◌∷◌, ◌≡◌, ◌≤◌};
+ghost use Rattle.world_model.specs.Alive.{allowed, problem_at};
+ghost use Rattle.world_model.specs.Node.{pair_at};
+ghost use Rattle.world_model.specs.Problem.{pair_count};
+
+use crate::alike::common_len;
+use crate::copies::{is_same, same_problem};
+use crate::cursor::Cursor;
+use crate::depths::unstrike;
+use crate::needs::count_needs;
+use crate::start::depths_at_start;
+use crate::waiting::{Numbers, Waiting};
+use constraint_set::Problem;
+use lits_core::Bits;
+use rcc5_core::{Position, Rel, RelSet};
+use std::alloc::{AllocError, Global};
+use world_model::positions_narrow;
+
+/// Points, each with the depth at which the prefix struck it out, and the needs, each with the place of a point that serves it.
+///
+/// A point that was never struck out, or at a depth beyond the prefix, is a point of the prefix. A point has the numbers of
+/// the needs that it serves; where it is struck out they wait for another. The needs' places are hints: a need is served
+/// where it has its slot in the list of the point at its place.
+#[derive(Drop)]
+pub struct Pool {
+    pub cursor: Cursor,
+    pub(crate) points: Vec<Bits>,
+    pub(crate) depths: Vec<Option<usize>>,
+    pub(crate) struck: Vec<usize>,
+    pub(crate) witness: Vec<usize>,
+    pub(crate) slots: Vec<usize>,
+    pub(crate) serves: Vec<Numbers>,
+    pub waiting: Waiting,
+    pub(crate) alloc: Global,
+}
+
+impl Pool {
+    /// At the empty prefix of a problem, with points that meet the rules of its trees.
+    pub fn new(alloc: Global, problem: Problem, points: Vec<Bits>) -> Result<Pool, AllocError>
+        requires { All (λ bits. IsTrue (meets_trees problem bits)) points.items }
+        ensures pool { IfOk result IsPool }
+        ensures cursor { IfOk result (λ w. w.cursor ≡ record { problem = problem; path = [] }) }
+    {
+        positions_narrow();
+        let cursor = Cursor::new(alloc, problem)?;
+        let depths = depths_at_start(alloc, &cursor, &points)?;
+        let serves = no_numbers(alloc, points.len())?;
+        let count = count_needs(cursor.problem());
+        let waiting = all_needed(alloc, &cursor, count)?;
+        Ok(Pool {
+            cursor,
+            points,
+            depths,
+            struck: Vec::new(alloc),
+            witness: vec![in alloc; 0; count as usize]?,
+            slots: vec![in alloc; 0; count as usize]?,
+            serves,
+            waiting,
+            alloc,
+        })
+    }
+
+    /// The same points at another problem of the shape, at its empty prefix; or as it is, if at this problem.
+    pub fn moved_to(self, alloc: Global, problem: &Problem) -> Result<Pool, AllocError>
+        requires pool { IsPool self }
+        requires shape { SameShape self.cursor.problem problem.now }
+        ensures { IfOk result (IsPoolAt problem.now) }
+    {
+        if is_same(self.cursor.problem(), problem) {
+            return Ok(self);
+        }
+        let points = self.into_points();
+        Pool::new(alloc, same_problem(alloc, problem)?, points)
+    }
+
+    // The points, which meet the rules of the problem's trees.
+    fn into_points(self) -> Vec<Bits>
+        requires { IsPool self }
+        ensures { All (λ bits. IsTrue (meets_trees self.cursor.problem bits)) result.items }
+    {
+        self.points
+    }
+
+    /// What the problem allows the next pair.
+    pub fn next_set(&self) -> RelSet
+        requires { length self.now.cursor.path < pair_count self.now.cursor.problem }
+        ensures { result ≡ allowed self.now.cursor.problem (pair_at self.now.cursor.problem (length self.now.cursor.path)) }
+    {
+        self.cursor.problem().allowed(self.cursor.len())
+    }
+
+    /// Takes off the relations after the first ones.
+    pub fn back_to(&mut self, count: usize)
+        requires pool { IsPool self.old }
+        requires count { count ≤ length self.old.cursor.path }
+        ensures pool { IsPool self.new }
+        ensures cursor { self.new.cursor ≡ record self.old.cursor { path = take count self.old.cursor.path } }
+    {
+        positions_narrow();
+        let _open = self.cursor.path();
+        unstrike(&mut self.depths, &mut self.struck, count);
+        self.cursor.back_to(count);
+    }
+
+    /// Adds a relation that the problem allows the next pair.
+    pub fn push(&mut self, rel: Rel) -> Result<(), AllocError>
+        requires pool { IsPool self.old }
+        requires within { length self.old.cursor.path < pair_count self.old.cursor.problem }
+        requires allowed { IsTrue (has (allowed self.old.cursor.problem (pair_at self.old.cursor.problem (length self.old.cursor.path))) rel) }
+        ensures pool { OnOk result (IsPool self.new) }
+        ensures cursor { OnOk result (self.new.cursor ≡ record self.old.cursor { path = self.old.cursor.path ++ rel ∷ [] }) }
+    {
+        positions_narrow();
+        let _open = self.cursor.path();
+        let pair = self.cursor.len();
+        self.strike(pair, rel.row())?;
+        self.cursor.push(rel)?;
+        self.want_pair(pair)?;
+        Ok(())
+    }
+
+    /// Goes to a prefix, as far as the problem allows its relations, and answers the first pair that is left nothing.
+    pub fn go_to(&mut self, prefix: &Position) -> Result<Option<u32>, AllocError>
+        requires pool { IsPool self.old }
+        requires prefix { length prefix.now ≤ pair_count self.old.cursor.problem }
+        ensures pool { OnOk result (IsPool self.new) }
+        ensures problem { OnOk result (self.new.cursor.problem ≡ self.old.cursor.problem) }
+        ensures path { IfOk result (λ empty. IfNone empty (self.new.cursor.path ≡ prefix.now)) }
+        ensures empty { IfOk result (IsEmptyPair (problem_at self.old.cursor.problem prefix.now)) }
+    {
+        positions_narrow();
+        let common = common_len(self.cursor.path(), prefix.rels());
+        self.back_to(common);
+        while (self.cursor.len() as usize) < prefix.len() {
+            let pair = self.cursor.len();
+            let rel = prefix.at(pair as usize);
+            if !self.cursor.problem().allowed(pair).has(rel) {
+                let _open = self.cursor.path();
+                return Ok(Some(pair));
+            }
+            self.push(rel)?;
+        }
+        let _open = self.cursor.path();
+        Ok(self.cursor.empty())
+    }
+}
+
+// All needs of a prefix wait.
+fn all_needed(alloc: Global, cursor: &Cursor, count: u32) -> Result<Waiting, AllocError>
+    requires { count ≡ need_count cursor.now.problem }
+    ensures { IfOk result (λ waiting. (number : ℕ) → number < count → IsTrue (is_needed (problem_at cursor.now.problem cursor.now.path) number) → Contains waiting number) }
+{
+    let mut waiting = Waiting::new(alloc);
+    for number in 0..count {
+        push_if_needed(&mut waiting, cursor, number)?;
+    }
+    Ok(waiting)
+}
+
+// Adds a number to those that wait, if it is that of a need.
+fn push_if_needed(waiting: &mut Waiting, cursor: &Cursor, number: u32) -> Result<(), AllocError>
+    requires { number < need_count cursor.now.problem }
+    ensures there { OnOk result (IsTrue (is_needed (problem_at cursor.now.problem cursor.now.path) number) → Contains waiting.new number) }
+    ensures stay { OnOk result ((other : ℕ) → Contains waiting.old other → Contains waiting.new other) }
+{
+    if cursor.is_needed(number) {
+        waiting.push(number)?;
+    }
+    Ok(())
+}
+
+// So many empty lists.
+fn no_numbers(alloc: Global, count: usize) -> Result<Vec<Numbers>, AllocError>
+    ensures { IfOk result (λ lists. length lists.items ≡ count) }
+{
+    let mut lists = Vec::with_capacity(alloc, count)?;
+    for _place in 0..count {
+        lists.push(Numbers::new(alloc))?;
+    }
+    Ok(lists)
+}

@@ -1,0 +1,17 @@
+use Rattle.std.proofs.Common.{subst}
+use Rattle.std.specs.Prelude.{Contains}
+use Rattle.std.proofs.lemmas.List.Elements.{Contains-append_left, Contains-append_right}
+use Rattle.cert_model.specs.Forced.{selectors_of, need_lits}
+use Rattle.point_pool.specs.Needs.{need_at}
+use Rattle.point_query.proofs.closes.is_asked.Goals as goal
+
+pub returns-then-is_selector : goal.returns-then-is_selector
+returns-then-is_selector c = λ yes.
+    let p = c.args.cursor.now.problem in
+    Contains-append_left (selectors_of p c.args.cursor.now.path) (need_lits (need_at p c.args.number)) c.args.lit (c.is_selector.ensures c.if-is_selector.true)
+
+pub returns : goal.returns
+returns c = λ yes.
+    let p = c.args.cursor.now.problem in
+    let there = subst (λ q. Contains (need_lits (need_at q c.args.number)) c.args.lit) c.problem.ensures (c.is_need_lit.ensures yes) in
+    Contains-append_right (selectors_of p c.args.cursor.now.path) (need_lits (need_at p c.args.number)) c.args.lit there

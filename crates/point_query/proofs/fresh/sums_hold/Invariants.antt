@@ -1,7 +1,0 @@
-use Rattle.std.proofs.Common.{◌≡◌}
-use Rattle.point_query.specs.Walks.{sums_from}
-use Rattle.point_query.proofs.fresh.sums_hold.Given as goal
-
--- what is left to test is what there was
-abbrev pub invariant-loop-index : goal.invariant-loop-index
-invariant-loop-index l = sums_from l.bits l.problem l.index ≡ sums_from l.bits l.problem 0

@@ -1,0 +1,38 @@
+use Rattle.std.proofs.Common.{◌≡◌, ◌∙◌, ◌∷◌, ◌++◌, [], length, take, false, sym, ap, subst}
+use Rattle.std.specs.Prelude.{IsTrue}
+use Rattle.std.proofs.lemmas.Bool.{false≢true}
+use Rattle.rcc5_core.specs.RelationSet.{has}
+use Rattle.world_model.specs.Node.{pair_at}
+use Rattle.world_model.specs.Alive.{all_allow, allowed, problem_at}
+use Rattle.point_query.proofs.Querying.{goes_nowhere}
+use Rattle.point_query.proofs.Following.{child_allows, refused_is_dead}
+use Rattle.point_query.proofs.leading.leads_on.Goals as goal
+
+pub returns-then-not-has-clause-kept : goal.returns-then-not-has-clause-kept
+returns-then-not-has-clause-kept c = goes_nowhere c.args.solver.now
+
+pub returns-in_err-push-clause-kept : goal.returns-in_err-push-clause-kept
+returns-in_err-push-clause-kept c = goes_nowhere c.args.solver.now
+
+pub returns-then-not-has-clause-alive : goal.returns-then-not-has-clause-alive
+returns-then-not-has-clause-alive c =
+    let p = c.args.pool.now.cursor.problem in
+    let m = c.args.prefix.now in
+    let rel = c.args.rel in
+    let front = ap (λ k. take k c.args.pool.now.cursor.path) c.len.ensures ∙ c.requires.beyond.front in
+    let back : c.back_to.new.self.cursor ≡ record { problem = p; path = m } = c.back_to.ensures.cursor ∙ ap (λ n. record { problem = p; path = n }) front in
+    let set : c.next_set.result ≡ allowed p (pair_at p (length m)) = c.next_set.ensures ∙ ap (λ s. allowed s.problem (pair_at s.problem (length s.path))) back in
+    let refused : has (allowed p (pair_at p (length m))) rel ≡ false = ap (λ s. has s rel) (sym set) ∙ sym c.has.ensures ∙ c.if-not-has.true in
+    (λ yes. absurd (false≢true yes), λ alive. absurd (refused_is_dead p m rel c.requires.short refused alive))
+
+pub is_settled-requires-clause-allow : goal.is_settled-requires-clause-allow
+is_settled-requires-clause-allow c =
+    let p = c.args.pool.now.cursor.problem in
+    let m = c.args.prefix.now in
+    let rel = c.args.rel in
+    let front = ap (λ k. take k c.args.pool.now.cursor.path) c.len.ensures ∙ c.requires.beyond.front in
+    let back : c.back_to.new.self.cursor ≡ record { problem = p; path = m } = c.back_to.ensures.cursor ∙ ap (λ n. record { problem = p; path = n }) front in
+    let set : c.next_set.result ≡ allowed p (pair_at p (length m)) = c.next_set.ensures ∙ ap (λ s. allowed s.problem (pair_at s.problem (length s.path))) back in
+    let allowed_here : IsTrue (has (allowed p (pair_at p (length m))) rel) = ap (λ s. has s rel) (sym set) ∙ sym c.has.ensures ∙ c.if-not-has.false in
+    let same : c.push.new.self.cursor ≡ record { problem = p; path = m ++ rel ∷ [] } = c.in_ok-push.ensures.cursor ∙ ap (λ s. record { problem = s.problem; path = s.path ++ rel ∷ [] }) back in
+    subst (λ s. IsTrue (all_allow (problem_at s.problem s.path))) (sym same) (child_allows p m rel c.requires.allow c.requires.short allowed_here)

@@ -1,9 +1,0 @@
-use Rattle.std.proofs.Common.{◌∙◌, ap, [], ◌∷◌, ◌++◌}
-use Rattle.point_query.proofs.Walking.{point_added}
-use Rattle.point_query.proofs.walk.Walk.add.Goals as goal
-
-pub returns-clause-walk : goal.returns-clause-walk
-returns-clause-walk c = λ low high is.
-    let w = c.args.self.now in
-    (point_added c.positions_narrow.ensures w c.args.bits low high c.push.new.self c.push-2.new.self c.push-3.new.self is c.path-open.ensures.open c.requires.point
-    c.in_ok-push.ensures.items c.in_ok-push-2.ensures.items (c.in_ok-push-3.ensures.items ∙ ap (λ n. w.serves.items ++ n ∷ []) c.new.ensures)).0

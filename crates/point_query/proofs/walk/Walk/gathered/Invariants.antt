@@ -1,6 +1,0 @@
-use Rattle.point_query.specs.Walks.{AreGathered}
-use Rattle.point_query.proofs.walk.Walk.gathered.Given as goal
-
--- the witnesses of the needs so far are gathered
-abbrev pub invariant-loop-number : goal.invariant-loop-number
-invariant-loop-number l = AreGathered l.self l.number l.list.items l.taken.items

@@ -1,0 +1,206 @@
+//! The solver of an asker, with the clauses that closed needs before.
+ghost use Rattle.cert_model.specs.Forced.{IsClosedAt};
+ghost use Rattle.learn_solver.specs.Solving.{GoesTo, IsSolver, IsTidied};
+ghost use Rattle.lits_core.specs.Derivation.{live_clause};
+ghost use Rattle.point_encode.specs.Needs.{IsInRange, need_seen};
+ghost use Rattle.point_pool.specs.Needs.{need_at, need_count};
+ghost use Rattle.point_query.specs.Answers.{IsClosed, IsFound};
+ghost use Rattle.point_query.specs.Queries.{IsSolverOf, asker_with};
+ghost use Rattle.std.specs.Prelude.{IfOk, IfSome, MatchOption, OnErr, OnOk, [], length, ◌<◌, ◌≡◌, ◌≤◌};
+ghost use Rattle.world_model.specs.Problem.{pair_count};
+
+use crate::answers::Found;
+use crate::closes::closes;
+use crate::closings::{Closings, forget_idle};
+use crate::query::query;
+use cert_model::{clauses_are_points, needs_are_literals};
+use constraint_set::Problem;
+use learn_solver::Solver;
+use lits_core::{Line, law_literals_are_sets};
+use point_encode::{Need, selectors_of};
+use point_pool::{Cursor, count_needs, need_of};
+use rcc5_core::Position;
+use std::alloc::{AllocError, Global};
+use std::marker::Model;
+
+/// A solver, and the clauses that closed needs before.
+///
+/// A need that one of these clauses closes again costs no question.
+#[derive(Drop)]
+pub(crate) struct Closer {
+    solver: Solver,
+    closings: Closings,
+    questions: u64,
+    alloc: Global,
+}
+
+impl Model for Closer {
+    ghost use Rattle.learn_solver.specs.Solving.{SolverState};
+
+    ghost Value = { SolverState };
+
+    ghost view = { λ o. o.solver };
+}
+
+impl Closer {
+    // A solver of the shape of a problem that was asked nothing yet.
+    pub(crate) fn new(
+        alloc: Global,
+        solver: Solver,
+        problem: &Problem,
+    ) -> Result<Closer, AllocError>
+        ensures { IfOk result (λ o. o ≡ solver) }
+    {
+        let closings = Closings::new(alloc, count_needs(problem))?;
+        Ok(Closer {
+            solver,
+            closings,
+            questions: 0,
+            alloc,
+        })
+    }
+
+    // A point of the prefix in the need with a number, or the clause that shows that there is none.
+    pub(crate) fn ask(&mut self, cursor: &Cursor, number: u32) -> Result<Found, AllocError>
+        requires within { number < need_count cursor.now.problem }
+        requires solver { IsSolverOf cursor.now.problem self.old }
+        ensures kept { GoesTo self.old self.new }
+        ensures solver { IsSolverOf cursor.now.problem self.new }
+        ensures found { IfOk result (IsFound (asker_with cursor.now.problem self.new) cursor.now.problem cursor.now.path (need_at cursor.now.problem number)) }
+    {
+        if let Some(id) = self.known(cursor, number) {
+            return Ok(Found::Closed(id));
+        }
+        let found = self.question(cursor, number)?;
+        if let Found::Closed(id) = &found {
+            self.closings.note(number, *id)?;
+        }
+        Ok(found)
+    }
+
+    // The same, by the solver alone.
+    fn question(&mut self, cursor: &Cursor, number: u32) -> Result<Found, AllocError>
+        requires within { number < need_count cursor.now.problem }
+        requires solver { IsSolverOf cursor.now.problem self.old }
+        ensures kept { GoesTo self.old self.new }
+        ensures solver { IsSolverOf cursor.now.problem self.new }
+        ensures found { IfOk result (IsFound (asker_with cursor.now.problem self.new) cursor.now.problem cursor.now.path (need_at cursor.now.problem number)) }
+    {
+        let need = need_of(cursor.problem(), number);
+        self.questions = self.questions.saturating_add(1);
+        query(
+            self.alloc,
+            &mut self.solver,
+            cursor.problem(),
+            cursor.path(),
+            cursor.selected(),
+            need,
+        )
+    }
+
+    // A point of a prefix in a need, by the solver, or the clause that shows that there is none.
+    pub(crate) fn ask_at(
+        &mut self,
+        problem: &Problem,
+        prefix: &Position,
+        need: Need,
+    ) -> Result<Found, AllocError>
+        requires prefix { length prefix.now ≤ pair_count problem.now }
+        requires range { IsInRange problem.now need }
+        requires solver { IsSolverOf problem.now self.old }
+        ensures kept { GoesTo self.old self.new }
+        ensures solver { IsSolverOf problem.now self.new }
+        ensures found { IfOk result (IsFound (asker_with problem.now self.new) problem.now prefix.now (need_seen problem.now need)) }
+    {
+        let selectors = selectors_of(self.alloc, problem, prefix)?;
+        self.questions = self.questions.saturating_add(1);
+        query(
+            self.alloc,
+            &mut self.solver,
+            problem,
+            prefix.rels(),
+            &selectors,
+            need,
+        )
+    }
+
+    // A clause that closes the need with a number, among those that closed it before.
+    fn known(&self, cursor: &Cursor, number: u32) -> Option<u64>
+        requires within { number < need_count cursor.now.problem }
+        requires solver { IsSolverOf cursor.now.problem self.now }
+        ensures { IfSome result (IsClosed (asker_with cursor.now.problem self.now) cursor.now.problem cursor.now.path (need_at cursor.now.problem number)) }
+    {
+        let id = self.closing(cursor, number)?;
+        self.shows(cursor, number, id);
+        Some(id)
+    }
+
+    // What a clause that closes a need shows.
+    fn shows(&self, cursor: &Cursor, number: u32, id: u64)
+        requires within { number < need_count cursor.now.problem }
+        requires solver { IsSolverOf cursor.now.problem self.now }
+        requires closes { MatchOption (live_clause self.now.state id) ⊥ (IsClosedAt cursor.now.problem cursor.now.path (need_at cursor.now.problem number)) }
+        ensures { IsClosed (asker_with cursor.now.problem self.now) cursor.now.problem cursor.now.path (need_at cursor.now.problem number) id }
+    {
+        let _built = cursor.problem().taxonomy_count();
+        self.solver.facts();
+        clauses_are_points();
+        needs_are_literals();
+        law_literals_are_sets();
+    }
+
+    // A clause that closes the need with a number, among those that closed it before.
+    fn closing(&self, cursor: &Cursor, number: u32) -> Option<u64>
+        requires within { number < need_count cursor.now.problem }
+        ensures { IfSome result (λ id. MatchOption (live_clause self.now.state id) ⊥ (IsClosedAt cursor.now.problem cursor.now.path (need_at cursor.now.problem number))) }
+    {
+        for id in self.closings.of(number)? {
+            if closes(&self.solver, cursor, number, *id) {
+                return Some(*id);
+            }
+        }
+        None
+    }
+
+    // How many questions went to the solver.
+    pub(crate) fn questions(&self) -> u64 {
+        self.questions
+    }
+
+    // The lines that wait.
+    pub(crate) fn lines(&self) -> &[Line]
+        ensures { result.now ≡ self.now.waiting }
+    {
+        self.solver.lines()
+    }
+
+    // Drops the lines that wait.
+    pub(crate) fn clear_lines(&mut self)
+        ensures { self.new ≡ record self.old { waiting = [] } }
+    {
+        self.solver.clear_lines();
+    }
+
+    // How many clauses are idle.
+    pub(crate) fn idle(&self) -> u64
+        ensures { result ≡ length self.now.idle }
+    {
+        self.solver.idle()
+    }
+
+    // Forgets the clauses that are idle.
+    pub(crate) fn tidy(&mut self) -> Result<(), AllocError>
+        ensures kept { GoesTo self.old self.new }
+        ensures ok { OnOk result (IsTidied self.old self.new) }
+        ensures err { OnErr result (self.new ≡ self.old) }
+    {
+        forget_idle(&mut self.solver, &mut self.closings)
+    }
+
+    // What is so of the solver at any time.
+    pub(crate) fn facts(&self)
+        ensures { IsSolver self.now }
+    {
+        self.solver.facts();
+    }
+}

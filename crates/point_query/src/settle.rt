@@ -1,0 +1,105 @@
+//! Sees to it that the needs of a pool's prefix have points.
+ghost use Rattle.learn_solver.specs.Solving.{GoesTo};
+ghost use Rattle.point_pool.specs.Needs.{need_count};
+ghost use Rattle.point_pool.specs.Pools.{HasWitness, IsPool, IsPoolBut};
+ghost use Rattle.point_query.specs.Closing.{IsClosedNow, IsFirstStuck, IsStuck};
+ghost use Rattle.point_query.specs.Queries.{IsSolverOf};
+ghost use Rattle.std.specs.Prelude.{IfNone, IfOk, IfSome, IsTrue, OnOk, [], ◌+◌, ◌<◌, ◌↔◌, ◌≡◌};
+ghost use Rattle.world_model.specs.Alive.{IsAlive, all_allow, problem_at};
+
+use crate::answers::Found;
+use crate::closer::Closer;
+use lits_core::law_literals_are_sets;
+use point_pool::{Pool, count_needs};
+use std::alloc::AllocError;
+
+// Sees to it that a need has a witness, or answers the clause that shows that it has no point.
+pub(crate) fn serve(
+    pool: &mut Pool,
+    solver: &mut Closer,
+    number: u32,
+) -> Result<Option<u64>, AllocError>
+    requires pool { IsPoolBut pool.old number (number + 1) }
+    requires within { number < need_count pool.old.cursor.problem }
+    requires solver { IsSolverOf pool.old.cursor.problem solver.old }
+    ensures kept { GoesTo solver.old solver.new }
+    ensures solver { IsSolverOf pool.old.cursor.problem solver.new }
+    ensures cursor { OnOk result (pool.new.cursor ≡ pool.old.cursor) }
+    ensures waiting { OnOk result (pool.new.waiting ≡ pool.old.waiting) }
+    ensures served { IfOk result (λ closed. IfNone closed (IsPool pool.new × HasWitness pool.new number)) }
+    ensures closed { IfOk result (λ closed. IfSome closed (λ id. IsPoolBut pool.new number (number + 1) × IsClosedNow pool.new solver.new number id)) }
+{
+    if let Some(place) = pool.find(number) {
+        pool.assign(number, place)?;
+        return Ok(None);
+    }
+    match solver.ask(&pool.cursor, number)? {
+        Found::Point(bits) => {
+            let place = pool.add(bits)?;
+            pool.assign(number, place)?;
+            Ok(None)
+        }
+        Found::Closed(id) => Ok(Some(id)),
+    }
+}
+
+// Sees to it that a number waits no more: it is no need, or served; or answers the clause that shows that it has no point.
+fn settle_one(pool: &mut Pool, solver: &mut Closer, number: u32) -> Result<Option<u64>, AllocError>
+    requires pool { IsPoolBut pool.old number (number + 1) }
+    requires solver { IsSolverOf pool.old.cursor.problem solver.old }
+    ensures kept { GoesTo solver.old solver.new }
+    ensures solver { IsSolverOf pool.old.cursor.problem solver.new }
+    ensures cursor { OnOk result (pool.new.cursor ≡ pool.old.cursor) }
+    ensures waiting { OnOk result (pool.new.waiting ≡ pool.old.waiting) }
+    ensures settled { IfOk result (λ closed. IfNone closed (IsPool pool.new)) }
+    ensures closed { IfOk result (λ closed. IfSome closed (IsStuck pool.new solver.new number)) }
+{
+    if number >= count_needs(pool.cursor.problem()) {
+        return Ok(None);
+    }
+    if !pool.cursor.is_needed(number) {
+        return Ok(None);
+    }
+    if pool.is_served(number) {
+        return Ok(None);
+    }
+    serve(pool, solver, number)
+}
+
+// Sees to it that each need has a witness, or answers the first need without a point and the clause that shows it.
+pub(crate) fn settle(pool: &mut Pool, solver: &mut Closer) -> Result<Option<(u32, u64)>, AllocError>
+    requires pool { IsPool pool.old }
+    requires solver { IsSolverOf pool.old.cursor.problem solver.old }
+    ensures kept { GoesTo solver.old solver.new }
+    ensures solver { IsSolverOf pool.old.cursor.problem solver.new }
+    ensures pool { OnOk result (IsPool pool.new) }
+    ensures cursor { OnOk result (pool.new.cursor ≡ pool.old.cursor) }
+    ensures settled { IfOk result (λ closed. IfNone closed (pool.new.waiting ≡ [])) }
+    ensures closed { IfOk result (λ closed. IfSome closed (λ c. IsFirstStuck pool.new solver.new c.0 c.1)) }
+{
+    law_literals_are_sets();
+    while let Some(number) = pool.waiting.pop() {
+        if let Some(id) = settle_one(pool, solver, number)? {
+            pool.waiting.push(number)?;
+            return Ok(Some((number, id)));
+        }
+    }
+    Ok(None)
+}
+
+// Whether the pool's prefix is alive: looks for a point for each need.
+pub(crate) fn is_settled(pool: &mut Pool, solver: &mut Closer) -> Result<bool, AllocError>
+    requires pool { IsPool pool.old }
+    requires allow { IsTrue (all_allow (problem_at pool.old.cursor.problem pool.old.cursor.path)) }
+    requires solver { IsSolverOf pool.old.cursor.problem solver.old }
+    ensures kept { GoesTo solver.old solver.new }
+    ensures solver { IsSolverOf pool.old.cursor.problem solver.new }
+    ensures pool { OnOk result (IsPool pool.new) }
+    ensures cursor { OnOk result (pool.new.cursor ≡ pool.old.cursor) }
+    ensures alive { IfOk result (λ yes. IsTrue yes ↔ IsAlive (problem_at pool.old.cursor.problem pool.old.cursor.path)) }
+{
+    match settle(pool, solver)? {
+        None => Ok(true),
+        Some(_) => Ok(false),
+    }
+}

@@ -1,6 +1,0 @@
-use Rattle.point_table.proofs.BoundSteps.{ladder_is_bound}
-use Rattle.point_table.proofs.ladder.Ladder.bounded.Goals as goal
-
-pub returns : goal.returns
-returns c =
-    ladder_is_bound c.args.problem.now c.in_ok-copy.field-0 c.narrow_all.new.bounds c.in_ok-stand.field-0 c.in_ok-narrow_all.ensures c.facts.ensures.valid c.in_ok-copy.ensures c.in_ok-stand.ensures

@@ -1,5 +1,0 @@
-use Rattle.point_table.proofs.Along.{AreWaiting}
-use Rattle.point_table.proofs.ladder.nexts_of.Given as goal
-
-abbrev pub invariant-loop-pair : goal.invariant-loop-pair
-invariant-loop-pair l = AreWaiting l.sets l.line l.nexts.items l.pair

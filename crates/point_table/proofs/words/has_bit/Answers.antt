@@ -1,6 +1,0 @@
-use Rattle.std.proofs.Common.{◌∙◌}
-use Rattle.point_table.proofs.WordBits.{has_by_word}
-use Rattle.point_table.proofs.words.has_bit.Goals as goal
-
-pub returns : goal.returns
-returns c = c.has.ensures ∙ has_by_word c.args.row.now c.word_at.result c.args.place c.word_at.ensures

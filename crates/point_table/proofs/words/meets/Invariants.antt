@@ -1,7 +1,0 @@
-use Rattle.std.proofs.Common.{◌*◌, ◌&&◌}
-use Rattle.point_table.specs.Rows.{has_bit, in_cells}
-use Rattle.point_table.proofs.WordBits.{NoneBelow}
-use Rattle.point_table.proofs.words.meets.Given as goal
-
-abbrev pub invariant-loop-i : goal.invariant-loop-i
-invariant-loop-i l = NoneBelow (λ k. has_bit l.one k && has_bit l.other k && in_cells l.cells (has_bit l.left k) (has_bit l.right k)) (64 * l.i)

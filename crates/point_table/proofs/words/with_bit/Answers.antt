@@ -1,5 +1,0 @@
-use Rattle.point_table.proofs.WordBits.{with_bit_has}
-use Rattle.point_table.proofs.words.with_bit.Goals as goal
-
-pub returns : goal.returns
-returns c = λ i _. with_bit_has c.args.word c.args.place i c.requires
