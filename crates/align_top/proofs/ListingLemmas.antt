@@ -17,7 +17,8 @@ use Rattle.world_model.proofs.TrialLaws.{trial_is_right_law}
 use Rattle.world_search.specs.Searching.{SearchState, StandsBetween, Passes, FellBy, Came, IsNext, last_place}
 use Rattle.world_search.specs.Steps.{StandsBehind}
 use Rattle.align_top.specs.declared.Order.{Order}
-use Rattle.align_top.specs.Output.{world_line, last_line, count_of, listing_text}
+use Rattle.run_ends.specs.Ends.{world_line}
+use Rattle.align_top.specs.Output.{last_line, count_of, listing_text}
 use Rattle.align_top.specs.Putting.{AreUpTo, LastsTo, worlds_from, IsPutTo, IsPutToCut, IsPutPartly, StandsAt, IsStop}
 use Rattle.align_top.proofs.CutLemmas.{up_to_start, lasts_start, up_to_more, lasts_on, lasts_behind, lasts_still, cut_none, cut_here, limit_reached, limit_unreached, fell_twice, fell_nothing, none_passed, no_world_passed}
 

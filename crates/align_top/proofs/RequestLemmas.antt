@@ -5,12 +5,12 @@ use Rattle.std.specs.List.{list_any}
 use Rattle.command_line.specs.declared.Command.{Command}
 use Rattle.command_line.specs.declared.Command.TheVariants as command
 use Rattle.command_line.specs.declared.Key.{Key}
-use Rattle.command_line.specs.declared.Key.TheVariants.{In, Nodes, Worlds, Token, Resume}
+use Rattle.command_line.specs.declared.Key.TheVariants.{In, Cert, Nodes, Worlds, Token, Resume}
 use Rattle.command_line.specs.declared.Operand.{Operand}
 use Rattle.command_line.specs.declared.Request.{Request}
 use Rattle.command_line.specs.declared.UsageKind.{UsageKind}
 use Rattle.command_line.specs.Words.{row_of, number_of, fail_if, need, and_then, command_named, operands_of, same_key, is_given, value_of, limit_of, is_lacking, lacks_token, is_same_value, has_same_name, request_for, request_of}
-use Rattle.align_top.specs.Steps.{IsAskable}
+use Rattle.align_top.specs.Steps.{IsMade}
 
 -- a value that comes of some steps comes of each
 need_ok : {X Y : Type 0} (o : Option X) (kind : UsageKind) (further : X → Result Y UsageKind) (y : Y) → need o kind further ≡ Ok y → (x : X) × (further x ≡ Ok y)
@@ -54,10 +54,11 @@ no_limit operands key e =
     ap (λ (o : Option Operand). option_and_then number_of (option_map (λ operand. operand.value) o)) (any_none (λ operand. same_key operand.key key) operands e)
 
 -- the tests of the whole list, one by one
-second_false : (a b c : Bool) → (a || b || c) ≡ false → b ≡ false
-second_false true b c e = cc
-second_false false true c e = cc
-second_false false false c e = refl
+third_false : (a b c d e f : Bool) → (a || b || c || d || e || f) ≡ false → c ≡ false
+third_false true b c d e f h = cc
+third_false false true c d e f h = cc
+third_false false false true d e f h = cc
+third_false false false false d e f h = refl
 
 limits_false : (nodes worlds token : Bool) → ((nodes || worlds) && not token) ≡ false → token ≡ false → (nodes ≡ false) × (worlds ≡ false)
 limits_false nodes worlds true h e = cc
@@ -65,11 +66,13 @@ limits_false true worlds false h e = cc
 limits_false false true false h e = cc
 limits_false false false false h e = (refl, refl)
 
-names_apart : (input token resume : Option (List ℕ)) → (input ≡ None → ⊥) → (is_same_value input token || is_same_value input resume || is_same_value token resume) ≡ false
+names_apart : (input cert token resume : Option (List ℕ)) → (input ≡ None → ⊥)
+    → (is_same_value input cert || is_same_value input token || is_same_value input resume || is_same_value cert token || is_same_value cert resume || is_same_value token resume) ≡ false
     → IfSome resume (λ name. bytes_eq (unwrap_or input []) name ≡ false)
-names_apart input token None given same = tt
-names_apart None token (Some name) given same = absurd (given refl)
-names_apart (Some input) token (Some name) given same = second_false (is_same_value (Some input) token) (bytes_eq input name) (is_same_value token (Some name)) same
+names_apart input cert token None given same = tt
+names_apart None cert token (Some name) given same = absurd (given refl)
+names_apart (Some input) cert token (Some name) given same =
+    third_false (is_same_value (Some input) cert) (is_same_value (Some input) token) (bytes_eq input name) (is_same_value cert token) (is_same_value cert (Some name)) (is_same_value token (Some name)) same
 
 limited : (operands : List Operand) (token : Option (List ℕ)) → value_of operands Token ≡ token → lacks_token operands ≡ false
     → IfNone token ((limit_of operands Nodes ≡ None) × (limit_of operands Worlds ≡ None))
@@ -85,22 +88,23 @@ input_given operands lacking none = by (is_given operands In) (not_given operand
     by true e h = cc
     by false e h = cc
 
-askable_for : (c : Command) (operands : List Operand) → is_lacking (row_of c) operands ≡ false → lacks_token operands ≡ false → has_same_name operands ≡ false → IsAskable (request_for c operands)
-askable_for command.Align operands lacking lacks same = (
-  names_apart (value_of operands In) (value_of operands Token) (value_of operands Resume) (input_given operands lacking) same,
-  limited operands (value_of operands Token) refl lacks,
-)
+made_for : (c : Command) (operands : List Operand) → is_lacking (row_of c) operands ≡ false → lacks_token operands ≡ false → has_same_name operands ≡ false → IsMade (request_for c operands)
+made_for command.Align operands lacking lacks same = record {
+  apart = names_apart (value_of operands In) (value_of operands Cert) (value_of operands Token) (value_of operands Resume) (input_given operands lacking) same;
+  limited = limited operands (value_of operands Token) refl lacks;
+}
+made_for command.Check operands lacking lacks same = tt
 
 ok_same : (a b : Request) (x y : Result Request UsageKind) → x ≡ Ok a → y ≡ Ok b → x ≡ y → a ≡ b
 ok_same a b x y p q e = cc
 
 -- the names that words give are apart, and a limit has a token
-pub askable : (words : List (List ℕ)) (r : Request) → request_of words ≡ Ok r → IsAskable r
-askable [] r e = cc
-askable (word ∷ words) r e =
+pub made : (words : List (List ℕ)) (r : Request) → request_of words ≡ Ok r → IsMade r
+made [] r e = cc
+made (word ∷ words) r e =
     let named = need_ok (command_named word) _ _ r e in
     let operands = and_ok (operands_of (row_of named.0) [] words) _ r named.1 in
     let lacking = fail_ok (is_lacking (row_of named.0) operands.0) _ _ r operands.1 in
     let lacks = fail_ok (lacks_token operands.0) _ _ r lacking.1 in
     let same = fail_ok (has_same_name operands.0) _ _ r lacks.1 in
-    subst IsAskable (ok_same (request_for named.0 operands.0) r (Ok (request_for named.0 operands.0)) (Ok r) refl refl same.1) (askable_for named.0 operands.0 lacking.0 lacks.0 same.0)
+    subst IsMade (ok_same (request_for named.0 operands.0) r (Ok (request_for named.0 operands.0)) (Ok r) refl refl same.1) (made_for named.0 operands.0 lacking.0 lacks.0 same.0)

@@ -20,7 +20,7 @@ use Rattle.table_walk.specs.Ahead.{IsOnward, Lists, ListsBetween, BeginAlike}
 use Rattle.table_walk.specs.Tables.{TablesState, IsAtWorld, PassedTold}
 use Rattle.table_walk.specs.Ways.{told_table}
 use Rattle.align_top.specs.declared.Order.{Order}
-use Rattle.align_top.specs.Output.{world_line}
+use Rattle.run_ends.specs.Ends.{world_line}
 use Rattle.align_top.specs.Putting.{worlds_from, IsPutTo, IsPutToCut, IsPutPartly, AreTablesFor}
 use Rattle.align_top.proofs.CutLemmas.{later}
 use Rattle.align_top.proofs.PlaceLemmas.{right_behind, behind_upto, nothing_to_end, nothing_to_node, one_there, told_passed, as_many}
@@ -41,7 +41,7 @@ pub record IsTabled (order : Order) (s : TablesState) (line : List ℕ) (old new
 
 -- a search of an order without an end, at a place
 abbrev searching : Order → Option (List Rel) → SearchState
-searching order at = record { problem = order.problem; from = order.start; to = None; at = at }
+searching order at = record { problem = order.problem; from = order.start; to = None; at = at; expects = None }
 
 -- what stands between two places, as what a search passes that counts no nodes
 came_by : (order : Order) (one other : Option (List Rel)) (worlds : List (List Rel)) → Lists order.problem one other worlds → Came (searching order one) (searching order other) None None worlds

@@ -8,14 +8,15 @@ ghost use Rattle.world_model.specs.Node.{IsCut};
 ghost use Rattle.constraint_set.specs.Facts.{IsAsRead};
 ghost use Rattle.resume_token.specs.Token.{token_text};
 ghost use Rattle.align_top.specs.Output.{complete_line, cut_line};
-ghost use Rattle.align_top.specs.Run.{store_state, sink_state, IsQuiet, Leaves, LeavesPiece};
-ghost use Rattle.align_top.specs.Steps.{status_at, IsReady, IsCutEnded, IsEnded, IsCarriedOut};
+ghost use Rattle.run_ends.specs.Runs.{store_state, sink_state, IsQuiet, LeavesPiece, IsCarriedOut};
+ghost use Rattle.align_top.specs.Steps.{status_at, IsReady, IsCutEnded, IsEnded, order_answers};
 
-use crate::{Listed, Order, Status, Word, put_line, put_worlds};
+use crate::{Listed, Order, Word, put_worlds};
 use constraint_set::Problem;
 use outer_store::{Sink, Store, StoreFault};
 use rcc5_core::Position;
 use resume_token::print_token;
+use run_ends::{Status, put_line};
 use std::alloc::{AllocError, Global};
 
 fn complete_words(alloc: Global, count: u64) -> Result<String, AllocError>
@@ -142,7 +143,7 @@ pub(crate) fn carry_out<S: Store, W: Sink>(
     token: &Option<Word>,
 ) -> Result<Status, StoreFault>
     requires { IsReady order.now token.now }
-    ensures { IsCarriedOut result order.now token.now (store_state (S.held store.old) (S.read_faults store.old) (S.write_faults store.old)) (store_state (S.held store.new) (S.read_faults store.new) (S.write_faults store.new)) (sink_state (W.received out.old) (W.faults out.old)) (sink_state (W.received out.new) (W.faults out.new)) }
+    ensures { IsCarriedOut (order_answers order.now) result token.now (store_state (S.held store.old) (S.read_faults store.old) (S.write_faults store.old)) (store_state (S.held store.new) (S.read_faults store.new) (S.write_faults store.new)) (sink_state (W.received out.old) (W.faults out.old)) (sink_state (W.received out.new) (W.faults out.new)) }
 {
     let listed = put_worlds(alloc, out, order)?;
     end_listing(alloc, store, out, order, token, listed)

@@ -3,15 +3,16 @@ ghost use Rattle.std.specs.Prelude.{◌≡◌, ◌≢◌, ◌++◌, [], ◌∷�
 ghost use Rattle.rcc5_core.specs.Relation.{letter_of};
 ghost use Rattle.constraint_set.specs.Shape.{shape_of};
 ghost use Rattle.world_search.specs.Searching.{begun, Came, FellBy};
-ghost use Rattle.align_top.specs.Output.{world_line, last_line};
-ghost use Rattle.align_top.specs.Run.{sink_state, Leaves, LeavesPiece};
+ghost use Rattle.run_ends.specs.Ends.{world_line};
+ghost use Rattle.run_ends.specs.Runs.{sink_state, Leaves, LeavesPiece};
 ghost use Rattle.align_top.specs.Putting.{IsPutTo, IsPutToCut, IsPutPartly, IsMet, IsStop, IsOrder};
 
+use crate::Order;
 use crate::table_listing::{put_tables, tables_for};
-use crate::{Order, put_line};
 use outer_store::{Sink, StoreFault};
 use point_query::Asker;
 use rcc5_core::Position;
+use run_ends::put_line;
 use std::alloc::{AllocError, Global};
 use world_search::{Nodes, Search, TableStep};
 

@@ -3,8 +3,8 @@ ghost use Rattle.std.specs.Prelude.{◌≡◌, ◌≤◌, length, map, take, IfO
 ghost use Rattle.rcc5_core.specs.Relation.{letter_of};
 ghost use Rattle.world_model.specs.Family.{IsPossibleWorld};
 ghost use Rattle.world_search.specs.Walking.{IsBehind, IsLeastNode, HasNoNode};
-ghost use Rattle.align_top.specs.Output.{world_line};
-ghost use Rattle.align_top.specs.Run.{sink_state, Leaves};
+ghost use Rattle.run_ends.specs.Ends.{world_line};
+ghost use Rattle.run_ends.specs.Runs.{sink_state, Leaves};
 ghost use Rattle.align_top.specs.Putting.{IsPutToCut, IsPutPartly, IsOrder, AreTablesFor};
 
 use crate::Order;

@@ -1,24 +1,84 @@
 //! All that the program does with its words, a store and a sink.
-ghost use Rattle.std.specs.Prelude.{map, string_bytes};
-ghost use Rattle.align_top.specs.Run.{store_state, sink_state, IsRun};
+ghost use Rattle.std.specs.Prelude.{map, string_bytes, Ok};
+ghost use Rattle.command_line.specs.declared.Request.TheVariants.{Align};
+ghost use Rattle.run_ends.specs.Runs.{store_state, sink_state, IsRunOf};
+ghost use Rattle.align_top.specs.Output.{names_of, answers_to, IsRun};
+ghost use Rattle.align_top.specs.Steps.{IsAskable, IsMade};
 
-use crate::asking::order_of_words;
+use crate::asking::{Asking, order_of};
 use crate::carry::carry_out;
-use crate::{Status, put_end};
+use check_run::run_check;
+use command_line::{Request, WordsFault, read_words};
 use outer_store::{Sink, Store, StoreFault};
+use run_ends::{Status, put_end};
 use std::alloc::Global;
 
-/// Does what the words ask for, and answers how the run ended.
-pub fn run<S: Store, W: Sink>(alloc: Global, words: &[String], store: &mut S, out: &mut W) -> Status
-    ensures { IsRun (map string_bytes words.now) result (store_state (S.held store.old) (S.read_faults store.old) (S.write_faults store.old)) (store_state (S.held store.new) (S.read_faults store.new) (S.write_faults store.new)) (sink_state (W.received out.old) (W.faults out.old)) (sink_state (W.received out.new) (W.faults out.new)) }
+// Lists what is asked for.
+fn run_align<S: Store, W: Sink>(
+    alloc: Global,
+    store: &mut S,
+    out: &mut W,
+    asking: &Asking,
+) -> Status
+    requires { IsAskable asking.now.input asking.now.nodes asking.now.worlds asking.now.token asking.now.resume }
+    ensures { IsRunOf (names_of (Ok (Align asking.now.input asking.now.switches asking.now.nodes asking.now.worlds asking.now.token asking.now.resume))) (answers_to (Ok (Align asking.now.input asking.now.switches asking.now.nodes asking.now.worlds asking.now.token asking.now.resume))) result (store_state (S.held store.old) (S.read_faults store.old) (S.write_faults store.old)) (store_state (S.held store.new) (S.read_faults store.new) (S.write_faults store.new)) (sink_state (W.received out.old) (W.faults out.old)) (sink_state (W.received out.new) (W.faults out.new)) }
 {
-    let asked = match order_of_words(alloc, store, words) {
-        Ok(asked) => asked,
+    let order = match order_of(alloc, store, asking) {
+        Ok(order) => order,
         Err(status) => return put_end(alloc, out, status),
     };
-    match carry_out(alloc, store, out, &asked.order, &asked.token) {
+    match carry_out(alloc, store, out, &order, &asking.token) {
         Ok(status) => status,
         Err(StoreFault::Failed) => Status::WriteFault,
         Err(StoreFault::NoMemory) => put_end(alloc, out, Status::NoMemory),
+    }
+}
+
+// Does what a request asks for.
+fn run_request<S: Store, W: Sink>(
+    alloc: Global,
+    store: &mut S,
+    out: &mut W,
+    request: Request,
+) -> Status
+    requires { IsMade request }
+    ensures { IsRunOf (names_of (Ok request)) (answers_to (Ok request)) result (store_state (S.held store.old) (S.read_faults store.old) (S.write_faults store.old)) (store_state (S.held store.new) (S.read_faults store.new) (S.write_faults store.new)) (sink_state (W.received out.old) (W.faults out.old)) (sink_state (W.received out.new) (W.faults out.new)) }
+{
+    match request {
+        Request::Align {
+            input,
+            switches,
+            nodes,
+            worlds,
+            token,
+            resume,
+        } => {
+            let asking = Asking {
+                input,
+                switches,
+                nodes,
+                worlds,
+                token,
+                resume,
+            };
+            run_align(alloc, store, out, &asking)
+        }
+        Request::Check {
+            input,
+            cert,
+            switches,
+        } => run_check(alloc, store, out, input.text(), cert.text(), switches),
+    }
+}
+
+/// Does what the words ask for, and answers how the run ended.
+#[tactic(auto, using(crate::proofs::RunLemmas::words_rules))]
+pub fn run<S: Store, W: Sink>(alloc: Global, words: &[String], store: &mut S, out: &mut W) -> Status
+    ensures { IsRun (map string_bytes words.now) result (store_state (S.held store.old) (S.read_faults store.old) (S.write_faults store.old)) (store_state (S.held store.new) (S.read_faults store.new) (S.write_faults store.new)) (sink_state (W.received out.old) (W.faults out.old)) (sink_state (W.received out.new) (W.faults out.new)) }
+{
+    match read_words(alloc, words) {
+        Ok(request) => run_request(alloc, store, out, request),
+        Err(WordsFault::Usage(kind)) => put_end(alloc, out, Status::Usage(kind)),
+        Err(WordsFault::NoMemory) => put_end(alloc, out, Status::NoMemory),
     }
 }

@@ -12,7 +12,8 @@ use Rattle.cert_reader.specs.declared.fault.CertTextKind.{CertTextKind}
 use Rattle.cert_reader.specs.declared.fault.CertTextKind.TheVariants.{EndsEarly, BadLine, TooLong}
 use Rattle.cert_reader.specs.declared.fault.CertTextFault.{CertTextFault}
 use Rattle.cert_reader.specs.declared.fault.CertTextFault.TheVariants.{Text, ReadFault, NoMemory}
-use Rattle.cert_reader.specs.Reading.{Faulty, Reading, faulty, with_first, is_over, rest_fault, line_read, line_in, line_at, ending, going_on, reading_of, reading_from}
+use Rattle.cert_text.specs.Ends.{Faulty}
+use Rattle.cert_reader.specs.Reading.{Reading, faulty, with_first, is_over, rest_fault, line_read, line_in, line_at, ending, going_on, reading_of, reading_from}
 use Rattle.cert_reader.specs.declared.gather.Gathered.{Gathered}
 use Rattle.cert_reader.specs.declared.gather.Gathered.TheVariants as gathered
 use Rattle.cert_reader.specs.Bytes.{to_come}

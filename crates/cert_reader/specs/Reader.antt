@@ -9,7 +9,8 @@ use Rattle.cert_reader.specs.declared.fault.CertTextKind.{CertTextKind}
 use Rattle.cert_reader.specs.declared.fault.CertTextFault.{CertTextFault}
 use Rattle.cert_reader.specs.declared.fault.CertTextFault.TheVariants.{Text, ReadFault, NoMemory}
 use Rattle.cert_reader.specs.Bytes.{to_come}
-use Rattle.cert_reader.specs.Reading.{Faulty, Reading, whole, with_first, reading_from}
+use Rattle.cert_text.specs.Ends.{Faulty}
+use Rattle.cert_reader.specs.Reading.{Reading, whole, with_first, reading_from}
 
 -- a reader: the spot of the next line, the bytes that were taken and are still to come, and its refusal, if there was one
 pub record Reader : Type 0 where

@@ -16,6 +16,7 @@ use Rattle.cert_reader.specs.declared.spot.Spot.{Spot}
 use Rattle.cert_reader.specs.declared.fault.CertTextKind.{CertTextKind}
 use Rattle.cert_reader.specs.declared.fault.CertTextKind.TheVariants.{BadLine, BadNumber, EndsEarly, TooLong}
 use Rattle.cert_text.specs.Lines.{kind_word, kind_in, rest_of}
+use Rattle.cert_text.specs.Ends.{TextEnd, Whole, Faulty}
 
 -- the kinds of lines that may stand at the top, in a listing, between the blocks of claims, in a block's tree, and behind the last line
 abbrev pub kinds_at : Mode → List LineKind
@@ -86,15 +87,10 @@ first_spot = record { mode = Header; line = 1; place = 0 }
 abbrev pub spot_after : Spot → List ℕ → CertLine → Spot
 spot_after spot bytes line = record { mode = mode_after spot.mode line; line = spot.line + 1; place = spot.place + length bytes + 1 }
 
--- how a text ends: it is whole, or its first fault stands in the line of a number
-pub data TextEnd : Type 0 where
-  Whole : TextEnd
-  Faulty : ℕ → CertTextKind → TextEnd
-
 -- the lines before the end or the first fault
 pub record Reading : Type 0 where
   pub lines : List CertLine
-  pub ends : TextEnd
+  pub ends : TextEnd CertTextKind
 
 abbrev pub whole : Reading
 whole = record { lines = []; ends = Whole }

@@ -9,10 +9,11 @@ use Rattle.lits_core.proofs.DerivationLemmas.{is_none-None}
 use Rattle.world_model.specs.Problem.{Problem, pair_count}
 use Rattle.cert_text.specs.declared.line.CertLine.{CertLine}
 use Rattle.cert_text.specs.declared.line.CertLine.TheVariants.{Certificate, Proof, End}
+use Rattle.cert_text.specs.Logs.{with_line}
 use Rattle.cert_rules.specs.Trees.{is_branch}
 use Rattle.cert_rules.specs.Listings.{Going, after_proof, step, listing_tree, listing_next, start}
 use Rattle.cert_rules.specs.ShownNodes.{AllBranchesAlive}
-use Rattle.cert_rules.specs.Writing.{KeepsUp, ToldKeepsUp, TellsOf, told_with, IsAcceptedTo, ToldStaysUp}
+use Rattle.cert_rules.specs.Writing.{KeepsUp, ToldKeepsUp, TellsOf, IsAcceptedTo, ToldStaysUp}
 use Rattle.cert_rules.proofs.Writing.{steps_append, alive_append, line_leads, put_keeps_up_law}
 
 -- the first of the lines that wait
@@ -44,7 +45,7 @@ goes p from (Some told) waiting added one other at k valid same =
     record { lines = k.lines; begins = k.begins; keeps_up = put_keeps_up_law.goes p from k.lines waiting added one other at k.keeps_up valid same }
 
 flushed : (p : Problem) (from : List Rel) (told : Option (List CertLine)) (line : Line) (waiting : List Line) (state : State) (at : Option (List Rel)) →
-    ToldKeepsUp p from told (line ∷ waiting) state at → ToldKeepsUp p from (told_with told (Proof line)) waiting state at
+    ToldKeepsUp p from told (line ∷ waiting) state at → ToldKeepsUp p from (with_line told (Proof line)) waiting state at
 flushed p from None line waiting state at k = tt
 flushed p from (Some told) line waiting state at k = record {
   lines = k.lines ++ Proof line ∷ [];
@@ -53,7 +54,7 @@ flushed p from (Some told) line waiting state at k = record {
 }
 
 put : (p : Problem) (from : List Rel) (told : Option (List CertLine)) (state : State) (m : List Rel) (line : CertLine) →
-    ToldKeepsUp p from told [] state (Some m) → TellsOf p state m line → ToldKeepsUp p from (told_with told line) [] state (listing_next p from (is_branch line) m)
+    ToldKeepsUp p from told [] state (Some m) → TellsOf p state m line → ToldKeepsUp p from (with_line told line) [] state (listing_next p from (is_branch line) m)
 put p from None state m line k tells = tt
 put p from (Some told) state m line k tells = record {
   lines = k.lines ++ line ∷ [];
@@ -63,7 +64,7 @@ put p from (Some told) state m line k tells = record {
 }
 
 ends : (p : Problem) (from : List Rel) (told : Option (List CertLine)) (state : State) (at : Option (List Rel)) → length from ≤ pair_count p →
-    ToldKeepsUp p from told [] state at → IfSome (told_with told (End at)) (IsAcceptedTo p from at)
+    ToldKeepsUp p from told [] state at → IfSome (with_line told (End at)) (IsAcceptedTo p from at)
 ends p from None state at room k = tt
 ends p from (Some told) state at room k =
     let last = put_keeps_up_law.ends p from k.lines state at room k.keeps_up in

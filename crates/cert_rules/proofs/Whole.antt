@@ -11,7 +11,8 @@ use Rattle.cert_text.specs.declared.line.CertLine.TheVariants.{Certificate, Clai
 use Rattle.cert_rules.specs.declared.RejectKind.{RejectKind}
 use Rattle.cert_rules.specs.Listings.{Status, Going, Ended, Rejected, unless, header_fault, listing_tree, start, steps, listing_status}
 use Rattle.cert_rules.specs.ClaimLists.{Claim, ClaimStand, claims_fault, claim_start, claim_steps, claims_status}
-use Rattle.cert_rules.specs.Files.{TextEnd, Whole, Faulty, Verdict, ClaimList, Accepts, as_listing, settle, bare, answer_of}
+use Rattle.cert_text.specs.Ends.{TextEnd, Whole, Faulty}
+use Rattle.cert_rules.specs.Files.{Verdict, ClaimList, Accepts, as_listing, settle, bare, answer_of}
 use Rattle.cert_rules.specs.Laws.{AcceptedIsTheListing, AcceptedClaimsAreSo, VerdictIsSo}
 use Rattle.cert_rules.proofs.Sound.{IsSoundStatus, steps_sound}
 use Rattle.cert_rules.proofs.SoundClaims.{IsSoundEnd, claims_sound}

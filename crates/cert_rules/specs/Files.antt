@@ -4,15 +4,11 @@ use Rattle.rcc5_core.specs.declared.Rel.{Rel}
 use Rattle.world_model.specs.Problem.{Problem}
 use Rattle.cert_text.specs.declared.line.CertLine.{CertLine}
 use Rattle.cert_text.specs.declared.line.CertLine.TheVariants.{Certificate, Claims}
+use Rattle.cert_text.specs.Ends.{TextEnd, Whole, Faulty}
 use Rattle.cert_rules.specs.declared.RejectKind.{RejectKind}
 use Rattle.cert_rules.specs.declared.RejectKind.TheVariants.{WrongHeader, MissingBranch}
 use Rattle.cert_rules.specs.Listings.{Status, Going, Ended, Rejected, Listed, listing_status}
 use Rattle.cert_rules.specs.ClaimLists.{Claim, claims_status}
-
--- how the reading of a text ends: its last line was read, or a line has a fault of the text, of some kind
-pub data TextEnd (K : Type 0) : Type 0 where
-  Whole : TextEnd K
-  Faulty : ℕ → K → TextEnd K
 
 -- what an accepted certificate says: the worlds from one position on and below another, or some claims
 pub data Verdict : Type 0 where

@@ -16,7 +16,8 @@ use Rattle.cert_rules.specs.Trees.{tree_fault}
 use Rattle.cert_rules.specs.Listings.{Going, Ended, Stand, Listed, listing_tree, start, steps, listing_status}
 use Rattle.cert_rules.specs.ShownNodes.{IsPrefix}
 use Rattle.cert_rules.specs.ClaimLists.{Claim, subject_problem, claims_status}
-use Rattle.cert_rules.specs.Files.{TextEnd, Verdict, Listing, ClaimList, Accepts, answer_of}
+use Rattle.cert_text.specs.Ends.{TextEnd}
+use Rattle.cert_rules.specs.Files.{Verdict, Listing, ClaimList, Accepts, answer_of}
 
 -- the worlds of an accepted listing are exactly the possible worlds from the position of its first line on and below that of
 -- its last, ascending

@@ -12,7 +12,8 @@ use Rattle.cert_text.specs.declared.line.Subject.TheVariants.{Narrowed, Kept}
 use Rattle.cert_text.specs.declared.line.CertLine.{CertLine}
 use Rattle.cert_text.specs.declared.line.CertLine.TheVariants.{Certificate, Claims, Proof, Branch, NoPoint, NoRelation, World, Holds, Fails, End, Quit, Done}
 use Rattle.cert_rules.specs.declared.RejectKind.TheVariants.{UnknownHint, HintNotUnit, NoConflict, IdUsed, WrongHeader, NeedNotForced, LiteralNotForced, FamilyDoesNotMeet, FamilyHasOtherTable, MissingBranch, ExtraBranch, UnknownClause, PairNotEmpty, BranchTooDeep, WrongSubject}
-use Rattle.cert_rules.specs.Files.{Answer, Accepts, Rejects, HasFault, Listing, ClaimList, Whole, Faulty, answer_of}
+use Rattle.cert_text.specs.Ends.{Whole, Faulty}
+use Rattle.cert_rules.specs.Files.{Answer, Accepts, Rejects, HasFault, Listing, ClaimList, answer_of}
 
 -- the answer to lines after which the text ends
 abbrev pub answer : Problem → List CertLine → Answer ℕ

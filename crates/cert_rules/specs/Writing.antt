@@ -1,7 +1,6 @@
 -- What keeps a listing valid while it is written.
 use Rattle.std.specs.Prelude.{◌≡◌, ℕ, ◌<◌, ◌≤◌, List, [], ◌∷◌, ◌++◌, length, map, Option, Some, IfSome, MatchOption, Contains, IsTrue}
 use Rattle.std.specs.List.{list_all}
-use Rattle.std.specs.Option.{option_map}
 use Rattle.rcc5_core.specs.declared.Rel.{Rel}
 use Rattle.rcc5_core.specs.RelationSet.{is_empty_set}
 use Rattle.lits_core.specs.declared.Line.{Line}
@@ -15,6 +14,7 @@ use Rattle.cert_model.specs.Forced.{need_with, IsClosedAt}
 use Rattle.set_family.specs.Sets.{is_set_below}
 use Rattle.cert_text.specs.declared.line.CertLine.{CertLine}
 use Rattle.cert_text.specs.declared.line.CertLine.TheVariants.{Certificate, Proof, Branch, NoPoint, NoRelation, World, End}
+use Rattle.cert_text.specs.Logs.{with_line}
 use Rattle.cert_rules.specs.Trees.{names, is_branch}
 use Rattle.cert_rules.specs.Listings.{Going, Ended, Stand, steps, listing_tree, listing_next, start, listing_status}
 use Rattle.cert_rules.specs.ShownNodes.{AllBranchesAlive}
@@ -84,10 +84,6 @@ pub record PutKeepsUp : Type 0 where
       KeepsUp p from lines [] state at →
       (worlds : List (List Rel)) × (listing_status p p.switches from (lines ++ End at ∷ []) ≡ Ended (record { to = at; worlds = worlds }))
 
--- what a log tells with one more line
-abbrev pub told_with : Option (List CertLine) → CertLine → Option (List CertLine)
-told_with told line = option_map (λ lines. lines ++ line ∷ []) told
-
 -- lines that are a whole listing up to an end, and accepted
 pub record IsAcceptedTo (p : Problem) (from : List Rel) (to : Option (List Rel)) (told : List CertLine) : Type 0 where
   pub lines : List CertLine
@@ -104,9 +100,9 @@ pub record ToldStaysUp : Type 0 where
       ToldKeepsUp p from told waiting one at → IsTrue (is_valid_derivation one added) → SameState (state_after one added) other →
       ToldKeepsUp p from told (waiting ++ added) other at
   pub flushed : (p : Problem) (from : List Rel) (told : Option (List CertLine)) (line : Line) (waiting : List Line) (state : State) (at : Option (List Rel)) →
-      ToldKeepsUp p from told (line ∷ waiting) state at → ToldKeepsUp p from (told_with told (Proof line)) waiting state at
+      ToldKeepsUp p from told (line ∷ waiting) state at → ToldKeepsUp p from (with_line told (Proof line)) waiting state at
   pub put : (p : Problem) (from : List Rel) (told : Option (List CertLine)) (state : State) (m : List Rel) (line : CertLine) →
       ToldKeepsUp p from told [] state (Some m) → TellsOf p state m line →
-      ToldKeepsUp p from (told_with told line) [] state (listing_next p from (is_branch line) m)
+      ToldKeepsUp p from (with_line told line) [] state (listing_next p from (is_branch line) m)
   pub ends : (p : Problem) (from : List Rel) (told : Option (List CertLine)) (state : State) (at : Option (List Rel)) → length from ≤ pair_count p →
-      ToldKeepsUp p from told [] state at → IfSome (told_with told (End at)) (IsAcceptedTo p from at)
+      ToldKeepsUp p from told [] state at → IfSome (with_line told (End at)) (IsAcceptedTo p from at)

@@ -37,3 +37,8 @@ two_put word front back old first mid new is_first is_mid is_new =
     ∙ append_assoc old word (parted 32 front ++ parted 32 back)
     ∙ ap (λ t. old ++ (word ++ t)) (sym (parted-append 32 front back))
     ∙ ap (λ t. old ++ t) (sym (joined-parted 32 word (front ++ back)))
+
+-- what is so anyhow
+pub always : {V E P : Type 0} (r : Result V E) → P → OnOk r P
+always (Ok v) p = p
+always (Err e) p = tt

@@ -66,7 +66,8 @@ impl CertLine {
     }
 }
 
-fn copy_proof(alloc: Global, line: &Line) -> Result<Line, AllocError>
+/// A second line of the derivation with the same words.
+pub fn copy_proof(alloc: Global, line: &Line) -> Result<Line, AllocError>
     ensures { IfOk result (λ copy. copy ≡ line.now) }
 {
     match line {

@@ -3,7 +3,7 @@
 ghost use Rattle.std.specs.Prelude.{◌≡◌, ◌≤◌, ℕ, Bool, true, None, OnOk, OnErr};
 ghost use Rattle.outer_store.specs.Faults.{Rose, IfFailed};
 ghost use Rattle.cert_text.specs.Lines.{IdsFromOne};
-ghost use Rattle.cert_text.specs.Logs.{Told, with_line};
+ghost use Rattle.cert_text.specs.Logs.{Told, IsToldWith};
 
 use crate::line::CertLine;
 use outer_store::StoreFault;
@@ -19,14 +19,18 @@ pub trait TreeLog {
     /// How often a line was refused by a fault.
     ghost faults: { Self → ℕ };
 
+    /// The second may have come from the first by calls.
+    ghost steady: { Self → Self → Type 0 };
+
     /// Puts a line at the end. After a refusal the log tells nothing.
     fn put_line(&mut self, line: &CertLine) -> Result<(), StoreFault>
         requires { IdsFromOne line.now }
-        ensures ok { OnOk result (lines self.new ≡ with_line (lines self.old) line.now) }
+        ensures ok { OnOk result (IsToldWith (lines self.old) line.now (lines self.new)) }
         ensures err { OnErr result (lines self.new ≡ None) }
         ensures kept { drops self.new ≡ drops self.old }
         ensures cause { IfFailed result (Rose (faults self.old) (faults self.new)) (faults self.new ≡ faults self.old) }
-        ensures later { faults self.old ≤ faults self.new };
+        ensures later { faults self.old ≤ faults self.new }
+        ensures steady { steady self.old self.new };
 
     /// Whether the log drops what it is given, so that nobody will read it.
     fn is_dropping(&self) -> bool
@@ -34,6 +38,10 @@ pub trait TreeLog {
 
     /// A log that drops what it is given tells no lines.
     ghost tells_none: { (log : Self) → drops log ≡ true → lines log ≡ None };
+
+    ghost steady_stays: { (log : Self) → steady log log };
+
+    ghost steady_joins: { (a : Self) (b : Self) (c : Self) → steady a b → steady b c → steady a c };
 }
 
 /// The log that drops everything. It takes no memory.
@@ -47,13 +55,15 @@ impl NoLog {
 }
 
 impl TreeLog for NoLog {
-    ghost use Rattle.std.specs.Prelude.{true, None, refl};
+    ghost use Rattle.std.specs.Prelude.{true, None, refl, ⊤};
 
     ghost drops = { λ _. true };
 
     ghost lines = { λ _. None };
 
     ghost faults = { λ _. 0 };
+
+    ghost steady = { λ _ _. ⊤ };
 
     fn put_line(&mut self, _line: &CertLine) -> Result<(), StoreFault> {
         Ok(())
@@ -64,4 +74,8 @@ impl TreeLog for NoLog {
     }
 
     ghost tells_none = { λ _ _. refl };
+
+    ghost steady_stays = { λ _. tt };
+
+    ghost steady_joins = { λ _ _ _ _ _. tt };
 }

@@ -55,13 +55,15 @@ impl MemoryLog {
 }
 
 impl TreeLog for MemoryLog {
-    ghost use Rattle.std.specs.Prelude.{false};
+    ghost use Rattle.std.specs.Prelude.{false, ⊤};
 
     ghost drops = { λ _. false };
 
     ghost lines = { λ log. log };
 
     ghost faults = { λ _. 0 };
+
+    ghost steady = { λ _ _. ⊤ };
 
     fn put_line(&mut self, line: &CertLine) -> Result<(), StoreFault> {
         let added = self.add(line);
@@ -77,4 +79,8 @@ impl TreeLog for MemoryLog {
     }
 
     ghost tells_none = { λ log e. absurd (cc) };
+
+    ghost steady_stays = { λ _. tt };
+
+    ghost steady_joins = { λ _ _ _ _ _. tt };
 }

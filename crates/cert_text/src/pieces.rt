@@ -1,10 +1,10 @@
 //! The words of a line, put at the end of a text with a space before each.
 
-ghost use Rattle.std.specs.Prelude.{◌≡◌, ◌++◌, ◌∷◌, [], map, decimal, OnOk};
+ghost use Rattle.std.specs.Prelude.{◌≡◌, ◌++◌, ◌∷◌, [], ◌<◌, ◌^◌, map, decimal, OnOk, All};
 ghost use Rattle.proof_text.specs.Words.{parted};
 ghost use Rattle.rcc5_core.specs.Relation.{letter_of};
 ghost use Rattle.cert_text.specs.declared.line.Subject.TheVariants.{Narrowed, Kept};
-ghost use Rattle.cert_text.specs.Lines.{switch_word, last_word, position_word, bit_byte, spelled, elements_word, family_words, subject_words, version_words, node_words};
+ghost use Rattle.cert_text.specs.Lines.{switch_word, last_word, position_word, bit_byte, spelled, elements_word, family_words, subject_words, version_words, node_words, IsSmallFamily, IsSmallSubject};
 
 use crate::line::{Flags, RawFamily, Subject};
 use proof_text::print_number;
@@ -48,7 +48,8 @@ fn put_letters(out: &mut Vec<u8>, rels: &[Rel]) -> Result<(), AllocError>
     Ok(())
 }
 
-pub(crate) fn put_position(out: &mut Vec<u8>, position: &Position) -> Result<(), AllocError>
+/// Puts a blank and a position's word.
+pub fn put_position(out: &mut Vec<u8>, position: &Position) -> Result<(), AllocError>
     ensures { OnOk result (out.new.items ≡ out.old.items ++ 32 ∷ position_word position.now) }
 {
     if position.is_empty() {
@@ -85,7 +86,8 @@ fn put_further(out: &mut Vec<u8>, numbers: &[u32]) -> Result<(), AllocError>
 }
 
 fn put_set(out: &mut Vec<u8>, set: &[u32]) -> Result<(), AllocError>
-    ensures { OnOk result (out.new.items ≡ out.old.items ++ 32 ∷ elements_word set.now) }
+    ensures text { OnOk result (out.new.items ≡ out.old.items ++ 32 ∷ elements_word set.now) }
+    ensures small { All (λ x. x < 2 ^ 32) set.now }
 {
     let [first, others @ ..] = set else {
         return out.extend_from_slice(b" -");
@@ -95,7 +97,8 @@ fn put_set(out: &mut Vec<u8>, set: &[u32]) -> Result<(), AllocError>
 }
 
 fn put_sets(out: &mut Vec<u8>, sets: &[Vec<u32>]) -> Result<(), AllocError>
-    ensures { OnOk result (out.new.items ≡ out.old.items ++ parted 32 (map elements_word (map (λ v. v.items) sets.now))) }
+    ensures text { OnOk result (out.new.items ≡ out.old.items ++ parted 32 (map elements_word (map (λ v. v.items) sets.now))) }
+    ensures small { OnOk result (All (λ set. All (λ x. x < 2 ^ 32) set.items) sets.now) }
 {
     for set in sets {
         put_set(out, set)?;
@@ -104,7 +107,8 @@ fn put_sets(out: &mut Vec<u8>, sets: &[Vec<u32>]) -> Result<(), AllocError>
 }
 
 pub(crate) fn put_family(out: &mut Vec<u8>, family: &RawFamily) -> Result<(), AllocError>
-    ensures { OnOk result (out.new.items ≡ out.old.items ++ parted 32 (family_words family.now)) }
+    ensures text { OnOk result (out.new.items ≡ out.old.items ++ parted 32 (family_words family.now)) }
+    ensures small { OnOk result (IsSmallFamily family.now) }
 {
     put_number(out, u64::from(family.universe()))?;
     put_sets(out, family.lists())
@@ -146,8 +150,10 @@ fn put_kept(out: &mut Vec<u8>, flags: &Flags) -> Result<(), AllocError>
     put_bits(out, flags.list())
 }
 
-pub(crate) fn put_subject(out: &mut Vec<u8>, subject: &Subject) -> Result<(), AllocError>
-    ensures { OnOk result (out.new.items ≡ out.old.items ++ parted 32 (subject_words subject.now)) }
+/// Puts the words of a subject, each behind a blank.
+pub fn put_subject(out: &mut Vec<u8>, subject: &Subject) -> Result<(), AllocError>
+    ensures text { OnOk result (out.new.items ≡ out.old.items ++ parted 32 (subject_words subject.now)) }
+    ensures small { IsSmallSubject subject.now }
 {
     match subject {
         Subject::Narrowed { pair, rel } => put_narrowed(out, *pair, *rel),

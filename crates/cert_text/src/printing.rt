@@ -2,7 +2,7 @@
 
 ghost use Rattle.std.specs.Prelude.{◌≡◌, ◌++◌, ◌∷◌, [], IfOk, OnOk};
 ghost use Rattle.lits_core.specs.Derivation.{FromOne};
-ghost use Rattle.cert_text.specs.Lines.{cert_text, IdsFromOne};
+ghost use Rattle.cert_text.specs.Lines.{cert_text, IdsFromOne, IsCertLine};
 ghost use Rattle.cert_text.specs.declared.line.CertLine.TheVariants.{Certificate, Claims, Proof, Branch, NoPoint, NoRelation, World, Holds, Fails, End};
 
 use crate::line::{CertLine, RawFamily, Subject};
@@ -19,15 +19,26 @@ pub fn print_cert(alloc: Global, line: &CertLine) -> Result<Vec<u8>, AllocError>
     ensures { IfOk result (λ text. text.items ≡ cert_text line.now ++ 10 ∷ []) }
 {
     let mut out = Vec::new(alloc);
-    put_text(alloc, &mut out, line)?;
-    out.push(b'\n')?;
+    put_whole(alloc, &mut out, line)?;
     Ok(out)
+}
+
+/// Puts a line's text at the end, with the LF that ends it.
+pub(crate) fn put_whole(alloc: Global, out: &mut Vec<u8>, line: &CertLine) -> Result<(), AllocError>
+    requires { IdsFromOne line.now }
+    ensures text { OnOk result (out.new.items ≡ out.old.items ++ (cert_text line.now ++ 10 ∷ [])) }
+    ensures small { OnOk result (IsCertLine line.now) }
+{
+    put_text(alloc, out, line)?;
+    out.push(b'\n')?;
+    Ok(())
 }
 
 /// Puts a line's text at the end.
 fn put_text(alloc: Global, out: &mut Vec<u8>, line: &CertLine) -> Result<(), AllocError>
     requires { IdsFromOne line.now }
-    ensures { OnOk result (out.new.items ≡ out.old.items ++ cert_text line.now) }
+    ensures text { OnOk result (out.new.items ≡ out.old.items ++ cert_text line.now) }
+    ensures small { OnOk result (IsCertLine line.now) }
 {
     match line {
         CertLine::Certificate { switches, from } => put_certificate(out, *switches, from),
@@ -71,7 +82,8 @@ fn put_claims(out: &mut Vec<u8>, switches: Switches) -> Result<(), AllocError>
 
 fn put_proof(alloc: Global, out: &mut Vec<u8>, line: &Line) -> Result<(), AllocError>
     requires { FromOne line.now }
-    ensures { OnOk result (out.new.items ≡ out.old.items ++ cert_text (Proof line.now)) }
+    ensures text { OnOk result (out.new.items ≡ out.old.items ++ cert_text (Proof line.now)) }
+    ensures small { OnOk result (IsCertLine (Proof line.now)) }
 {
     let text = print_line(alloc, line)?;
     out.extend_from_slice(&text)
@@ -111,7 +123,8 @@ fn put_world(
     node: (u32, Option<Rel>),
     family: &RawFamily,
 ) -> Result<(), AllocError>
-    ensures { OnOk result (out.new.items ≡ out.old.items ++ cert_text (World node.0 node.1 family.now)) }
+    ensures text { OnOk result (out.new.items ≡ out.old.items ++ cert_text (World node.0 node.1 family.now)) }
+    ensures small { OnOk result (IsCertLine (World node.0 node.1 family.now)) }
 {
     out.push(b'w')?;
     put_node(out, node)?;
@@ -119,7 +132,8 @@ fn put_world(
 }
 
 fn put_holds(out: &mut Vec<u8>, subject: &Subject, family: &RawFamily) -> Result<(), AllocError>
-    ensures { OnOk result (out.new.items ≡ out.old.items ++ cert_text (Holds subject.now family.now)) }
+    ensures text { OnOk result (out.new.items ≡ out.old.items ++ cert_text (Holds subject.now family.now)) }
+    ensures small { OnOk result (IsCertLine (Holds subject.now family.now)) }
 {
     out.extend_from_slice(b"some")?;
     put_subject(out, subject)?;
@@ -127,7 +141,8 @@ fn put_holds(out: &mut Vec<u8>, subject: &Subject, family: &RawFamily) -> Result
 }
 
 fn put_fails(out: &mut Vec<u8>, subject: &Subject) -> Result<(), AllocError>
-    ensures { OnOk result (out.new.items ≡ out.old.items ++ cert_text (Fails subject.now)) }
+    ensures text { OnOk result (out.new.items ≡ out.old.items ++ cert_text (Fails subject.now)) }
+    ensures small { OnOk result (IsCertLine (Fails subject.now)) }
 {
     out.extend_from_slice(b"none")?;
     put_subject(out, subject)

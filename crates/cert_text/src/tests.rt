@@ -1,4 +1,5 @@
 use super::*;
+use outer_store::{MemoryStore, StoreFault};
 use proof_text::LineTextFault;
 use std::test::*;
 
@@ -109,5 +110,27 @@ fn a_log_keeps_its_lines(rt: HostRuntime) -> Result<(), Fail> {
     })?;
     assert!(rt; matches!(log.lines(), [CertLine::Quit, CertLine::Branch { .. }]));
     assert!(rt; !log.is_dropping());
+    Ok(())
+}
+
+#[test]
+fn a_log_over_a_store_adds_texts(rt: HostRuntime) -> Result<(), Fail> {
+    let alloc = rt.alloc();
+    let failing = vec![in alloc; 3]?;
+    let mut store = MemoryStore::new(alloc, failing);
+    let mut log = StoreLog::new(alloc, &mut store, "log");
+    let end = CertLine::End(None);
+    assert!(rt;
+        log.put_line(&CertLine::Branch {
+            depth: 0,
+            last: None
+        })
+        .is_ok()
+    );
+    assert!(rt; log.put_line(&end).is_ok());
+    assert!(rt; log.put_line(&end) == Err(StoreFault::Failed));
+    assert!(rt; log.put_line(&CertLine::Quit).is_ok());
+    assert!(rt; !log.is_dropping());
+    assert!(rt; store.bytes("log") == Some(b"b 0 .\nend -\nquit\n".as_slice()));
     Ok(())
 }

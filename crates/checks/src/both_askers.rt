@@ -6,13 +6,13 @@ ghost use Rattle.world_model.specs.Alive.{problem_at, IsAlive};
 ghost use Rattle.constraint_set.specs.Shape.{SameShape, shape_of};
 
 use crate::nodes::{go_in, go_on};
-use crate::problems::{
-    ALL, EMPTY, LOOSE_BLOCK, NO_SUM, ONE_SUM, PARTS_EQUAL, SHARED, THREE_CHILDREN,
-    THREE_TAXONOMIES, TORN, TWO_EQUAL, TWO_PARTINGS, UNCOVERED, problem_of,
-};
 use constraint_set::Problem;
 use point_query::{Alive, Asker, PlainAsker, Probe};
 use rcc5_core::{Position, Rel, RelSet};
+use sample_problems::{
+    ALL, EMPTY, LOOSE_BLOCK, NO_SUM, ONE_SUM, PARTS_EQUAL, SHARED, THREE_CHILDREN,
+    THREE_TAXONOMIES, TORN, TWO_EQUAL, TWO_PARTINGS, UNCOVERED, problem_of,
+};
 use std::alloc::{AllocError, Global};
 use std::test::Fail;
 use world_model::Switches;

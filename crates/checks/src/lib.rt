@@ -1,21 +1,15 @@
-//! Tests that set crates beside each other which know nothing of one another, over problems as texts.
+//! Tests that set searches, tables and askers beside the plain program, over problems as texts.
 #![tactic(auto)]
 
 #[cfg(test)]
 mod both_askers;
 #[cfg(test)]
-mod budgets;
-#[cfg(test)]
-mod forgetting;
-#[cfg(test)]
 mod nodes;
 #[cfg(test)]
 mod plain;
 #[cfg(test)]
-mod problems;
+mod points;
 #[cfg(test)]
 mod searches;
-#[cfg(test)]
-mod solver_and_book;
 #[cfg(test)]
 mod tables;

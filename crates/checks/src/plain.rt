@@ -1,8 +1,8 @@
 //! The plain program: its worlds, nodes and cuts are those of examples that were worked by hand.
 
-use crate::problems::{ALL, ONE_SUM, TWO_ALONE, TWO_PARTINGS, letters_of, position_of, problem_of};
 use plain_walk::{cut_after, is_alive, nodes_between, worlds_between};
 use rcc5_core::{Position, Rel, RelSet};
+use sample_problems::{ALL, ONE_SUM, TWO_ALONE, TWO_PARTINGS, letters_of, position_of, problem_of};
 use std::alloc::{AllocError, Global};
 use std::test::Fail;
 

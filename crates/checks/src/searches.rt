@@ -7,16 +7,16 @@ ghost use Rattle.std.specs.Prelude.{◌≡◌, ◌≤◌, length, IfOk, IfSome};
 ghost use Rattle.world_model.specs.Problem.{pair_count};
 ghost use Rattle.constraint_set.specs.Shape.{shape_of};
 
-use crate::problems::{
-    ALL, EMPTY, LOOSE_BLOCK, NO_SUM, ONE_CHILD, ONE_SUM, PARTS_EQUAL, SHARED, THREE_CHILDREN,
-    THREE_TAXONOMIES, TWO_ALONE, TWO_EQUAL, TWO_PARTINGS, UNCOVERED, position_of, problem_of,
-    push_position,
-};
 use cert_text::NoLog;
 use constraint_set::Problem;
 use plain_walk::{nodes_between, worlds_between};
 use point_query::Asker;
 use rcc5_core::Position;
+use sample_problems::{
+    ALL, EMPTY, LOOSE_BLOCK, NO_SUM, ONE_CHILD, ONE_SUM, PARTS_EQUAL, SHARED, THREE_CHILDREN,
+    THREE_TAXONOMIES, TWO_ALONE, TWO_EQUAL, TWO_PARTINGS, UNCOVERED, position_of, problem_of,
+    push_position,
+};
 use std::alloc::{AllocError, Global};
 use std::cmp::Ordering;
 use std::process::Abort;
@@ -68,7 +68,7 @@ fn tell_step(
             text.push_str("end -")?;
             Ok(Came::Ended)
         }
-        Err(StepFault::NoMemory) => Err(AllocError),
+        Err(StepFault::NoMemory | StepFault::LogFailed) => Err(AllocError),
     }
 }
 

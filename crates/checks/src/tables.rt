@@ -2,12 +2,12 @@
 ghost use Rattle.std.specs.Prelude.{◌≤◌, length};
 ghost use Rattle.world_model.specs.Problem.{pair_count};
 
-use crate::problems::{
-    ALL, ONE_CHILD, ONE_SUM, TWO_ALONE, TWO_PARTINGS, UNCOVERED, position_of, problem_of,
-};
 use constraint_set::Problem;
 use plain_walk::worlds_between;
 use rcc5_core::Position;
+use sample_problems::{
+    ALL, ONE_CHILD, ONE_SUM, TWO_ALONE, TWO_PARTINGS, UNCOVERED, position_of, problem_of,
+};
 use std::alloc::{AllocError, Global};
 use std::test::Fail;
 use table_walk::Tables;

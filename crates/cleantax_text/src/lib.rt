@@ -111,6 +111,3 @@ pub fn read_problem(alloc: Global, bytes: &[u8], switches: Switches) -> Result<P
 pub fn printing_reads_back()
     ensures { PrintingReadsBack }
 {}
-
-#[cfg(test)]
-mod tests;

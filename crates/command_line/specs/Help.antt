@@ -5,7 +5,7 @@ use Rattle.command_line.specs.declared.Key.{Key}
 use Rattle.command_line.specs.declared.KeyKind.{KeyKind}
 use Rattle.command_line.specs.declared.KeyKind.TheVariants.{FileName, OnOff, Limit}
 use Rattle.command_line.specs.declared.Request.{Request}
-use Rattle.command_line.specs.declared.Request.TheVariants.{Align}
+use Rattle.command_line.specs.declared.Request.TheVariants.{Align, Check}
 use Rattle.command_line.specs.Words.{Row, row_of, all_commands, key_name, kind_of}
 
 -- how a value is shown
@@ -39,6 +39,7 @@ usage_help = codes "the words are a command and its keys; keys in brackets may b
 -- the file that a request reads its problem from
 abbrev pub input_of : Request → List ℕ
 input_of (Align input switches nodes worlds token resume) = input
+input_of (Check input cert switches) = input
 
 -- the line within a file; nothing, where the file as a whole is meant
 abbrev pub line_form : ℕ → List ℕ

@@ -4,7 +4,7 @@ use Rattle.std.specs.List.{list_any, before_first, after_first}
 use Rattle.proof_text.specs.Numbers.{number_in}
 use Rattle.world_model.specs.declared.Switches.{Switches}
 use Rattle.command_line.specs.declared.Key.{Key}
-use Rattle.command_line.specs.declared.Key.TheVariants.{In, Nonempty, Sibling, Coverage, Nodes, Worlds, Token, Resume}
+use Rattle.command_line.specs.declared.Key.TheVariants.{In, Cert, Nonempty, Sibling, Coverage, Nodes, Worlds, Token, Resume}
 use Rattle.command_line.specs.declared.KeyKind.{KeyKind}
 use Rattle.command_line.specs.declared.KeyKind.TheVariants.{FileName, OnOff, Limit}
 use Rattle.command_line.specs.declared.Command.{Command}
@@ -13,13 +13,14 @@ use Rattle.command_line.specs.declared.Operand.{Operand}
 use Rattle.command_line.specs.declared.UsageKind.{UsageKind}
 use Rattle.command_line.specs.declared.UsageKind.TheVariants.{NoCommand, UnknownCommand, NotOperand, UnknownKey, KeyTwice, BadSwitch, BadNumber, ZeroBudget, EmptyName, MissingKey, BudgetWithoutToken, SameName}
 use Rattle.command_line.specs.declared.Request.{Request}
-use Rattle.command_line.specs.declared.Request.TheVariants.{Align}
+use Rattle.command_line.specs.declared.Request.TheVariants.{Align, Check}
 use Rattle.command_line.specs.declared.WordsFault.{WordsFault}
 use Rattle.command_line.specs.declared.WordsFault.TheVariants.{Usage, NoMemory}
 
 -- how a key is written
 abbrev pub key_name : Key → List ℕ
 key_name In = codes "in"
+key_name Cert = codes "cert"
 key_name Nonempty = codes "nonempty"
 key_name Sibling = codes "sibling"
 key_name Coverage = codes "coverage"
@@ -31,6 +32,7 @@ key_name Resume = codes "resume"
 -- what a key's value is
 abbrev pub kind_of : Key → KeyKind
 kind_of In = FileName
+kind_of Cert = FileName
 kind_of Nonempty = OnOff
 kind_of Sibling = OnOff
 kind_of Coverage = OnOff
@@ -56,10 +58,15 @@ row_of command.Align = record {
   required = In ∷ [];
   optional = Nonempty ∷ Sibling ∷ Coverage ∷ Nodes ∷ Worlds ∷ Token ∷ Resume ∷ [];
 }
+row_of command.Check = record {
+  name = codes "check";
+  required = In ∷ Cert ∷ [];
+  optional = Nonempty ∷ Sibling ∷ Coverage ∷ [];
+}
 
 -- the commands, in the order of the table
 abbrev pub all_commands : List Command
-all_commands = command.Align ∷ []
+all_commands = command.Align ∷ command.Check ∷ []
 
 -- the command with this name
 abbrev pub command_named : List ℕ → Option Command
@@ -172,17 +179,23 @@ is_same_value None other = false
 is_same_value (Some value) None = false
 is_same_value (Some value) (Some other) = bytes_eq value other
 
+-- whether two keys are given and have one value
+abbrev pub share_value : List Operand → Key → Key → Bool
+share_value operands key other = is_same_value (value_of operands key) (value_of operands other)
+
 -- whether two of the file names are one
 abbrev pub has_same_name : List Operand → Bool
 has_same_name operands =
-    is_same_value (value_of operands In) (value_of operands Token) || is_same_value (value_of operands In) (value_of operands Resume) ||
-    is_same_value (value_of operands Token) (value_of operands Resume)
+    share_value operands In Cert || share_value operands In Token || share_value operands In Resume ||
+    share_value operands Cert Token || share_value operands Cert Resume || share_value operands Token Resume
 
 -- the request of a command, whose required keys are given
 abbrev pub request_for : Command → List Operand → Request
 request_for command.Align operands =
     Align (unwrap_or (value_of operands In) []) (switches_of operands) (limit_of operands Nodes) (limit_of operands Worlds)
     (value_of operands Token) (value_of operands Resume)
+request_for command.Check operands =
+    Check (unwrap_or (value_of operands In) []) (unwrap_or (value_of operands Cert) []) (switches_of operands)
 
 -- what words ask for, or their first fault
 abbrev pub request_of : List (List ℕ) → Result Request UsageKind

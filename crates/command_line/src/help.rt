@@ -25,6 +25,7 @@ impl Request {
     {
         match self {
             Request::Align { input, .. } => input.text(),
+            Request::Check { input, .. } => input.text(),
         }
     }
 }

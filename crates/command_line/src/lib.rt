@@ -55,6 +55,12 @@ pub enum Request {
         token: Option<Word>,
         resume: Option<Word>,
     },
+    /// Check a certificate of the problem in a file.
+    Check {
+        input: Word,
+        cert: Word,
+        switches: Switches,
+    },
 }
 
 /// What is wrong with the words.
@@ -137,6 +143,7 @@ impl<T: Drop> From<AllocFailed<T>> for WordsFault {
 #[derive(Clone, Copy, Debug, PartialEq, Eq)]
 pub enum Command {
     Align,
+    Check,
 }
 
 /// What a key's value is.
@@ -152,6 +159,7 @@ pub enum KeyKind {
 #[derive(Clone, Copy, Debug, PartialEq, Eq)]
 pub enum Key {
     In,
+    Cert,
     Nonempty,
     Sibling,
     Coverage,

@@ -33,6 +33,10 @@ fn the_first_usage_fault_is_answered(rt: HostRuntime) -> Result<(), Fail> {
         ("align in=f f", UsageKind::NotOperand),
         ("align in=f =x", UsageKind::UnknownKey),
         ("align in=f cert=f", UsageKind::UnknownKey),
+        ("check in=f", UsageKind::MissingKey),
+        ("check in=f cert=f", UsageKind::SameName),
+        ("check in=f cert=c nodes=1", UsageKind::UnknownKey),
+        ("check cert= in=f", UsageKind::EmptyName),
         ("align nodes=3", UsageKind::MissingKey),
         ("align in=f nodes=+3", UsageKind::BadNumber),
         ("align in=f worlds=03 token=t", UsageKind::BadNumber),
@@ -86,7 +90,10 @@ fn a_request_has_what_the_words_give(rt: HostRuntime) -> Result<(), Fail> {
         worlds,
         token,
         resume,
-    } = read_words(rt.alloc(), &words)?;
+    } = read_words(rt.alloc(), &words)?
+    else {
+        panic!(rt; "another request");
+    };
     assert_eq!(rt; input.text(), "a=b");
     let wanted = Switches {
         nonempty: true,

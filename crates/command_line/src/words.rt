@@ -2,14 +2,14 @@
 ghost use Rattle.std.specs.Prelude.{◌≡◌, ◌<◌, not, length, [], Ok, Err, IfOk, IfSome, IfNone, map, find, bytes_eq, string_bytes, unwrap_or};
 ghost use Rattle.std.specs.List.{list_any};
 ghost use Rattle.std.specs.Option.{option_copied};
-ghost use Rattle.command_line.specs.Words.{row_of, all_commands, key_name, kind_of, same_key, command_named, is_equals, cut_word, key_among, key_in, is_switch, number_of, limit_fault, limit_of, lacks_token, is_same_value, has_same_name, value_fault, is_given, operand_of, operands_of, value_of, is_on, switches_of, is_lacking, request_for, request_of, IfUsage};
+ghost use Rattle.command_line.specs.Words.{row_of, all_commands, key_name, kind_of, same_key, command_named, is_equals, cut_word, key_among, key_in, is_switch, number_of, limit_fault, limit_of, lacks_token, share_value, has_same_name, value_fault, is_given, operand_of, operands_of, value_of, is_on, switches_of, is_lacking, request_for, request_of, IfUsage};
 
 use crate::{Command, Key, KeyKind, Operand, Request, UsageKind, Word, WordsFault};
 use proof_text::read_number;
 use std::alloc::{AllocError, Global};
 use world_model::Switches;
 
-static COMMANDS: [Command; 1] = [Command::Align];
+static COMMANDS: [Command; 2] = [Command::Align, Command::Check];
 
 static ALIGN_REQUIRED: [Key; 1] = [Key::In];
 
@@ -22,6 +22,10 @@ static ALIGN_OPTIONAL: [Key; 7] = [
     Key::Token,
     Key::Resume,
 ];
+
+static CHECK_REQUIRED: [Key; 2] = [Key::In, Key::Cert];
+
+static CHECK_OPTIONAL: [Key; 3] = [Key::Nonempty, Key::Sibling, Key::Coverage];
 
 impl Command {
     /// All of them, in the order of the table.
@@ -37,6 +41,7 @@ impl Command {
     {
         match self {
             Command::Align => "align",
+            Command::Check => "check",
         }
     }
 
@@ -46,6 +51,7 @@ impl Command {
     {
         match self {
             Command::Align => &ALIGN_REQUIRED,
+            Command::Check => &CHECK_REQUIRED,
         }
     }
 
@@ -55,6 +61,7 @@ impl Command {
     {
         match self {
             Command::Align => &ALIGN_OPTIONAL,
+            Command::Check => &CHECK_OPTIONAL,
         }
     }
 
@@ -94,6 +101,7 @@ impl Key {
     {
         match self {
             Key::In => "in",
+            Key::Cert => "cert",
             Key::Nonempty => "nonempty",
             Key::Sibling => "sibling",
             Key::Coverage => "coverage",
@@ -109,7 +117,7 @@ impl Key {
         ensures { result ≡ kind_of self }
     {
         match self {
-            Key::In | Key::Token | Key::Resume => KeyKind::FileName,
+            Key::In | Key::Cert | Key::Token | Key::Resume => KeyKind::FileName,
             Key::Nonempty | Key::Sibling | Key::Coverage => KeyKind::OnOff,
             Key::Nodes | Key::Worlds => KeyKind::Limit,
         }
@@ -224,8 +232,8 @@ fn lacks_token(operands: &[Operand]) -> bool
 }
 
 // Whether two keys are given and have one value.
-fn is_same_value(operands: &[Operand], key: Key, other: Key) -> bool
-    ensures { result ≡ is_same_value (value_of operands.now key) (value_of operands.now other) }
+fn share_value(operands: &[Operand], key: Key, other: Key) -> bool
+    ensures { result ≡ share_value operands.now key other }
 {
     match (value_of(operands, key), value_of(operands, other)) {
         (Some(value), Some(other)) => value == other,
@@ -237,9 +245,12 @@ fn is_same_value(operands: &[Operand], key: Key, other: Key) -> bool
 fn has_same_name(operands: &[Operand]) -> bool
     ensures { result ≡ has_same_name operands.now }
 {
-    is_same_value(operands, Key::In, Key::Token)
-        || is_same_value(operands, Key::In, Key::Resume)
-        || is_same_value(operands, Key::Token, Key::Resume)
+    share_value(operands, Key::In, Key::Cert)
+        || share_value(operands, Key::In, Key::Token)
+        || share_value(operands, Key::In, Key::Resume)
+        || share_value(operands, Key::Cert, Key::Token)
+        || share_value(operands, Key::Cert, Key::Resume)
+        || share_value(operands, Key::Token, Key::Resume)
 }
 
 // A further word after the operands before it.
@@ -289,6 +300,24 @@ fn read_operands(
     Ok(operands)
 }
 
+// The value of a key that has to be given.
+fn required_name(alloc: Global, operands: &[Operand], key: Key) -> Result<Word, AllocError>
+    ensures { IfOk result (λ name. name ≡ unwrap_or (value_of operands.now key) []) }
+{
+    let name = value_of(operands, key).unwrap_or("");
+    Ok(Word::new(String::from_str(alloc, name)?))
+}
+
+fn switches_of(operands: &[Operand]) -> Switches
+    ensures { result ≡ switches_of operands.now }
+{
+    Switches {
+        nonempty: is_on(operands, Key::Nonempty),
+        sibling: is_on(operands, Key::Sibling),
+        coverage: is_on(operands, Key::Coverage),
+    }
+}
+
 fn make_request(
     alloc: Global,
     command: Command,
@@ -297,23 +326,19 @@ fn make_request(
     ensures { IfOk result (λ request. request ≡ request_for command operands.now) }
 {
     match command {
-        Command::Align => {
-            let name = value_of(operands, Key::In).unwrap_or("");
-            let input = Word::new(String::from_str(alloc, name)?);
-            let switches = Switches {
-                nonempty: is_on(operands, Key::Nonempty),
-                sibling: is_on(operands, Key::Sibling),
-                coverage: is_on(operands, Key::Coverage),
-            };
-            Ok(Request::Align {
-                input,
-                switches,
-                nodes: limit_of(operands, Key::Nodes),
-                worlds: limit_of(operands, Key::Worlds),
-                token: name_of(alloc, operands, Key::Token)?,
-                resume: name_of(alloc, operands, Key::Resume)?,
-            })
-        }
+        Command::Align => Ok(Request::Align {
+            input: required_name(alloc, operands, Key::In)?,
+            switches: switches_of(operands),
+            nodes: limit_of(operands, Key::Nodes),
+            worlds: limit_of(operands, Key::Worlds),
+            token: name_of(alloc, operands, Key::Token)?,
+            resume: name_of(alloc, operands, Key::Resume)?,
+        }),
+        Command::Check => Ok(Request::Check {
+            input: required_name(alloc, operands, Key::In)?,
+            cert: required_name(alloc, operands, Key::Cert)?,
+            switches: switches_of(operands),
+        }),
     }
 }
 

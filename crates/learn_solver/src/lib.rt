@@ -12,6 +12,3 @@ mod solver;
 mod tidying;
 
 pub use solver::{Answer, Solver};
-
-#[cfg(test)]
-mod tests;

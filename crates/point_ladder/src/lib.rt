@@ -9,6 +9,3 @@ mod start;
 mod stretches;
 
 pub use ladder::Ladder;
-
-#[cfg(test)]
-mod tests;

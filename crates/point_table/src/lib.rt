@@ -9,6 +9,3 @@ mod table;
 
 pub use points::allowed_sets;
 pub use table::{PointTable, all_points, rows_of};
-
-#[cfg(test)]
-mod tests;

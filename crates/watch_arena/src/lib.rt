@@ -12,6 +12,3 @@ mod trail;
 
 pub use places::Place;
 pub use trail::Trail;
-
-#[cfg(test)]
-mod tests;

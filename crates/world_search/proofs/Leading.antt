@@ -13,7 +13,7 @@ use Rattle.world_model.proofs.OrderPositions.{below_apart, below_itself, below_l
 use Rattle.world_search.specs.declared.walk.Stage.{Stage}
 use Rattle.world_search.specs.declared.walk.Stage.TheVariants.{Start, Standing, Past}
 use Rattle.world_search.specs.declared.walk.Walk.{Walk}
-use Rattle.world_search.specs.Walking.{IsBehind, waiting, LeadsBy, IsOnWay, IsFrom, IsAfter}
+use Rattle.world_search.specs.Walking.{IsBehind, waiting, place, LeadsBy, IsOnWay, IsFrom, IsAfter}
 use Rattle.world_search.proofs.Places.{Upward, within, behind, upward, below_both, not_below_behind}
 use Rattle.world_search.proofs.Relations.{same_rank, next_is_in, next_is_least, none_is_next}
 use Rattle.world_search.proofs.LeastNodes.{IsChild, child_within, child_is_node, below_child, first_child, least_after_alive, after_is_behind}
@@ -150,20 +150,39 @@ rest_begins from c rest r begins at =
     by [] (q ∷ qs) e = let same : q ≡ r = cc in (qs, λ i. same i ∷ qs)
     by (x ∷ c) rest e = by c rest e
 
+-- a walk with no relation that waits stands at its path
+pub place_settled : (w : Walk) → w.next ≡ None → place w ≡ w.path
+place_settled w none = ap (λ next. w.path ++ waiting next) none ∙ append-nil w.path
+
+pub way_node : (p : Problem) (from : List Rel) (w : Walk) → IsOnWay p from w → w.next ≡ None → IsNode p w.path
+way_node p from w way none = subst (IsNode p) (place_settled w none) way.node
+
+pub way_begins : (p : Problem) (from : List Rel) (w : Walk) (way : IsOnWay p from w) → w.next ≡ None → from ≡ w.path ++ way.rest
+way_begins p from w way none = way.begins ∙ ap (λ m. m ++ way.rest) (place_settled w none)
+
 -- a longer prefix of the start
-pub longer_way : (p : Problem) (from : List Rel) (old new : Walk) (r : Rel) → IsOnWay p from old → slice_get from (length old.path) ≡ Some r →
+pub longer_way : (p : Problem) (from : List Rel) (old new : Walk) (r : Rel) → IsOnWay p from old → old.next ≡ None → slice_get from (length old.path) ≡ Some r →
     IsAlive (problem_at p old.path) → length old.path < pair_count p → has (allowed p (pair_at p (length old.path))) r ≡ true →
-    new.stage ≡ old.stage → new.open ≡ old.open → new.next ≡ old.next → new.path ≡ old.path ++ r ∷ [] → IsOnWay p from new
-longer_way p from old new r way at alive short allows stage known next path =
-    let more = rest_begins from old.path way.rest r way.begins at in
+    new.stage ≡ old.stage → new.open ≡ old.open → place new ≡ old.path ++ r ∷ [] → IsOnWay p from new
+longer_way p from old new r way none at alive short allows stage known path =
+    let more = rest_begins from old.path way.rest r (way_begins p from old way none) at in
     record {
       begun = stage ∙ way.begun;
       unknown = known ∙ way.unknown;
       node = subst (IsNode p) (sym path) (child_is_node p old.path r (record { alive = alive; short = short; allows = allows }));
-      none_waits = next ∙ way.none_waits;
       rest = more.0;
       begins = more.1 ∙ sym (append_assoc old.path (r ∷ []) more.0) ∙ ap (λ m. m ++ more.0) (sym path);
     }
+
+-- a walk at the same place is on the way still
+pub same_way : (p : Problem) (from : List Rel) (old new : Walk) → IsOnWay p from old → new.stage ≡ old.stage → new.open ≡ old.open → place new ≡ place old → IsOnWay p from new
+same_way p from old new way stage known same = record {
+  begun = stage ∙ way.begun;
+  unknown = known ∙ way.unknown;
+  node = subst (IsNode p) (sym same) way.node;
+  rest = way.rest;
+  begins = way.begins ∙ ap (λ m. m ++ way.rest) (sym same);
+}
 
 -- a start that is longer than a prefix of it goes on
 pub rest_goes_on : (from c rest : List Rel) → from ≡ c ++ rest → length c < length from → (r : Rel) × (more : List Rel) × (from ≡ c ++ r ∷ more)

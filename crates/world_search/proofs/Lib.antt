@@ -7,3 +7,5 @@ pub mod Passing
 pub mod Stepping
 pub mod OpenChildren
 pub mod Guiding
+pub mod Telling
+pub mod NodeLines

@@ -1,5 +1,5 @@
 -- What a turn of a walk leaves, as a step of the search.
-use Rattle.std.proofs.Common.{◌≡◌, ◌≢◌, ℕ, ◌<◌, true, false, List, [], ◌∷◌, ◌++◌, refl, sym, ap, ◌∙◌, subst, append-nil}
+use Rattle.std.proofs.Common.{◌≡◌, ◌≢◌, ℕ, ◌<◌, true, false, not, IsTrue, List, [], ◌∷◌, ◌++◌, refl, sym, ap, ◌∙◌, subst, append-nil}
 use Rattle.std.specs.Prelude.{Option, Some, IfSome, if◌then◌else◌}
 use Rattle.std.proofs.lemmas.Bool.{not_from_false}
 use Rattle.rcc5_core.specs.declared.Rel.{Rel}
@@ -7,13 +7,16 @@ use Rattle.world_model.specs.Problem.{Problem}
 use Rattle.world_model.specs.Node.{IsNode}
 use Rattle.world_model.specs.Listing.{is_below, is_before_end}
 use Rattle.world_search.specs.Searching.{SearchState, Passes, FellBy, Came, last_place}
-use Rattle.world_search.specs.Steps.{IsTableStep, StandsBehind}
+use Rattle.std.specs.Prelude.{Result, Ok, Err}
+use Rattle.std.specs.Result.{IsErrAnd}
+use Rattle.world_search.specs.declared.step.Step.{Step}
+use Rattle.world_search.specs.Steps.{IsTableStep, IsStepped, StandsBehind}
 use Rattle.world_search.specs.Stopping.{IsAtWorld, IsStop}
 use Rattle.world_search.specs.declared.step.TableStep.TheVariants.{World as Table, Spent, End}
 use Rattle.world_search.specs.declared.walk.Stage.{Stage}
 use Rattle.world_search.specs.declared.walk.Stage.TheVariants.{Start, Standing}
 use Rattle.world_search.specs.declared.walk.Walk.{Walk}
-use Rattle.world_search.specs.Walking.{place, LeadsBy, LeadsTo, IsAfter, IsStanding, IsPlacedBy, IsPlaced, at_by, state_of, left_by, nodes_left, Knows, AreOpenBeside, waiting}
+use Rattle.world_search.specs.Walking.{place, LeadsBy, LeadsTo, IsAfter, IsStanding, IsPlacedBy, IsPlaced, at_by, state_of, left_by, nodes_left, Knows, AreOpenBeside, waiting, expects_by, expected}
 use Rattle.world_search.proofs.Passing.{WorldsAt, one_there, stays_put, fell_nowhere, came_join, passes_next, none_behind, placed_next, fewer_left, at_end_standing}
 
 -- a walk that stands is at its place
@@ -48,6 +51,18 @@ pub came_uncounted : (p : Problem) (from : List Rel) (to : Option (List Rel)) (o
     Passes p (at_by from to (place old) old.stage) (at_by from to (place new) new.stage) [] [] → Came (state_of p from to old) (state_of p from to new) left left []
 came_uncounted p from to old new left passed = record { problem = refl; from = refl; to = refl; nodes = []; passed = passed; counted = fell_nowhere left }
 
+-- what comes next in a log, at a node
+pub expected_at : (w : Walk) (node : List Rel) → w.stage ≡ Standing → place w ≡ node → expected w ≡ Some node
+expected_at w node stage same = ap (expects_by (place w)) stage ∙ ap (λ m. Some m) same
+
+pub expected_same : (old new : Walk) → new.stage ≡ old.stage → place new ≡ place old → expected new ≡ expected old
+expected_same old new stage same = ap (λ m. expects_by m new.stage) same ∙ ap (expects_by (place old)) stage
+
+-- the node at which a walk stands is not below the start
+pub not_below_start : (p : Problem) (from : List Rel) (to : Option (List Rel)) (w : Walk) (node : List Rel) → w.stage ≡ Standing → IsPlaced p from to w → node ≡ place w →
+    IsTrue (not (is_below node from))
+not_below_start p from to w node standing placed is = subst (λ m. IsTrue (not (is_below m from))) (sym is) (standing_at p from to w standing placed).node.1
+
 -- the end, at a node
 pub stop_end : (p : Problem) (from : List Rel) (to : Option (List Rel)) (old new : Walk) (left : Option ℕ) (node : List Rel) →
     new.stage ≡ old.stage → place new ≡ place old → old.stage ≡ Standing → IsPlaced p from to old → node ≡ place old → is_before_end node to ≡ false →
@@ -56,6 +71,7 @@ stop_end p from to old new left node stage same standing placed is after =
     let past : is_before_end (place old) to ≡ false = subst (λ m. is_before_end m to ≡ false) is after in (
       same_at from to old new stage same ∙ at_last from to (place old) old.stage standing past,
       at_end_standing p from to node (subst (IsStanding p from to) (sym is) (standing_at p from to old standing placed)) after,
+      expected_at new node (stage ∙ standing) (same ∙ sym is),
     )
 
 -- the next node, where none may be visited
@@ -70,6 +86,7 @@ stop_spent p from to old new left node stage same standing placed is before spen
         stands = same_at from to old new stage same ∙ at_standing from to (place old) old.stage standing ahead ∙ ap (λ m. Some m) (sym is);
         below_end = before;
       },
+      expected_at new node (stage ∙ standing) (same ∙ sym is),
     )
 
 -- past a visited node
@@ -126,13 +143,18 @@ pub leads_begun : (p : Problem) (K : List Rel → Type 0) (w : Walk) → LeadsTo
 leads_begun p K w leads start = subst (LeadsBy p K (place w)) start leads
 
 -- a walk at a world has settled
-place_is : (p : Problem) (to : Option (List Rel)) (w : Walk) (left : Option ℕ) (table : List Rel) → IsAtWorld p to w left table → place w ≡ w.path
+pub place_is : (p : Problem) (to : Option (List Rel)) (w : Walk) (left : Option ℕ) (table : List Rel) → IsAtWorld p to w left table → place w ≡ w.path
 place_is p to w left table at = ap (λ next. w.path ++ waiting next) at.none_waits ∙ append-nil w.path
 
 -- the node at which a walk stops at a world
 pub node_at : (p : Problem) (from : List Rel) (to : Option (List Rel)) (w : Walk) (left : Option ℕ) (table : List Rel) → IsAtWorld p to w left table →
     IsPlaced p from to w → IsNode p w.path
 node_at p from to w left table at placed = subst (IsNode p) (place_is p to w left table at) (standing_at p from to w at.standing placed).node.0
+
+-- where a search came without a world is what an error leaves
+pub stepped_err : {T : Type 0} (r : Result Step T) (Q : T → Type 0) (one other : SearchState) (before left : Option ℕ) → IsErrAnd r Q → Came one other before left [] → IsStepped one other before left r
+stepped_err (Ok step) Q one other before left h came = absurd h
+stepped_err (Err f) Q one other before left h came = came
 
 -- past the world at which a walk stopped
 pub step_world : (p : Problem) (from : List Rel) (to : Option (List Rel)) (one : SearchState) (old new : Walk) (first before left : Option ℕ) (table : List Rel) →

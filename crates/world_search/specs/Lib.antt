@@ -1,4 +1,5 @@
 pub mod Guiding
+pub mod Logging
 pub mod Searching
 pub mod Steps
 pub mod Stopping

@@ -6,16 +6,17 @@ use Rattle.world_model.specs.Listing.{is_below, is_before_end, IsListing}
 use Rattle.world_model.specs.Node.{IsNodeFrom, IsNodeList}
 
 -- the problem, the start and the end, and where the search stands: all nodes from the start on and below this position are
--- passed, and with none all nodes are
+-- passed, and with none all nodes are. Of what a log lists, the node that comes next, or none where all are passed
 pub record SearchState : Type 0 where
   pub problem : Problem
   pub from : List Rel
   pub to : Option (List Rel)
   pub at : Option (List Rel)
+  pub expects : Option (List Rel)
 
 -- a search that begins
 abbrev pub begun : Problem → List Rel → Option (List Rel) → SearchState
-begun p from to = record { problem = p; from = from; to = to; at = Some from }
+begun p from to = record { problem = p; from = from; to = to; at = Some from; expects = Some [] }
 
 -- just these nodes and these worlds stand from one place on and below another, which does not lie before it
 pub record StandsBetween (p : Problem) (one : List Rel) (other : Option (List Rel)) (nodes worlds : List (List Rel)) : Type 0 where

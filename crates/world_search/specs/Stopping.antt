@@ -9,7 +9,7 @@ use Rattle.world_search.specs.declared.step.TableStep.TheVariants.{World, Spent,
 use Rattle.world_search.specs.declared.walk.Stage.TheVariants.{Standing}
 use Rattle.world_search.specs.declared.walk.Walk.{Walk}
 use Rattle.world_search.specs.Searching.{last_place, IsNodeAtEnd, IsNext}
-use Rattle.world_search.specs.Walking.{at_by, place, state_of}
+use Rattle.world_search.specs.Walking.{at_by, place, state_of, expected}
 
 -- a walk stands at a world below the end, and its visit is yet to be counted
 pub record IsAtWorld (p : Problem) (to : Option (List Rel)) (w : Walk) (left : Option ℕ) (table : List Rel) : Type 0 where
@@ -21,8 +21,8 @@ pub record IsAtWorld (p : Problem) (to : Option (List Rel)) (w : Walk) (left : O
   pub below_end : IsTrue (is_before_end table to)
   pub some_left : left ≢ Some 0
 
--- a walk stops at a world, before the next node where none may be visited, or at the end
+-- a walk stops at a world, before the next node where none may be visited, or at the end. The node that is named is the next
 abbrev pub IsStop : Problem → List Rel → Option (List Rel) → Walk → Option ℕ → TableStep → Type 0
 IsStop p from to w left (World table) = IsAtWorld p to w left table
-IsStop p from to w left (Spent node) = (left ≡ Some 0) × IsNext (state_of p from to w) node
-IsStop p from to w left (End node) = (at_by from to (place w) w.stage ≡ last_place from to) × IsNodeAtEnd p from to node
+IsStop p from to w left (Spent node) = (left ≡ Some 0) × IsNext (state_of p from to w) node × (expected w ≡ Some node)
+IsStop p from to w left (End node) = (at_by from to (place w) w.stage ≡ last_place from to) × IsNodeAtEnd p from to node × (expected w ≡ node)

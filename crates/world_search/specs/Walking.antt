@@ -1,9 +1,10 @@
 -- Where a walk stands among the nodes.
-use Rattle.std.specs.Prelude.{◌≡◌, ◌↔◌, ℕ, Bool, true, false, List, [], ◌∷◌, ◌++◌, Option, Some, None, IfSome, length, IsTrue, not, if◌then◌else◌}
+use Rattle.std.specs.Prelude.{◌≡◌, ◌↔◌, ◌<◌, ℕ, Bool, true, false, List, [], ◌∷◌, ◌++◌, Option, Some, None, IfSome, length, IsTrue, not, if◌then◌else◌}
 use Rattle.rcc5_core.specs.declared.Rel.{Rel}
 use Rattle.rcc5_core.specs.declared.RelSet.{RelSet}
 use Rattle.rcc5_core.specs.RelationSet.{has}
-use Rattle.world_model.specs.Problem.{Problem}
+use Rattle.world_model.specs.Problem.{Problem, pair_count}
+use Rattle.world_model.specs.Family.{IsPossibleWorld}
 use Rattle.world_model.specs.Listing.{is_below, is_before_end}
 use Rattle.world_model.specs.Alive.{problem_at, IsAlive}
 use Rattle.world_model.specs.Node.{IsNode, IsNodeFrom}
@@ -11,6 +12,8 @@ use Rattle.world_model.specs.Trial.{nodes_between}
 use Rattle.world_search.specs.declared.walk.Stage.{Stage}
 use Rattle.world_search.specs.declared.walk.Stage.TheVariants.{Start, Standing, Past}
 use Rattle.world_search.specs.declared.walk.Walk.{Walk}
+use Rattle.world_search.specs.declared.walk.Found.{Found}
+use Rattle.world_search.specs.declared.walk.Found.TheVariants.{World, NoWorld}
 use Rattle.world_search.specs.Searching.{SearchState, last_place}
 
 -- a position comes behind all that begin with a prefix
@@ -49,10 +52,9 @@ LeadsTo p IsKind w = LeadsBy p IsKind (place w) w.stage
 pub record IsOnWay (p : Problem) (from : List Rel) (w : Walk) : Type 0 where
   pub begun : w.stage ≡ Start
   pub unknown : w.open ≡ None
-  pub node : IsNode p w.path
-  pub none_waits : w.next ≡ None
+  pub node : IsNode p (place w)
   pub rest : List Rel
-  pub begins : from ≡ w.path ++ rest
+  pub begins : from ≡ place w ++ rest
 
 -- at a node from the start on, where all nodes before it are below the end
 pub record IsStanding (p : Problem) (from : List Rel) (to : Option (List Rel)) (m : List Rel) : Type 0 where
@@ -74,9 +76,18 @@ at_by from to m Start = Some from
 at_by from to m Standing = if is_before_end m to then Some m else last_place from to
 at_by from to m Past = last_place from to
 
+-- the node whose line comes next in a log, by the stage of a walk
+abbrev pub expects_by : List Rel → Stage → Option (List Rel)
+expects_by m Start = Some m
+expects_by m Standing = Some m
+expects_by m Past = None
+
+abbrev pub expected : Walk → Option (List Rel)
+expected w = expects_by (place w) w.stage
+
 -- a walk as the state of a search
 abbrev pub state_of : Problem → List Rel → Option (List Rel) → Walk → SearchState
-state_of p from to w = record { problem = p; from = from; to = to; at = at_by from to (place w) w.stage }
+state_of p from to w = record { problem = p; from = from; to = to; at = at_by from to (place w) w.stage; expects = expected w }
 
 -- nodes from the start on
 abbrev pub IsFrom : List Rel → List Rel → Type 0
@@ -105,6 +116,16 @@ pub record AreOpenBeside (p : Problem) (m : List Rel) (set : RelSet) : Type 0 wh
 -- where a walk stands and keeps a set, it is that of its place
 abbrev pub Knows : Problem → Walk → Type 0
 Knows p w = w.stage ≡ Standing → IfSome w.open (AreOpenBeside p (place w))
+
+-- a node is alive and has room, and just these relations lead on to an alive one; or it is dead
+abbrev pub IsOpenOrDead : Problem → List Rel → Option RelSet → Type 0
+IsOpenOrDead p m (Some set) = IsAlive (problem_at p m) × (length m < pair_count p) × AreOpenAfter p m set
+IsOpenOrDead p m None = IsAlive (problem_at p m) → ⊥
+
+-- what a visit finds at a node
+abbrev pub IsFoundAt : Problem → List Rel → Found → Type 0
+IsFoundAt p m World = IsPossibleWorld p m
+IsFoundAt p m (NoWorld set) = IsOpenOrDead p m set × (IsPossibleWorld p m → ⊥)
 
 -- how many nodes are left to a walk, by its stage
 abbrev pub left_by : Problem → List Rel → Stage → ℕ

@@ -1,68 +1,128 @@
 //! The first node of a walk: along the start as far as its prefixes are nodes, and then the next one.
-ghost use Rattle.std.specs.Prelude.{◌≡◌, ◌≢◌, ◌+◌, ◌<◌, ◌≤◌, [], length, true, None, IfOk, OnOk, OnErr};
+ghost use Rattle.std.specs.Prelude.{◌≡◌, ◌≢◌, ◌↔◌, ◌+◌, ◌<◌, ◌≤◌, [], length, true, None, IfOk, OnOk, OnErr, IsTrue};
 ghost use Rattle.world_model.specs.Problem.{pair_count};
 ghost use Rattle.world_model.specs.Alive.{problem_at, IsAlive};
 ghost use Rattle.constraint_set.specs.Shape.{shape_of};
-ghost use Rattle.world_search.specs.Walking.{place, LeadsTo, IsPlaced, IsOnWay, IsFrom, Follows, Knows, at_by};
+ghost use Rattle.cert_rules.specs.Listings.{listing_next};
+ghost use Rattle.world_search.specs.Walking.{place, LeadsTo, IsPlaced, IsOnWay, IsFrom, Follows, Knows, at_by, expected};
 ghost use Rattle.world_search.specs.Searching.{Passes};
 ghost use Rattle.world_search.specs.Guiding.{IsGuideOf};
+ghost use Rattle.world_search.specs.Logging.{LogGoes, KeepsOn};
 ghost use Rattle.world_search.specs.declared.walk.Stage.TheVariants.{Start};
 
 use crate::behind::next_set;
 use crate::guide::Guide;
 use crate::idle::tidy_by_turns;
+use crate::step::StepFault;
+use crate::tell::tell;
 use crate::walk::{Span, Stage, Walk, pass};
+use cert_text::TreeLog;
 use constraint_set::Problem;
 use point_query::Asker;
 use rcc5_core::Position;
-use std::alloc::AllocError;
+use std::alloc::Global;
 
 // Follows the start by one relation from an alive prefix of it, if the pair allows this relation, and else goes on to the first
 // node from the start on. Whether it is still on the way.
-fn follow(
-    problem: &Problem,
-    guide: &mut Guide,
-    from: &Position,
-    walk: &mut Walk,
-) -> Result<bool, AllocError>
+fn follow(problem: &Problem, guide: &mut Guide, from: &Position, walk: &mut Walk) -> bool
     requires way { IsOnWay problem.now from.now walk.old }
+    requires settled { walk.old.next ≡ None }
     requires alive { IsAlive (problem_at problem.now walk.old.path) }
     requires short { length walk.old.path < length from.now }
     requires within { length from.now ≤ pair_count problem.now }
     requires guide { IsGuideOf problem.now walk.old.path guide.old }
-    ensures ok { IfOk result (λ on. Follows problem.now from.now walk.new on) }
-    ensures longer { IfOk result (λ on. on ≡ true → length walk.new.path ≡ length walk.old.path + 1) }
+    ensures ok { Follows problem.now from.now walk.new result }
+    ensures longer { result ≡ true → length (place walk.new) ≡ length walk.old.path + 1 }
     ensures unknown { walk.new.open ≡ None }
-    ensures err { OnErr result (walk.new ≡ walk.old) }
     ensures guide { IsGuideOf problem.now walk.new.path guide.new }
+    ensures next { listing_next problem.now from.now true walk.old.path ≡ expected walk.new }
 {
     let wanted = from.at(walk.path.len());
     let set = next_set(problem, &walk.path);
     if set.has(wanted) {
-        walk.path.push(wanted)?;
-        return Ok(true);
+        walk.next = Some(wanted);
+        return true;
     }
     match set.after(wanted) {
         Some(rel) => {
             walk.stage = Stage::Standing;
             walk.next = Some(rel);
-            Ok(false)
+            false
         }
         None => {
             pass(problem, guide, walk);
-            Ok(false)
+            false
         }
     }
 }
 
-// Finds the first node from the start on.
-fn find(
+// The same from any prefix of the start that is a node.
+fn go_along(
     problem: &Problem,
-    asker: &mut Asker,
     guide: &mut Guide,
     from: &Position,
     walk: &mut Walk,
-) -> Result<(), AllocError>
+    alive: bool,
+) -> bool
+    requires way { IsOnWay problem.now from.now walk.old }
+    requires settled { walk.old.next ≡ None }
+    requires alive { IsTrue alive ↔ IsAlive (problem_at problem.now walk.old.path) }
+    requires short { length walk.old.path < length from.now }
+    requires within { length from.now ≤ pair_count problem.now }
+    requires guide { IsGuideOf problem.now walk.old.path guide.old }
+    ensures ok { Follows problem.now from.now walk.new result }
+    ensures longer { result ≡ true → length (place walk.new) ≡ length walk.old.path + 1 }
+    ensures unknown { walk.new.open ≡ None }
+    ensures guide { IsGuideOf problem.now walk.new.path guide.new }
+    ensures next { listing_next problem.now from.now alive walk.old.path ≡ expected walk.new }
+{
+    if alive {
+        return follow(problem, guide, from, walk);
+    }
+    pass(problem, guide, walk);
+    false
+}
+
+// Tells of a proper prefix of the start that is a node, and goes on from it. Whether it is still on the way.
+fn along<L: TreeLog>(
+    alloc: Global,
+    problem: &Problem,
+    asker: &mut Asker,
+    log: &mut L,
+    guide: &mut Guide,
+    from: &Position,
+    walk: &mut Walk,
+) -> Result<bool, StepFault>
+    requires shape { asker.old.shape ≡ shape_of problem.now }
+    requires way { IsOnWay problem.now from.now walk.old }
+    requires settled { walk.old.next ≡ None }
+    requires short { length walk.old.path < length from.now }
+    requires within { length from.now ≤ pair_count problem.now }
+    requires guide { IsGuideOf problem.now walk.old.path guide.old }
+    ensures ok { IfOk result (Follows problem.now from.now walk.new) }
+    ensures longer { IfOk result (λ on. on ≡ true → length (place walk.new) ≡ length walk.old.path + 1) }
+    ensures unknown { walk.new.open ≡ None }
+    ensures err { OnErr result (walk.new ≡ walk.old) }
+    ensures guide { IsGuideOf problem.now walk.new.path guide.new }
+    ensures shape { asker.new.shape ≡ asker.old.shape }
+    ensures keeps { KeepsOn problem.now from.now (L.lines log.old) (L.lines log.new) asker.old asker.new (expected walk.old) (expected walk.new) }
+    ensures log { LogGoes L.drops L.lines L.faults L.steady result log.old log.new }
+{
+    let alive = guide.is_alive(problem, asker, &walk.path)?;
+    tell(alloc, problem, asker, log, &walk.path, alive)?;
+    Ok(go_along(problem, guide, from, walk, alive))
+}
+
+// Finds the first node from the start on.
+fn find<L: TreeLog>(
+    alloc: Global,
+    problem: &Problem,
+    asker: &mut Asker,
+    log: &mut L,
+    guide: &mut Guide,
+    from: &Position,
+    walk: &mut Walk,
+) -> Result<(), StepFault>
     requires shape { asker.old.shape ≡ shape_of problem.now }
     requires way { IsOnWay problem.now from.now walk.old }
     requires within { length from.now ≤ pair_count problem.now }
@@ -72,31 +132,32 @@ fn find(
     ensures unknown { walk.new.open ≡ None }
     ensures guide { IsGuideOf problem.now walk.new.path guide.new }
     ensures shape { asker.new.shape ≡ asker.old.shape }
+    ensures keeps { KeepsOn problem.now from.now (L.lines log.old) (L.lines log.new) asker.old asker.new (expected walk.old) (expected walk.new) }
+    ensures log { LogGoes L.drops L.lines L.faults L.steady result log.old log.new }
 {
     let mut turns = 0;
+    walk.settle()?;
     while walk.path.len() < from.len() {
-        let alive = guide.is_alive(problem, asker, &walk.path)?;
         turns = tidy_by_turns(asker, turns)?;
-        if !alive {
-            pass(problem, guide, walk);
+        if !along(alloc, problem, asker, log, guide, from, walk)? {
             return Ok(());
         }
-        if !follow(problem, guide, from, walk)? {
-            return Ok(());
-        }
+        walk.settle()?;
     }
     walk.stage = Stage::Standing;
     Ok(())
 }
 
 /// Finds the first node, if it is yet to be found.
-pub(crate) fn begin(
+pub(crate) fn begin<L: TreeLog>(
+    alloc: Global,
     problem: &Problem,
     asker: &mut Asker,
+    log: &mut L,
     guide: &mut Guide,
     span: &Span,
     walk: &mut Walk,
-) -> Result<(), AllocError>
+) -> Result<(), StepFault>
     requires shape { asker.old.shape ≡ shape_of problem.now }
     requires within { length span.now.from ≤ pair_count problem.now }
     requires placed { IsPlaced problem.now span.now.from span.now.to walk.old }
@@ -108,9 +169,11 @@ pub(crate) fn begin(
     ensures begun { OnOk result (walk.new.stage ≢ Start) }
     ensures guide { IsGuideOf problem.now walk.new.path guide.new }
     ensures shape { asker.new.shape ≡ asker.old.shape }
+    ensures keeps { KeepsOn problem.now span.now.from (L.lines log.old) (L.lines log.new) asker.old asker.new (expected walk.old) (expected walk.new) }
+    ensures log { LogGoes L.drops L.lines L.faults L.steady result log.old log.new }
 {
     if walk.stage == Stage::Start {
-        find(problem, asker, guide, &span.from, walk)?;
+        find(alloc, problem, asker, log, guide, &span.from, walk)?;
     }
     Ok(())
 }

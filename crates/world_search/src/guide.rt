@@ -4,6 +4,7 @@ ghost use Rattle.rcc5_core.specs.declared.Rel.{Rel};
 ghost use Rattle.world_model.specs.Problem.{Problem, pair_count};
 ghost use Rattle.world_model.specs.Alive.{problem_at, IsAlive};
 ghost use Rattle.constraint_set.specs.Shape.{shape_of};
+ghost use Rattle.point_query.specs.Asking.{AskerGoes};
 ghost use Rattle.world_search.specs.Walking.{AreOpenAfter};
 ghost use Rattle.world_search.specs.Guiding.{IsLadderOf, IsGuideOf};
 
@@ -50,31 +51,6 @@ fn climb_to(ladder: &mut Ladder, prefix: &Position) -> Result<bool, AllocError>
     Ok(true)
 }
 
-// The same, by an asker. Its lines are dropped.
-fn ask(problem: &Problem, asker: &mut Asker, prefix: &Position) -> Result<bool, AllocError>
-    requires shape { asker.old.shape ≡ shape_of problem.now }
-    requires within { length prefix.now ≤ pair_count problem.now }
-    ensures alive { IfOk result (λ alive. IsTrue alive ↔ IsAlive (problem_at problem.now prefix.now)) }
-    ensures shape { asker.new.shape ≡ asker.old.shape }
-{
-    let alive = asker.is_alive(problem, prefix)?;
-    asker.clear_lines();
-    Ok(alive)
-}
-
-// The relations that lead on from an alive prefix to an alive one, by an asker. Its lines are dropped.
-fn ask_after(problem: &Problem, asker: &mut Asker, prefix: &Position) -> Result<RelSet, AllocError>
-    requires shape { asker.old.shape ≡ shape_of problem.now }
-    requires short { length prefix.now < pair_count problem.now }
-    requires alive { IsAlive (problem_at problem.now prefix.now) }
-    ensures each { IfOk result (AreOpenAfter problem.now prefix.now) }
-    ensures shape { asker.new.shape ≡ asker.old.shape }
-{
-    let set = asker.alive_after(problem, prefix)?;
-    asker.clear_lines();
-    Ok(set)
-}
-
 impl Guide {
     /// A guide at the empty prefix.
     pub fn new(alloc: Global, problem: &Problem) -> Result<Guide, AllocError>
@@ -103,6 +79,7 @@ impl Guide {
     }
 
     /// Whether a prefix is alive.
+    #[tactic(auto, using(crate::proofs::Telling::asker_stays))]
     pub fn is_alive(
         &mut self,
         problem: &Problem,
@@ -114,16 +91,17 @@ impl Guide {
         requires guide { IsGuideOf problem.now prefix.now self.old }
         ensures alive { IfOk result (λ alive. IsTrue alive ↔ IsAlive (problem_at problem.now prefix.now)) }
         ensures guide { IsGuideOf problem.now prefix.now self.new }
-        ensures shape { asker.new.shape ≡ asker.old.shape }
+        ensures kept { AskerGoes asker.old asker.new }
         ensures unasked { IfSome self.old.ladder (λ _. asker.new ≡ asker.old) }
     {
         match &mut self.ladder {
             Some(ladder) => climb_to(ladder, prefix),
-            None => ask(problem, asker, prefix),
+            None => asker.is_alive(problem, prefix),
         }
     }
 
     /// The relations that lead on from an alive prefix to an alive one.
+    #[tactic(auto, using(crate::proofs::Telling::asker_stays))]
     pub fn alive_after(
         &mut self,
         problem: &Problem,
@@ -136,7 +114,7 @@ impl Guide {
         requires guide { IsGuideOf problem.now prefix.now self.old }
         ensures each { IfOk result (AreOpenAfter problem.now prefix.now) }
         ensures guide { IsGuideOf problem.now prefix.now self.new }
-        ensures shape { asker.new.shape ≡ asker.old.shape }
+        ensures kept { AskerGoes asker.old asker.new }
         ensures unasked { IfSome self.old.ladder (λ _. asker.new ≡ asker.old) }
     {
         match &mut self.ladder {
@@ -144,7 +122,7 @@ impl Guide {
                 let _alive = climb_to(ladder, prefix)?;
                 Ok(ladder.leads_on())
             }
-            None => ask_after(problem, asker, prefix),
+            None => asker.alive_after(problem, prefix),
         }
     }
 }

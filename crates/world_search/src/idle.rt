@@ -1,5 +1,6 @@
 //! The idle clauses of an asker.
-ghost use Rattle.std.specs.Prelude.{◌≡◌, ◌≤◌, length, OnOk};
+ghost use Rattle.std.specs.Prelude.{◌≤◌, length, OnOk};
+ghost use Rattle.point_query.specs.Asking.{AskerGoes};
 
 use point_query::Asker;
 use std::alloc::AllocError;
@@ -10,23 +11,24 @@ const MOST_IDLE: u64 = 1024;
 /// So many turns pass between two looks at how many clauses are idle.
 const TURNS: u32 = 16_384;
 
-/// Forgets the idle clauses of an asker where they are many.
+/// Forgets the idle clauses of an asker where they are many, by a line that waits.
+#[tactic(auto, using(crate::proofs::Telling::asker_stays))]
 pub(crate) fn tidy(asker: &mut Asker) -> Result<(), AllocError>
     ensures few { OnOk result (length asker.new.solver.idle ≤ 1024) }
-    ensures shape { asker.new.shape ≡ asker.old.shape }
+    ensures kept { AskerGoes asker.old asker.new }
 {
-    if asker.idle() > MOST_IDLE {
-        asker.tidy()?;
-        asker.clear_lines();
+    if asker.idle() <= MOST_IDLE {
+        return Ok(());
     }
-    Ok(())
+    asker.tidy()
 }
 
 /// Counts a turn, and at each `TURNS`th one forgets the idle clauses where they are many.
 ///
 /// To count them takes a look at each clause of the asker, which is too dear for each turn.
+#[tactic(auto, using(crate::proofs::Telling::asker_stays))]
 pub(crate) fn tidy_by_turns(asker: &mut Asker, turns: u32) -> Result<u32, AllocError>
-    ensures shape { asker.new.shape ≡ asker.old.shape }
+    ensures kept { AskerGoes asker.old asker.new }
 {
     if turns < TURNS {
         return Ok(turns + 1);

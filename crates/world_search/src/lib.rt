@@ -2,12 +2,15 @@
 #![tactic(auto)]
 
 mod behind;
+mod copies;
 mod first;
 mod guide;
 mod idle;
+mod reasons;
 mod search;
 mod step;
 mod steps;
+mod tell;
 mod walk;
 
 pub use behind::node_behind;

@@ -5,6 +5,8 @@ ghost use Rattle.constraint_set.specs.Shape.{shape_of};
 ghost use Rattle.world_search.specs.Guiding.{IsGuideOf};
 ghost use Rattle.world_search.specs.Searching.{begun, Came};
 ghost use Rattle.world_search.specs.Steps.{IsStepped, IsTableStep};
+ghost use Rattle.world_search.specs.Logging.{KeepsOn, AddsLines, IfLogFailed};
+ghost use Rattle.outer_store.specs.Faults.{Rose};
 
 use crate::guide::Guide;
 use crate::step::{Nodes, Step, StepFault, TableStep};
@@ -74,6 +76,7 @@ impl Search {
     }
 
     /// Visits the next nodes, up to the next world, or until none may be visited or none is left. Each visit lowers `left`.
+    /// The log is told of each node that is passed, and before it of what the asker derived.
     ///
     /// It needs the problem that the search was made of and an asker of its shape. After want of memory it may be called again.
     pub fn next<L: TreeLog>(
@@ -93,11 +96,16 @@ impl Search {
         ensures none_waits { OnOk result (asker.new.solver.waiting ≡ []) }
         ensures few_idle { OnOk result (length asker.new.solver.idle ≤ 1024) }
         ensures log { L.drops log.new ≡ L.drops log.old }
+        ensures keeps { KeepsOn problem.now self.old.from (L.lines log.old) (L.lines log.new) asker.old asker.new self.old.expects self.new.expects }
+        ensures told { OnOk result (AddsLines (L.lines log.old) (L.lines log.new)) }
+        ensures fault { IfLogFailed result (Rose (L.faults log.old) (L.faults log.new)) (L.faults log.new ≡ L.faults log.old) }
+        ensures later { L.faults log.old ≤ L.faults log.new }
+        ensures steady { L.steady log.old log.new }
     {
         let (guide, walk) = (&mut self.guide, &mut self.walk);
-        let step = family_step(self.alloc, problem, asker, guide, &self.span, walk, nodes)?;
-        asker.clear_lines();
-        Ok(step)
+        family_step(
+            self.alloc, problem, asker, log, guide, &self.span, walk, nodes,
+        )
     }
 
     /// The same, without a family for a world, which costs more than to find the world.

@@ -1,7 +1,9 @@
 //! What a search answers.
 ghost use Rattle.std.specs.Prelude.{◌≡◌};
 ghost use Rattle.world_search.specs.declared.step.StepFault.TheVariants.{NoMemory};
+ghost use Rattle.world_search.specs.Logging.{step_fault};
 
+use outer_store::StoreFault;
 use rcc5_core::Position;
 use set_family::Family;
 use std::alloc::AllocError;
@@ -40,6 +42,8 @@ pub enum TableStep {
 pub enum StepFault {
     #[error("out of memory")]
     NoMemory,
+    #[error("the log failed")]
+    LogFailed,
 }
 
 impl From<AllocError> for StepFault {
@@ -47,5 +51,16 @@ impl From<AllocError> for StepFault {
 
     fn from(_refused: AllocError) -> Self {
         StepFault::NoMemory
+    }
+}
+
+impl From<StoreFault> for StepFault {
+    ghost from_gives = { λ refused fault. fault ≡ step_fault refused };
+
+    fn from(refused: StoreFault) -> Self {
+        match refused {
+            StoreFault::Failed => StepFault::LogFailed,
+            StoreFault::NoMemory => StepFault::NoMemory,
+        }
     }
 }

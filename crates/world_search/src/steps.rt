@@ -5,7 +5,9 @@ ghost use Rattle.world_model.specs.Family.{meets, table_of, IsPossibleWorld};
 ghost use Rattle.world_model.specs.Listing.{is_before_end};
 ghost use Rattle.world_model.specs.Node.{IsNode};
 ghost use Rattle.constraint_set.specs.Shape.{shape_of};
-ghost use Rattle.world_search.specs.Walking.{LeadsTo, IsAfter, IsPlaced, Knows, state_of, nodes_left};
+ghost use Rattle.point_query.specs.Asking.{AskerGoes};
+ghost use Rattle.world_search.specs.Walking.{LeadsTo, IsAfter, IsPlaced, Knows, state_of, nodes_left, expected};
+ghost use Rattle.world_search.specs.Logging.{LogGoes, KeepsOn, KeepsFrom};
 ghost use Rattle.world_search.specs.Guiding.{IsGuideOf};
 ghost use Rattle.world_search.specs.Searching.{FellBy, Came};
 ghost use Rattle.world_search.specs.Steps.{IsTableStep, IsStepped};
@@ -15,8 +17,10 @@ ghost use Rattle.world_search.specs.declared.walk.Stage.TheVariants.{Start, Stan
 use crate::first::begin;
 use crate::guide::Guide;
 use crate::idle::{tidy, tidy_by_turns};
-use crate::step::{Nodes, Step, TableStep};
+use crate::step::{Nodes, Step, StepFault, TableStep};
+use crate::tell::{put_waiting, tell_world};
 use crate::walk::{Span, Stage, Walk, pass, visit};
+use cert_text::{NoLog, TreeLog};
 use constraint_set::Problem;
 use point_query::Asker;
 use rcc5_core::Position;
@@ -54,15 +58,16 @@ fn one_less(left: Option<u64>) -> Option<u64>
 }
 
 // Visits the node at which a walk stands, if it is below the end and may be visited, and goes on unless it is a world.
-fn turn(
+fn turn<L: TreeLog>(
     alloc: Global,
     problem: &Problem,
     asker: &mut Asker,
+    log: &mut L,
     guide: &mut Guide,
     span: &Span,
     walk: &mut Walk,
     nodes: &mut Nodes,
-) -> Result<Option<TableStep>, AllocError>
+) -> Result<Option<TableStep>, StepFault>
     requires shape { asker.old.shape ≡ shape_of problem.now }
     requires placed { IsPlaced problem.now span.now.from span.now.to walk.old }
     requires knows { Knows problem.now walk.old }
@@ -76,6 +81,8 @@ fn turn(
     ensures begun { walk.new.stage ≢ Start }
     ensures guide { IsGuideOf problem.now walk.new.path guide.new }
     ensures shape { asker.new.shape ≡ asker.old.shape }
+    ensures keeps { KeepsOn problem.now span.now.from (L.lines log.old) (L.lines log.new) asker.old asker.new (expected walk.old) (expected walk.new) }
+    ensures log { LogGoes L.drops L.lines L.faults L.steady result log.old log.new }
 {
     walk.settle()?;
     if !is_before_end(&walk.path, &span.to) {
@@ -86,7 +93,7 @@ fn turn(
         let node = walk.path.copy(alloc)?;
         return Ok(Some(TableStep::Spent(node)));
     }
-    if visit(problem, asker, guide, walk)? {
+    if visit(alloc, problem, asker, log, guide, walk)? {
         let table = walk.path.copy(alloc)?;
         return Ok(Some(TableStep::World(table)));
     }
@@ -95,7 +102,46 @@ fn turn(
 }
 
 // Visits the next nodes, up to the next world, or until none may be visited or none is left. The world is not passed yet.
-fn walk_on(
+fn walk_on<L: TreeLog>(
+    alloc: Global,
+    problem: &Problem,
+    asker: &mut Asker,
+    log: &mut L,
+    guide: &mut Guide,
+    span: &Span,
+    walk: &mut Walk,
+    nodes: &mut Nodes,
+) -> Result<TableStep, StepFault>
+    requires shape { asker.old.shape ≡ shape_of problem.now }
+    requires within { length span.now.from ≤ pair_count problem.now }
+    requires placed { IsPlaced problem.now span.now.from span.now.to walk.old }
+    requires knows { Knows problem.now walk.old }
+    requires guide { IsGuideOf problem.now walk.old.path guide.old }
+    ensures stop { IfOk result (IsStop problem.now span.now.from span.now.to walk.new nodes.new.left) }
+    ensures came { Came (state_of problem.now span.now.from span.now.to walk.old) (state_of problem.now span.now.from span.now.to walk.new) nodes.old.left nodes.new.left [] }
+    ensures placed { IsPlaced problem.now span.now.from span.now.to walk.new }
+    ensures knows { Knows problem.now walk.new }
+    ensures guide { IsGuideOf problem.now walk.new.path guide.new }
+    ensures few { OnOk result (length asker.new.solver.idle ≤ 1024) }
+    ensures shape { asker.new.shape ≡ asker.old.shape }
+    ensures keeps { KeepsOn problem.now span.now.from (L.lines log.old) (L.lines log.new) asker.old asker.new (expected walk.old) (expected walk.new) }
+    ensures log { LogGoes L.drops L.lines L.faults L.steady result log.old log.new }
+{
+    begin(alloc, problem, asker, log, guide, span, walk)?;
+    let mut turns = 0;
+    while walk.stage == Stage::Standing {
+        if let Some(step) = turn(alloc, problem, asker, log, guide, span, walk, nodes)? {
+            tidy(asker)?;
+            return Ok(step);
+        }
+        turns = tidy_by_turns(asker, turns)?;
+    }
+    tidy(asker)?;
+    Ok(TableStep::End(None))
+}
+
+// The same with no log.
+fn walk_untold(
     alloc: Global,
     problem: &Problem,
     asker: &mut Asker,
@@ -117,17 +163,11 @@ fn walk_on(
     ensures few { OnOk result (length asker.new.solver.idle ≤ 1024) }
     ensures shape { asker.new.shape ≡ asker.old.shape }
 {
-    begin(problem, asker, guide, span, walk)?;
-    let mut turns = 0;
-    while walk.stage == Stage::Standing {
-        if let Some(step) = turn(alloc, problem, asker, guide, span, walk, nodes)? {
-            tidy(asker)?;
-            return Ok(step);
-        }
-        turns = tidy_by_turns(asker, turns)?;
+    let mut log = NoLog::new();
+    match walk_on(alloc, problem, asker, &mut log, guide, span, walk, nodes) {
+        Ok(stop) => Ok(stop),
+        Err(_) => Err(AllocError),
     }
-    tidy(asker)?;
-    Ok(TableStep::End(None))
 }
 
 // Passes the full node at which a walk stands.
@@ -168,7 +208,7 @@ pub(crate) fn table_step(
     ensures few { OnOk result (length asker.new.solver.idle ≤ 1024) }
     ensures shape { asker.new.shape ≡ asker.old.shape }
 {
-    match walk_on(alloc, problem, asker, guide, span, walk, nodes)? {
+    match walk_untold(alloc, problem, asker, guide, span, walk, nodes)? {
         TableStep::World(table) => {
             leave(problem, guide, walk, nodes);
             Ok(TableStep::World(table))
@@ -178,6 +218,7 @@ pub(crate) fn table_step(
 }
 
 // A family that shows a possible world.
+#[tactic(auto, using(crate::proofs::Telling::asker_joins))]
 fn family_of(
     alloc: Global,
     problem: &Problem,
@@ -189,7 +230,7 @@ fn family_of(
     ensures met { IfOk result (λ family. IsTrue (meets problem.now family)) }
     ensures shown { IfOk result (λ family. table_of problem.now family ≡ table.now) }
     ensures few { OnOk result (length asker.new.solver.idle ≤ 1024) }
-    ensures shape { asker.new.shape ≡ asker.old.shape }
+    ensures kept { AskerGoes asker.old asker.new }
 {
     alive_tables_are_worlds();
     problem.facts();
@@ -201,16 +242,56 @@ fn family_of(
     }
 }
 
-/// The same, and a world has a family that shows it.
-pub(crate) fn family_step(
+// Tells of the world at which a walk stands, and passes it. A refusal leaves the walk there.
+fn world_step<L: TreeLog>(
     alloc: Global,
     problem: &Problem,
     asker: &mut Asker,
+    log: &mut L,
+    guide: &mut Guide,
+    walk: &mut Walk,
+    nodes: &mut Nodes,
+    table: &Position,
+) -> Result<Family, StepFault>
+    requires shape { asker.old.shape ≡ shape_of problem.now }
+    requires world { IsPossibleWorld problem.now table.now }
+    requires is { walk.old.path ≡ table.now }
+    requires at { expected walk.old ≡ Some walk.old.path }
+    requires node { IsNode problem.now walk.old.path }
+    requires full { pair_count problem.now ≤ length walk.old.path }
+    requires some_left { nodes.old.left ≢ Some 0 }
+    requires guide { IsGuideOf problem.now walk.old.path guide.old }
+    ensures met { IfOk result (λ family. IsTrue (meets problem.now family)) }
+    ensures shown { IfOk result (λ family. table_of problem.now family ≡ table.now) }
+    ensures on { OnOk result (LeadsTo problem.now (IsAfter walk.old.path) walk.new) }
+    ensures unknown { OnOk result (walk.new.open ≡ None) }
+    ensures counted { OnOk result (FellBy nodes.old.left nodes.new.left 1) }
+    ensures err { OnErr result (walk.new ≡ walk.old) }
+    ensures uncounted { OnErr result (nodes.new.left ≡ nodes.old.left) }
+    ensures guide { IsGuideOf problem.now walk.new.path guide.new }
+    ensures none_waits { OnOk result (asker.new.solver.waiting ≡ []) }
+    ensures few { OnOk result (length asker.new.solver.idle ≤ 1024) }
+    ensures shape { asker.new.shape ≡ asker.old.shape }
+    ensures keeps { KeepsFrom problem.now (L.lines log.old) (L.lines log.new) asker.old asker.new walk.old walk.new }
+    ensures log { LogGoes L.drops L.lines L.faults L.steady result log.old log.new }
+{
+    let family = family_of(alloc, problem, asker, table)?;
+    tell_world(alloc, problem, asker, log, table, &family)?;
+    leave(problem, guide, walk, nodes);
+    Ok(family)
+}
+
+/// The same, and a world has a family that shows it. The log is told of each node that is passed.
+pub(crate) fn family_step<L: TreeLog>(
+    alloc: Global,
+    problem: &Problem,
+    asker: &mut Asker,
+    log: &mut L,
     guide: &mut Guide,
     span: &Span,
     walk: &mut Walk,
     nodes: &mut Nodes,
-) -> Result<Step, AllocError>
+) -> Result<Step, StepFault>
     requires shape { asker.old.shape ≡ shape_of problem.now }
     requires within { length span.now.from ≤ pair_count problem.now }
     requires placed { IsPlaced problem.now span.now.from span.now.to walk.old }
@@ -220,16 +301,24 @@ pub(crate) fn family_step(
     ensures placed { IsPlaced problem.now span.now.from span.now.to walk.new }
     ensures knows { Knows problem.now walk.new }
     ensures guide { IsGuideOf problem.now walk.new.path guide.new }
+    ensures none_waits { OnOk result (asker.new.solver.waiting ≡ []) }
     ensures few { OnOk result (length asker.new.solver.idle ≤ 1024) }
     ensures shape { asker.new.shape ≡ asker.old.shape }
+    ensures keeps { KeepsOn problem.now span.now.from (L.lines log.old) (L.lines log.new) asker.old asker.new (expected walk.old) (expected walk.new) }
+    ensures log { LogGoes L.drops L.lines L.faults L.steady result log.old log.new }
 {
-    match walk_on(alloc, problem, asker, guide, span, walk, nodes)? {
+    match walk_on(alloc, problem, asker, log, guide, span, walk, nodes)? {
         TableStep::World(table) => {
-            let family = family_of(alloc, problem, asker, &table)?;
-            leave(problem, guide, walk, nodes);
+            let family = world_step(alloc, problem, asker, log, guide, walk, nodes, &table)?;
             Ok(Step::World(table, family))
         }
-        TableStep::Spent(node) => Ok(Step::Spent(node)),
-        TableStep::End(node) => Ok(Step::End(node)),
+        TableStep::Spent(node) => {
+            put_waiting(alloc, asker, log)?;
+            Ok(Step::Spent(node))
+        }
+        TableStep::End(node) => {
+            put_waiting(alloc, asker, log)?;
+            Ok(Step::End(node))
+        }
     }
 }

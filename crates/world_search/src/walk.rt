@@ -1,19 +1,24 @@
 //! Where a walk stands among the nodes, and how it goes on from there.
-ghost use Rattle.std.specs.Prelude.{List, None, ◌≡◌, ◌↔◌, true, false, ◌<◌, ◌≤◌, ◌++◌, ◌∷◌, [], length, IfOk, OnOk, OnErr, IfSome, IsTrue};
+ghost use Rattle.std.specs.Prelude.{List, Some, None, ◌≡◌, ◌↔◌, true, false, ◌<◌, ◌≤◌, ◌++◌, ◌∷◌, [], length, IfOk, OnOk, OnErr, IfSome, IsTrue};
 ghost use Rattle.world_model.specs.Problem.{pair_count};
 ghost use Rattle.world_model.specs.Family.{IsPossibleWorld};
 ghost use Rattle.world_model.specs.Alive.{problem_at, IsAlive};
 ghost use Rattle.world_model.specs.Node.{IsNode};
 ghost use Rattle.constraint_set.specs.Shape.{shape_of};
-ghost use Rattle.world_search.specs.Walking.{IsBehind, place, LeadsTo, IsAfter, AreOpenBeside, Knows};
+ghost use Rattle.point_query.specs.Asking.{AskerGoes};
+ghost use Rattle.world_search.specs.Walking.{IsBehind, place, LeadsTo, IsAfter, AreOpenAfter, AreOpenBeside, Knows, expected, IsOpenOrDead, IsFoundAt};
 ghost use Rattle.world_search.specs.Guiding.{IsGuideOf};
+ghost use Rattle.world_search.specs.Logging.{LogGoes, KeepsFrom};
 
 use crate::behind::{climb, next_set};
 use crate::guide::Guide;
+use crate::step::StepFault;
+use crate::tell::tell;
+use cert_text::TreeLog;
 use constraint_set::Problem;
 use point_query::Asker;
 use rcc5_core::{Position, Rel, RelSet};
-use std::alloc::AllocError;
+use std::alloc::{AllocError, Global};
 use world_model::alive_tables_are_worlds;
 
 /// How far a walk is.
@@ -86,28 +91,18 @@ pub(crate) fn pass(problem: &Problem, guide: &mut Guide, walk: &mut Walk)
     }
 }
 
-// Goes on from an alive node that has room to its first child.
-fn enter(
-    problem: &Problem,
-    asker: &mut Asker,
-    guide: &mut Guide,
-    walk: &mut Walk,
-) -> Result<(), AllocError>
-    requires shape { asker.old.shape ≡ shape_of problem.now }
+// Goes on from an alive node that has room to its first child. These relations lead on to an alive one.
+fn enter(problem: &Problem, walk: &mut Walk, set: RelSet)
     requires alive { IsAlive (problem_at problem.now walk.old.path) }
     requires short { length walk.old.path < pair_count problem.now }
-    requires guide { IsGuideOf problem.now walk.old.path guide.old }
-    ensures on { OnOk result (LeadsTo problem.now (IsAfter walk.old.path) walk.new) }
-    ensures knows { OnOk result (Knows problem.now walk.new) }
-    ensures err { OnErr result (walk.new ≡ walk.old) }
-    ensures guide { IsGuideOf problem.now walk.new.path guide.new }
-    ensures shape { asker.new.shape ≡ asker.old.shape }
+    requires open { AreOpenAfter problem.now walk.old.path set }
+    ensures on { LeadsTo problem.now (IsAfter walk.old.path) walk.new }
+    ensures knows { Knows problem.now walk.new }
+    ensures path { walk.new.path ≡ walk.old.path }
 {
-    let set = guide.alive_after(problem, asker, &walk.path)?;
     walk.next = next_set(problem, &walk.path).first();
     walk.stage = Stage::Standing;
     walk.open = Some(set);
-    Ok(())
 }
 
 // Goes on from a dead node. What is known of its prefix stays known under the same prefix.
@@ -137,6 +132,7 @@ fn last_of(node: &Position) -> Rel
 }
 
 // Whether the node at which a walk stands is alive. The guide is asked only where the walk keeps no set.
+#[tactic(auto, using(crate::proofs::Telling::asker_stays))]
 fn is_here_alive(
     problem: &Problem,
     asker: &mut Asker,
@@ -149,7 +145,7 @@ fn is_here_alive(
     requires guide { IsGuideOf problem.now walk.now.path guide.old }
     ensures alive { IfOk result (λ alive. IsTrue alive ↔ IsAlive (problem_at problem.now walk.now.path)) }
     ensures guide { IsGuideOf problem.now walk.now.path guide.new }
-    ensures shape { asker.new.shape ≡ asker.old.shape }
+    ensures kept { AskerGoes asker.old asker.new }
 {
     match walk.open {
         Some(set) => Ok(set.has(last_of(&walk.path))),
@@ -157,15 +153,99 @@ fn is_here_alive(
     }
 }
 
-// Visits the node at which a walk stands, and goes on to the next one unless it is a world. Whether it is one.
-pub(crate) fn visit(
+/// What a visit finds at a node: it is a world; or it is none, and these relations lead on from it to an alive one, or it is
+/// dead.
+#[derive(Clone, Copy, Debug, PartialEq, Eq)]
+pub(crate) enum Found {
+    World,
+    NoWorld(Option<RelSet>),
+}
+
+// Looks at the node at which a walk stands.
+#[tactic(auto, using(crate::proofs::Telling::asker_joins))]
+fn look(
     problem: &Problem,
     asker: &mut Asker,
     guide: &mut Guide,
+    walk: &Walk,
+) -> Result<Found, AllocError>
+    requires shape { asker.old.shape ≡ shape_of problem.now }
+    requires node { IsNode problem.now walk.now.path }
+    requires knows { IfSome walk.now.open (AreOpenBeside problem.now walk.now.path) }
+    requires guide { IsGuideOf problem.now walk.now.path guide.old }
+    ensures found { IfOk result (IsFoundAt problem.now walk.now.path) }
+    ensures guide { IsGuideOf problem.now walk.now.path guide.new }
+    ensures kept { AskerGoes asker.old asker.new }
+{
+    alive_tables_are_worlds();
+    problem.facts();
+    if !is_here_alive(problem, asker, guide, walk)? {
+        return Ok(Found::NoWorld(None));
+    }
+    if walk.path.len() < problem.pair_count() as usize {
+        let set = guide.alive_after(problem, asker, &walk.path)?;
+        return Ok(Found::NoWorld(Some(set)));
+    }
+    Ok(Found::World)
+}
+
+// Goes on from a node that is no world.
+fn go_on(problem: &Problem, guide: &mut Guide, walk: &mut Walk, set: Option<RelSet>)
+    requires node { IsNode problem.now walk.old.path }
+    requires found { IsOpenOrDead problem.now walk.old.path set }
+    requires knows { IfSome walk.old.open (AreOpenBeside problem.now walk.old.path) }
+    requires guide { IsGuideOf problem.now walk.old.path guide.old }
+    ensures on { LeadsTo problem.now (IsAfter walk.old.path) walk.new }
+    ensures knows { Knows problem.now walk.new }
+    ensures guide { IsGuideOf problem.now walk.new.path guide.new }
+{
+    match set {
+        Some(set) => enter(problem, walk, set),
+        None => skip(problem, guide, walk),
+    }
+}
+
+// Tells of a node that is no world, and goes on from it.
+fn move_on<L: TreeLog>(
+    alloc: Global,
+    problem: &Problem,
+    asker: &mut Asker,
+    log: &mut L,
+    guide: &mut Guide,
     walk: &mut Walk,
-) -> Result<bool, AllocError>
+    set: Option<RelSet>,
+) -> Result<(), StepFault>
     requires shape { asker.old.shape ≡ shape_of problem.now }
     requires node { IsNode problem.now walk.old.path }
+    requires at { expected walk.old ≡ Some walk.old.path }
+    requires found { IsOpenOrDead problem.now walk.old.path set }
+    requires knows { IfSome walk.old.open (AreOpenBeside problem.now walk.old.path) }
+    requires guide { IsGuideOf problem.now walk.old.path guide.old }
+    ensures on { OnOk result (LeadsTo problem.now (IsAfter walk.old.path) walk.new) }
+    ensures knows { OnOk result (Knows problem.now walk.new) }
+    ensures err { OnErr result (walk.new ≡ walk.old) }
+    ensures guide { IsGuideOf problem.now walk.new.path guide.new }
+    ensures shape { asker.new.shape ≡ asker.old.shape }
+    ensures keeps { KeepsFrom problem.now (L.lines log.old) (L.lines log.new) asker.old asker.new walk.old walk.new }
+    ensures log { LogGoes L.drops L.lines L.faults L.steady result log.old log.new }
+{
+    tell(alloc, problem, asker, log, &walk.path, set.is_some())?;
+    go_on(problem, guide, walk, set);
+    Ok(())
+}
+
+/// Visits the node at which a walk stands, and goes on to the next one unless it is a world. Whether it is one.
+pub(crate) fn visit<L: TreeLog>(
+    alloc: Global,
+    problem: &Problem,
+    asker: &mut Asker,
+    log: &mut L,
+    guide: &mut Guide,
+    walk: &mut Walk,
+) -> Result<bool, StepFault>
+    requires shape { asker.old.shape ≡ shape_of problem.now }
+    requires node { IsNode problem.now walk.old.path }
+    requires at { expected walk.old ≡ Some walk.old.path }
     requires knows { IfSome walk.old.open (AreOpenBeside problem.now walk.old.path) }
     requires guide { IsGuideOf problem.now walk.old.path guide.old }
     ensures found { IfOk result (λ world. IsTrue world ↔ IsPossibleWorld problem.now walk.old.path) }
@@ -175,17 +255,14 @@ pub(crate) fn visit(
     ensures err { OnErr result (walk.new ≡ walk.old) }
     ensures guide { IsGuideOf problem.now walk.new.path guide.new }
     ensures shape { asker.new.shape ≡ asker.old.shape }
+    ensures keeps { KeepsFrom problem.now (L.lines log.old) (L.lines log.new) asker.old asker.new walk.old walk.new }
+    ensures log { LogGoes L.drops L.lines L.faults L.steady result log.old log.new }
 {
-    alive_tables_are_worlds();
-    problem.facts();
-    let pairs = problem.pair_count() as usize;
-    if !is_here_alive(problem, asker, guide, walk)? {
-        skip(problem, guide, walk);
-        return Ok(false);
+    match look(problem, asker, guide, walk)? {
+        Found::World => Ok(true),
+        Found::NoWorld(set) => {
+            move_on(alloc, problem, asker, log, guide, walk, set)?;
+            Ok(false)
+        }
     }
-    if walk.path.len() < pairs {
-        enter(problem, asker, guide, walk)?;
-        return Ok(false);
-    }
-    Ok(true)
 }

@@ -1,4 +1,4 @@
-use Rattle.align_top.specs.Run.{store_state}
+use Rattle.run_ends.specs.Runs.{store_state}
 use Rattle.align_top.proofs.AskedLemmas.{started, unstarted}
 use Rattle.align_top.proofs.asking.start_of.Goals as goal
 

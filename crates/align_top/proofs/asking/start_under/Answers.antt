@@ -1,7 +1,7 @@
 use Rattle.std.proofs.Common.{rules, Ok}
-use Rattle.align_top.specs.Run.{store_state}
+use Rattle.run_ends.specs.Runs.{store_state}
 use Rattle.align_top.specs.Steps.{start_in}
-use Rattle.align_top.proofs.AskedLemmas.{comes_of, without}
+use Rattle.run_ends.proofs.ReadLemmas.{comes_of, without}
 use Rattle.align_top.proofs.asking.start_under.Goals as goal
 
 pub returns-in-Ok-clause-start : goal.returns-in-Ok-clause-start

@@ -1,5 +1,7 @@
-use Rattle.align_top.specs.Run.{store_state, sink_state}
-use Rattle.align_top.proofs.CarryLemmas.{carried}
+use Rattle.std.proofs.Common.{rules}
+use Rattle.run_ends.specs.Runs.{store_state, sink_state}
+use Rattle.align_top.specs.declared.listing.Listed.{Listed}
+use Rattle.align_top.proofs.CarryLemmas.{carried, stopped}
 use Rattle.align_top.proofs.carry.carry_out.Goals as goal
 
 pub returns : goal.returns
@@ -11,3 +13,11 @@ returns g c =
     (sink_state (g.W.Sink.received c.put_worlds.new.out) (g.W.Sink.faults c.put_worlds.new.out))
     (sink_state (g.W.Sink.received c.end_listing.new.out) (g.W.Sink.faults c.end_listing.new.out))
     c.in_ok-listed.ensures.ok c.in_ok-listed.ensures.cause c.end_listing.ensures
+
+pub returns-in_err-listed : goal.returns-in_err-listed
+returns-in_err-listed g c =
+    stopped Listed c.from_residual.result _ c.args.order.now c.args.token.now
+    (store_state (g.S.Store.held c.args.store.now) (g.S.Store.read_faults c.args.store.now) (g.S.Store.write_faults c.args.store.now))
+    (sink_state (g.W.Sink.received c.args.out.now) (g.W.Sink.faults c.args.out.now))
+    (sink_state (g.W.Sink.received c.put_worlds.new.out) (g.W.Sink.faults c.put_worlds.new.out))
+    (search rules) c.in_err-listed.ensures.err c.in_err-listed.ensures.cause

@@ -5,7 +5,7 @@ use Rattle.world_search.specs.Walking.{IsBehind, IsLeastNode, HasNoNode}
 use Rattle.table_walk.specs.Ahead.{BeginAlike}
 use Rattle.table_walk.specs.Ways.{told_table}
 use Rattle.table_walk.specs.Tables.{IsAtWorld, Keeps}
-use Rattle.align_top.specs.Output.{world_line}
+use Rattle.run_ends.specs.Ends.{world_line}
 use Rattle.align_top.specs.Putting.{IsPutTo}
 use Rattle.align_top.proofs.PlaceLemmas.{right_behind}
 use Rattle.align_top.proofs.ListingLemmas.{partly_so_far, if_refused}

@@ -1,46 +1,11 @@
-use Rattle.std.proofs.Common.{map, string_bytes, rules}
-use Rattle.align_top.specs.Run.{store_state, sink_state}
-use Rattle.align_top.proofs.AskedLemmas.{one_state}
-use Rattle.align_top.proofs.RunLemmas.{run_early, ends_done, ends_refused, ends_starved}
+use Rattle.std.proofs.Common.{rules, map, string_bytes}
+use Rattle.run_ends.specs.Runs.{store_state, sink_state}
+use Rattle.align_top.proofs.RunLemmas.{words_refused}
 use Rattle.align_top.proofs.top.run.Goals as goal
 
-pub returns-in-Err : goal.returns-in-Err
-returns-in-Err g c =
-    run_early (map string_bytes c.args.words.now) c.in-Err.status c.put_end.result
+pub returns-in-Err-Usage : goal.returns-in-Err-Usage
+returns-in-Err-Usage g c =
+    words_refused (map string_bytes c.args.words.now) c.in-Err-Usage.kind c.put_end.result
     (store_state (g.S.Store.held c.args.store.now) (g.S.Store.read_faults c.args.store.now) (g.S.Store.write_faults c.args.store.now))
-    (store_state (g.S.Store.held c.order_of_words.new.store) (g.S.Store.read_faults c.order_of_words.new.store) (g.S.Store.write_faults c.order_of_words.new.store))
     (sink_state (g.W.Sink.received c.args.out.now) (g.W.Sink.faults c.args.out.now)) (sink_state (g.W.Sink.received c.put_end.new.out) (g.W.Sink.faults c.put_end.new.out))
-    c.in-Err.ensures.ended c.in-Err.ensures.kept c.put_end.ensures.put
-
-pub returns-in-Ok-carry_out : goal.returns-in-Ok-carry_out
-returns-in-Ok-carry_out g c =
-    ends_done (map string_bytes c.args.words.now) c.in-Ok.asked.order c.in-Ok.asked.token c.in-Ok-carry_out.status
-    (store_state (g.S.Store.held c.args.store.now) (g.S.Store.read_faults c.args.store.now) (g.S.Store.write_faults c.args.store.now))
-    (store_state (g.S.Store.held c.order_of_words.new.store) (g.S.Store.read_faults c.order_of_words.new.store) (g.S.Store.write_faults c.order_of_words.new.store))
-    (store_state (g.S.Store.held c.carry_out.new.store) (g.S.Store.read_faults c.carry_out.new.store) (g.S.Store.write_faults c.carry_out.new.store))
-    (sink_state (g.W.Sink.received c.args.out.now) (g.W.Sink.faults c.args.out.now)) (sink_state (g.W.Sink.received c.carry_out.new.out) (g.W.Sink.faults c.carry_out.new.out))
-    (one_state (g.S.Store.held c.args.store.now) (g.S.Store.held c.order_of_words.new.store) (g.S.Store.read_faults c.args.store.now) (g.S.Store.read_faults c.order_of_words.new.store)
-    (g.S.Store.write_faults c.args.store.now) (g.S.Store.write_faults c.order_of_words.new.store) c.in-Ok.ensures.kept c.in-Ok.ensures.quiet.0 c.in-Ok.ensures.quiet.1)
-    c.in-Ok.ensures.token c.in-Ok.ensures.order c.in-Ok-carry_out.ensures
-
-pub returns-in-Err-Failed : goal.returns-in-Err-Failed
-returns-in-Err-Failed g c =
-    ends_refused (map string_bytes c.args.words.now) c.in-Ok.asked.order c.in-Ok.asked.token
-    (store_state (g.S.Store.held c.args.store.now) (g.S.Store.read_faults c.args.store.now) (g.S.Store.write_faults c.args.store.now))
-    (store_state (g.S.Store.held c.order_of_words.new.store) (g.S.Store.read_faults c.order_of_words.new.store) (g.S.Store.write_faults c.order_of_words.new.store))
-    (store_state (g.S.Store.held c.carry_out.new.store) (g.S.Store.read_faults c.carry_out.new.store) (g.S.Store.write_faults c.carry_out.new.store))
-    (sink_state (g.W.Sink.received c.args.out.now) (g.W.Sink.faults c.args.out.now)) (sink_state (g.W.Sink.received c.carry_out.new.out) (g.W.Sink.faults c.carry_out.new.out))
-    (one_state (g.S.Store.held c.args.store.now) (g.S.Store.held c.order_of_words.new.store) (g.S.Store.read_faults c.args.store.now) (g.S.Store.read_faults c.order_of_words.new.store)
-    (g.S.Store.write_faults c.args.store.now) (g.S.Store.write_faults c.order_of_words.new.store) c.in-Ok.ensures.kept c.in-Ok.ensures.quiet.0 c.in-Ok.ensures.quiet.1)
-    c.in-Ok.ensures.token c.in-Ok.ensures.order (search rules)
-
-pub returns : goal.returns
-returns g c =
-    ends_starved (map string_bytes c.args.words.now) c.in-Ok.asked.order c.in-Ok.asked.token c.put_end-in-Err-NoMemory.result
-    (store_state (g.S.Store.held c.args.store.now) (g.S.Store.read_faults c.args.store.now) (g.S.Store.write_faults c.args.store.now))
-    (store_state (g.S.Store.held c.order_of_words.new.store) (g.S.Store.read_faults c.order_of_words.new.store) (g.S.Store.write_faults c.order_of_words.new.store))
-    (store_state (g.S.Store.held c.carry_out.new.store) (g.S.Store.read_faults c.carry_out.new.store) (g.S.Store.write_faults c.carry_out.new.store))
-    (sink_state (g.W.Sink.received c.args.out.now) (g.W.Sink.faults c.args.out.now)) (sink_state (g.W.Sink.received c.carry_out.new.out) (g.W.Sink.faults c.carry_out.new.out)) (sink_state (g.W.Sink.received c.put_end-in-Err-NoMemory.new.out) (g.W.Sink.faults c.put_end-in-Err-NoMemory.new.out))
-    (one_state (g.S.Store.held c.args.store.now) (g.S.Store.held c.order_of_words.new.store) (g.S.Store.read_faults c.args.store.now) (g.S.Store.read_faults c.order_of_words.new.store)
-    (g.S.Store.write_faults c.args.store.now) (g.S.Store.write_faults c.order_of_words.new.store) c.in-Ok.ensures.kept c.in-Ok.ensures.quiet.0 c.in-Ok.ensures.quiet.1)
-    c.in-Ok.ensures.token c.in-Ok.ensures.order (search rules) c.put_end-in-Err-NoMemory.ensures.put
+    (search rules) c.put_end.ensures.put

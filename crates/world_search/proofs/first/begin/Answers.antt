@@ -1,12 +1,13 @@
-use Rattle.std.proofs.Common.{◌≡◌, [], sym, subst, rules}
+use Rattle.std.proofs.Common.{◌≡◌, [], refl, sym, subst, rules}
 use Rattle.world_search.specs.Searching.{Passes}
-use Rattle.world_search.specs.Walking.{place, at_by}
+use Rattle.world_search.specs.Walking.{place, at_by, expected}
 use Rattle.world_search.specs.declared.walk.Stage.TheVariants.{Start}
 use Rattle.world_search.proofs.Passing.{passes_first}
+use Rattle.world_search.proofs.Telling.{keeps_same, log_stays_ok}
 use Rattle.world_search.proofs.first.begin.Goals as goal
 
 pub returns-in_ok-find-clause-passed : goal.returns-in_ok-find-clause-passed
-returns-in_ok-find-clause-passed c =
+returns-in_ok-find-clause-passed g c =
     let p = c.args.problem.now in
     let from = c.args.span.now.from in
     let to = c.args.span.now.to in

@@ -1,14 +1,19 @@
-use Rattle.std.proofs.Common.{◌≡◌, ◌-◌, length}
+use Rattle.std.proofs.Common.{◌≡◌, ◌-◌, length, None, Ok}
 use Rattle.world_search.specs.Guiding.{IsGuideOf}
-use Rattle.world_search.specs.Walking.{IsOnWay}
+use Rattle.world_search.specs.Logging.{LogGoes, KeepsOn}
+use Rattle.world_search.specs.Walking.{IsOnWay, expected}
 use Rattle.world_search.proofs.first.find.Given as goal
 
-abbrev pub invariant-loop-guide : goal.invariant-loop-guide
-invariant-loop-guide l = record {
-  shape : l.asker.shape ≡ l.initial.asker.shape;
+-- the log is told of the prefixes so far
+abbrev pub invariant-loop-alloc : goal.invariant-loop-alloc
+invariant-loop-alloc g l = record {
+  shape : l.asker.shape ≡ l.fn.asker.shape;
   way : IsOnWay l.problem l.from l.walk;
+  settled : l.walk.next ≡ None;
   guided : IsGuideOf l.problem l.walk.path l.guide;
+  keeps : KeepsOn l.problem l.from (g.L.TreeLog.lines l.fn.log) (g.L.TreeLog.lines l.log) l.fn.asker l.asker (expected l.fn.walk) (expected l.walk);
+  log : LogGoes g.L.TreeLog.drops g.L.TreeLog.lines g.L.TreeLog.faults g.L.TreeLog.steady (Ok (tt {0})) l.fn.log l.log;
 }
 
-abbrev pub decreases-loop-guide : goal.decreases-loop-guide
-decreases-loop-guide l = length l.from - length l.walk.path
+abbrev pub decreases-loop-alloc : goal.decreases-loop-alloc
+decreases-loop-alloc g l = length l.from - length l.walk.path

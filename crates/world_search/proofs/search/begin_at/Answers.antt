@@ -9,10 +9,9 @@ invariant_of-result c = record {
   placed = record {
     begun = refl;
     unknown = refl;
-    node = inl c.new.ensures;
-    none_waits = refl;
+    node = inl (ap (λ m. m ++ []) c.new.ensures);
     rest = c.args.from;
-    begins = ap (λ m. m ++ c.args.from) (sym c.new.ensures);
+    begins = ap (λ m. (m ++ []) ++ c.args.from) (sym c.new.ensures);
   };
   knows = λ standing. tt;
   guided = subst (λ m. IsGuideOf c.in_ok-problem.problem m c.args.guide) (sym c.new.ensures) (subst (λ p. IsGuideOf p [] c.args.guide) (sym c.in_ok-problem.ensures) c.requires.guide);

@@ -9,16 +9,16 @@ returns-in-World-clause-step c =
     let p = c.args.problem.now in
     let from = c.args.span.now.from in
     let to = c.args.span.now.to in
-    let at : IsAtWorld p to c.walk_on.new.walk c.walk_on.new.nodes.left c.in-World.table =
-    subst (IsStop p from to c.walk_on.new.walk c.walk_on.new.nodes.left) c.in-World.is c.in_ok-other.ensures.stop in
-    step_world p from to (state_of p from to c.args.walk.now) c.walk_on.new.walk c.leave.new.walk c.args.nodes.now.left c.walk_on.new.nodes.left c.leave.new.nodes.left
-    c.in-World.table at c.walk_on.ensures.placed c.leave.ensures.on c.leave.ensures.counted c.walk_on.ensures.came
+    let at : IsAtWorld p to c.walk_untold.new.walk c.walk_untold.new.nodes.left c.in-World.table =
+    subst (IsStop p from to c.walk_untold.new.walk c.walk_untold.new.nodes.left) c.in-World.is c.in_ok-other.ensures.stop in
+    step_world p from to (state_of p from to c.args.walk.now) c.walk_untold.new.walk c.leave.new.walk c.args.nodes.now.left c.walk_untold.new.nodes.left c.leave.new.nodes.left
+    c.in-World.table at c.walk_untold.ensures.placed c.leave.ensures.on c.leave.ensures.counted c.walk_untold.ensures.came
 
 pub returns-in-World-clause-placed : goal.returns-in-World-clause-placed
 returns-in-World-clause-placed c =
     let p = c.args.problem.now in
     let from = c.args.span.now.from in
     let to = c.args.span.now.to in
-    let at : IsAtWorld p to c.walk_on.new.walk c.walk_on.new.nodes.left c.in-World.table =
-    subst (IsStop p from to c.walk_on.new.walk c.walk_on.new.nodes.left) c.in-World.is c.in_ok-other.ensures.stop in
-    placed_world p from to c.walk_on.new.walk c.leave.new.walk c.walk_on.new.nodes.left c.in-World.table at c.walk_on.ensures.placed c.leave.ensures.on
+    let at : IsAtWorld p to c.walk_untold.new.walk c.walk_untold.new.nodes.left c.in-World.table =
+    subst (IsStop p from to c.walk_untold.new.walk c.walk_untold.new.nodes.left) c.in-World.is c.in_ok-other.ensures.stop in
+    placed_world p from to c.walk_untold.new.walk c.leave.new.walk c.walk_untold.new.nodes.left c.in-World.table at c.walk_untold.ensures.placed c.leave.ensures.on

@@ -10,5 +10,5 @@ returns-clause-on c =
 
 pub returns-clause-knows : goal.returns-clause-knows
 returns-clause-knows c = λ standing.
-    beside_first c.args.problem.now c.args.walk.now.path c.in_ok-set.set c.first-walk.result c.requires.alive c.requires.short
-    (c.first-walk.ensures ∙ ap first_of c.next_set.ensures) c.in_ok-set.ensures.each
+    beside_first c.args.problem.now c.args.walk.now.path c.args.set c.first-walk.result c.requires.alive c.requires.short
+    (c.first-walk.ensures ∙ ap first_of c.next_set.ensures) c.requires.open

@@ -1,0 +1,15 @@
+use Rattle.std.proofs.Common.{◌≡◌, Ok, option_map, sym, subst, ◌∙◌}
+use Rattle.cert_reader.specs.Reader.{to_read}
+use Rattle.cert_check.specs.declared.listing.Turn.{Turn}
+use Rattle.cert_check.specs.Whole.{IsTurn, answer_from, verdict_from, ended_answer}
+use Rattle.cert_check.proofs.ReadLemmas.{tells_across}
+use Rattle.cert_check.proofs.checking.check_rest.Goals as goal
+
+pub returns-in-Ok-Ended-clause-answer : goal.returns-in-Ok-Ended-clause-answer
+returns-in-Ok-Ended-clause-answer g c =
+    let now = to_read c.loop-read.reader (g.R.Source.left c.loop-read.source) in
+    let left = to_read c.take_next.new.reader (g.R.Source.left c.take_next.new.source) in
+    let ended : option_map (λ read. answer_from c.loop-read.checker c.loop-read.read read) now ≡ option_map (λ read. ended_answer (verdict_from c.take_next.new.checker c.in-Ok-Ended.to) read.ends) left =
+    subst (λ (turn : Turn). IsTurn c.loop-read.checker c.loop-read.read now c.take_next.new.checker left (Ok turn)) c.in-Ok-Ended.field-0-is c.in-Ok-Ended.ensures.turn in
+    tells_across (λ read. answer_from c.args.checker 1 read) (λ read. ended_answer (verdict_from c.take_next.new.checker c.in-Ok-Ended.to) read.ends)
+    (to_read c.args.reader.now (g.R.Source.left c.args.source.now)) left c.finish.result (sym c.loop-read.invariant.answers ∙ ended) c.finish.ensures.answer

@@ -1,0 +1,47 @@
+-- How the lines of a list of claims are taken.
+use Rattle.std.specs.Prelude.{◌≡◌, ℕ, ◌+◌, Bool, true, false, Option, Some, None, option_map, Result, Ok, Err, IfSome, ⊤}
+use Rattle.world_model.specs.Problem.{Problem}
+use Rattle.cert_text.specs.declared.line.CertLine.{CertLine}
+use Rattle.cert_text.specs.declared.line.CertLine.TheVariants.{Branch, NoPoint, NoRelation}
+use Rattle.cert_rules.specs.Listings.{Going, Ended, Rejected}
+use Rattle.cert_rules.specs.ClaimLists.{ClaimStand, Block, claim_step, subject_tree, stray_kind}
+use Rattle.cert_check.specs.declared.fault.Stop.{Stop}
+use Rattle.cert_check.specs.declared.fault.Stop.TheVariants as stop
+use Rattle.cert_check.specs.declared.listing.Turn.{Turn}
+use Rattle.cert_check.specs.declared.listing.Turn.TheVariants as turn
+use Rattle.cert_check.specs.declared.claims.OpenTree.{OpenTree}
+use Rattle.cert_check.specs.declared.claims.Claims.{Claims}
+use Rattle.cert_tree.specs.Walks.{at_of, IsWalk}
+
+-- an open tree as the rules have it
+abbrev pub block_of : OpenTree → Block
+block_of tree = record { subject = tree.subject; at = at_of tree.walk }
+
+-- where a list of claims stands, with what is open, and with another tree open
+abbrev pub claim_stand : Claims → ClaimStand
+claim_stand claims = record { proof = claims.book; block = option_map block_of claims.block; claims = claims.claims.items }
+
+abbrev pub with_block : Claims → OpenTree → ClaimStand
+with_block claims tree = record { proof = claims.book; block = Some (block_of tree); claims = claims.claims.items }
+
+-- an open tree is that of its subject
+pub record IsBlock (p : Problem) (block : OpenTree) : Type 0 where
+  pub walk : IsWalk block.walk
+  pub tree : block.walk.tree ≡ subject_tree p block.subject
+
+abbrev pub IsOpen : Problem → Option OpenTree → Type 0
+IsOpen p block = IfSome block (IsBlock p)
+
+-- whether a line is about a node of an open tree
+abbrev pub is_node : CertLine → Bool
+is_node (Branch depth last) = true
+is_node (NoPoint depth last need clause) = true
+is_node (NoRelation depth last pair) = true
+is_node line = false
+
+-- a line was taken as the rules take it, whatever its number: they go on, or end there, or reject it
+abbrev pub IsClaimStep : Problem → ClaimStand → CertLine → ClaimStand → Result Turn Stop → Type 0
+IsClaimStep p s line new (Ok turn.Further) = (n : ℕ) → claim_step p (Going n s) line ≡ Going (n + 1) new
+IsClaimStep p s line new (Ok (turn.Ended to)) = (n : ℕ) → claim_step p (Going n s) line ≡ Ended new.claims
+IsClaimStep p s line new (Err (stop.Rejected kind)) = (n : ℕ) → claim_step p (Going n s) line ≡ Rejected (n + 1) kind
+IsClaimStep p s line new (Err stop.NoMemory) = ⊤

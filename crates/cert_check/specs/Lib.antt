@@ -1,0 +1,4 @@
+pub mod Answers
+pub mod Checkers
+pub mod Claiming
+pub mod Whole

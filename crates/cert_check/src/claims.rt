@@ -1,0 +1,278 @@
+//! A list of claims, line by line.
+
+ghost use Rattle.std.specs.Prelude.{◌≡◌, [], IfOk, OnOk, OnErr, None, Some, false};
+ghost use Rattle.world_model.specs.Problem.{Problem, pair_count};
+ghost use Rattle.cert_rules.specs.Trees.{fault_or};
+ghost use Rattle.cert_rules.specs.ClaimLists.{claim_start, claim_role, ForNode, holds_fault, subject_fault, subject_problem, subject_tree, stray_kind};
+ghost use Rattle.cert_text.specs.declared.line.CertLine.TheVariants.{Proof, Holds as HoldsLine, Fails as FailsLine, End};
+ghost use Rattle.cert_check.specs.declared.fault.Stop.TheVariants.{Rejected};
+ghost use Rattle.cert_check.specs.declared.accepted.Accepted.TheVariants.{Claims as AcceptedClaims};
+ghost use Rattle.cert_tree.specs.Walks.{IsWalk, at_of};
+ghost use Rattle.cert_check.specs.Claiming.{IsOpen, IsBlock, claim_stand, block_of, with_block, is_node, IsClaimStep};
+
+use crate::accepted::{Accepted, Claim, ClaimList};
+use crate::fault::{Stop, stop_at};
+use crate::listing::Turn;
+use cert_rules::RejectKind;
+use cert_text::{CertLine, RawFamily, Subject};
+use cert_tree::{Tree, Walk, family_fault, is_branch};
+use constraint_set::Problem;
+use lits_core::Line;
+use point_encode::given_clauses;
+use proof_check::Book;
+use rcc5_core::{Position, RelSet};
+use std::alloc::{AllocError, Global};
+
+/// A tree that is not yet at its end.
+#[derive(Drop)]
+pub(crate) struct OpenTree {
+    pub(crate) subject: Subject,
+    pub(crate) walk: Walk,
+}
+
+impl OpenTree {
+    /// Why a line that is none of a tree is not taken.
+    fn stray(&self) -> Stop
+        ensures { result ≡ Rejected (stray_kind (at_of self.now.walk)) }
+    {
+        if self.walk.expected {
+            Stop::Rejected(RejectKind::MissingBranch)
+        } else {
+            Stop::Rejected(RejectKind::ExtraBranch)
+        }
+    }
+}
+
+/// The lines of a list of claims that were taken so far.
+#[derive(Drop)]
+pub(crate) struct Claims {
+    alloc: Global,
+    pub(crate) problem: Problem,
+    pub(crate) book: Book,
+    pub(crate) block: Option<OpenTree>,
+    pub(crate) claims: Vec<Claim>,
+}
+
+impl Claims {
+    /// No line yet.
+    pub(crate) fn new(alloc: Global, problem: &Problem) -> Result<Claims, AllocError>
+        ensures problem { IfOk result (λ claims. claims.problem ≡ problem.now) }
+        ensures block { IfOk result (λ claims. IsOpen claims.problem claims.block) }
+        ensures start { IfOk result (λ claims. claim_stand claims ≡ claim_start problem.now) }
+    {
+        let book = Book::new(alloc, given_clauses(alloc, problem)?)?;
+        Ok(Claims {
+            alloc,
+            problem: problem.copy()?,
+            book,
+            block: None,
+            claims: Vec::new(alloc),
+        })
+    }
+
+    /// Takes the next line.
+    pub(crate) fn take(&mut self, line: CertLine) -> Result<Turn, Stop>
+        requires { IsOpen self.old.problem self.old.block }
+        ensures step { IsClaimStep self.old.problem (claim_stand self.old) line (claim_stand self.new) result }
+        ensures block { OnOk result (IsOpen self.new.problem self.new.block) }
+        ensures problem { self.new.problem ≡ self.old.problem }
+    {
+        match self.block.take() {
+            Some(block) => self.take_inside(block, line),
+            None => self.take_outside(line),
+        }
+    }
+
+    /// What is accepted at the end.
+    pub(crate) fn accepted(self) -> Accepted
+        ensures { result ≡ AcceptedClaims self.claims.items }
+    {
+        let claims = self.claims;
+        Accepted::Claims(ClaimList::new(claims))
+    }
+
+    fn take_proof(&mut self, line: &Line) -> Result<Turn, Stop>
+        ensures step { IsClaimStep self.old.problem (claim_stand self.old) (Proof line.now) (claim_stand self.new) result }
+        ensures block { self.new.block ≡ self.old.block }
+        ensures problem { self.new.problem ≡ self.old.problem }
+    {
+        match self.book.add_line(line) {
+            Ok(()) => Ok(Turn::Further),
+            Err(fault) => Err(stop_at(fault)),
+        }
+    }
+
+    /// Takes a line where no tree is block.
+    fn take_outside(&mut self, line: CertLine) -> Result<Turn, Stop>
+        requires { self.old.block ≡ None }
+        ensures step { IsClaimStep self.old.problem (claim_stand self.old) line (claim_stand self.new) result }
+        ensures block { OnOk result (IsOpen self.new.problem self.new.block) }
+        ensures problem { self.new.problem ≡ self.old.problem }
+    {
+        match line {
+            CertLine::Proof(line) => self.take_proof(&line),
+            CertLine::Holds { subject, family } => self.take_holding(subject, family),
+            CertLine::Fails { subject } => self.take_failing(subject),
+            CertLine::Done => Ok(Turn::Ended(None)),
+            _ => Err(Stop::Rejected(RejectKind::ExtraBranch)),
+        }
+    }
+
+    fn take_holding(&mut self, subject: Subject, family: RawFamily) -> Result<Turn, Stop>
+        requires { self.old.block ≡ None }
+        ensures step { IsClaimStep self.old.problem (claim_stand self.old) (HoldsLine subject family) (claim_stand self.new) result }
+        ensures block { self.new.block ≡ None }
+        ensures problem { self.new.problem ≡ self.old.problem }
+    {
+        if let Some(kind) = self.holds_fault(&subject, family)? {
+            return Err(Stop::Rejected(kind));
+        }
+        let holds = true;
+        self.claims.push(Claim { subject, holds })?;
+        Ok(Turn::Further)
+    }
+
+    /// What is wrong with a claim that holds, by the words of a family.
+    fn holds_fault(
+        &self,
+        subject: &Subject,
+        family: RawFamily,
+    ) -> Result<Option<RejectKind>, AllocError>
+        ensures { IfOk result (λ fault. fault ≡ holds_fault self.now.problem subject.now family) }
+    {
+        if let Some(kind) = self.subject_fault(subject) {
+            return Ok(Some(kind));
+        }
+        let problem = self.problem_of(subject)?;
+        Ok(family_fault(&problem, family))
+    }
+
+    fn take_failing(&mut self, subject: Subject) -> Result<Turn, Stop>
+        requires { self.old.block ≡ None }
+        ensures step { IsClaimStep self.old.problem (claim_stand self.old) (FailsLine subject) (claim_stand self.new) result }
+        ensures block { OnOk result (IsOpen self.new.problem self.new.block) }
+        ensures problem { self.new.problem ≡ self.old.problem }
+    {
+        if let Some(kind) = self.subject_fault(&subject) {
+            return Err(Stop::Rejected(kind));
+        }
+        self.block = Some(self.block_at(subject)?);
+        Ok(Turn::Further)
+    }
+
+    /// The tree of a subject, with its root expected.
+    fn block_at(&self, subject: Subject) -> Result<OpenTree, AllocError>
+        requires { subject_fault self.now.problem subject ≡ None }
+        ensures tree { IfOk result (λ block. IsBlock self.now.problem block) }
+        ensures subject { IfOk result (λ block. block.subject ≡ subject) }
+        ensures at { IfOk result (λ block. at_of block.walk ≡ Some []) }
+    {
+        let problem = self.problem_of(&subject)?;
+        let tree = Tree::new(self.alloc, problem, false, Position::new(self.alloc))?;
+        let walk = Walk::new(self.alloc, tree);
+        Ok(OpenTree { subject, walk })
+    }
+
+    fn subject_fault(&self, subject: &Subject) -> Option<RejectKind>
+        ensures { result ≡ subject_fault self.now.problem subject.now }
+    {
+        let is_right = match subject {
+            Subject::Narrowed { pair, .. } => *pair < self.problem.pair_count(),
+            Subject::Kept(flags) => {
+                flags.list().len() == self.problem.articulation_count() as usize
+            }
+        };
+        if is_right {
+            None
+        } else {
+            Some(RejectKind::WrongSubject)
+        }
+    }
+
+    fn problem_of(&self, subject: &Subject) -> Result<Problem, AllocError>
+        requires { subject_fault self.now.problem subject.now ≡ None }
+        ensures { IfOk result (λ problem. problem ≡ subject_problem self.now.problem subject.now) }
+    {
+        match subject {
+            Subject::Narrowed { pair, rel } => {
+                self.problem.narrowed(self.alloc, *pair, RelSet::one(*rel))
+            }
+            Subject::Kept(flags) => self.problem.restricted(self.alloc, flags.list()),
+        }
+    }
+
+    /// Takes a line of a tree.
+    fn take_inside(&mut self, block: OpenTree, line: CertLine) -> Result<Turn, Stop>
+        requires closed { self.old.block ≡ None }
+        requires block { IsBlock self.old.problem block }
+        ensures step { IsClaimStep self.old.problem (with_block self.old block) line (claim_stand self.new) result }
+        ensures block { OnOk result (IsOpen self.new.problem self.new.block) }
+        ensures problem { self.new.problem ≡ self.old.problem }
+    {
+        if is_node(&line) {
+            return self.take_node(block, line);
+        }
+        self.take_other(block, line)
+    }
+
+    fn take_node(&mut self, block: OpenTree, line: CertLine) -> Result<Turn, Stop>
+        requires block { IsBlock self.old.problem block }
+        requires node { claim_role line ≡ ForNode }
+        ensures step { IsClaimStep self.old.problem (with_block self.old block) line (claim_stand self.new) result }
+        ensures block { OnOk result (IsOpen self.new.problem self.new.block) }
+        ensures problem { self.new.problem ≡ self.old.problem }
+    {
+        let branches = is_branch(&line);
+        if let Some(kind) = block.walk.tree_fault(&self.book, line) {
+            return Err(Stop::Rejected(kind));
+        }
+        let mut block = block;
+        block.walk.advance(branches)?;
+        self.block = Some(block);
+        Ok(Turn::Further)
+    }
+
+    fn take_other(&mut self, block: OpenTree, line: CertLine) -> Result<Turn, Stop>
+        requires closed { self.old.block ≡ None }
+        requires block { IsBlock self.old.problem block }
+        requires node { is_node line ≡ false }
+        ensures step { IsClaimStep self.old.problem (with_block self.old block) line (claim_stand self.new) result }
+        ensures block { OnOk result (IsOpen self.new.problem self.new.block) }
+        ensures problem { self.new.problem ≡ self.old.problem }
+    {
+        match line {
+            CertLine::Proof(line) => {
+                self.block = Some(block);
+                self.take_proof(&line)
+            }
+            CertLine::End(None) => self.take_end(block),
+            CertLine::Quit => Ok(Turn::Further),
+            _ => Err(block.stray()),
+        }
+    }
+
+    fn take_end(&mut self, block: OpenTree) -> Result<Turn, Stop>
+        requires { self.old.block ≡ None }
+        ensures step { IsClaimStep self.old.problem (with_block self.old block) (End None) (claim_stand self.new) result }
+        ensures block { self.new.block ≡ None }
+        ensures problem { self.new.problem ≡ self.old.problem }
+    {
+        if block.walk.expected {
+            return Err(Stop::Rejected(RejectKind::MissingBranch));
+        }
+        let subject = block.subject;
+        let holds = false;
+        self.claims.push(Claim { subject, holds })?;
+        Ok(Turn::Further)
+    }
+}
+
+/// Whether a line is about a node of a tree of claims.
+fn is_node(line: &CertLine) -> bool
+    ensures { result ≡ is_node line.now }
+{
+    match line {
+        CertLine::Branch { .. } | CertLine::NoPoint { .. } | CertLine::NoRelation { .. } => true,
+        _ => false,
+    }
+}

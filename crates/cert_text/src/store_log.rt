@@ -1,0 +1,115 @@
+//! A log over a store.
+
+ghost use Rattle.std.specs.Prelude.{◌≡◌, ◌++◌, ◌∷◌, [], false, OnOk, OnErr};
+ghost use Rattle.outer_store.specs.Bytes.{added};
+ghost use Rattle.outer_store.specs.Contents.{OthersKept};
+ghost use Rattle.outer_store.specs.Faults.{Rose, NoneFell, IfFailed};
+ghost use Rattle.cert_text.specs.Lines.{cert_text, IdsFromOne, IsCertLine};
+ghost use Rattle.cert_text.specs.Logs.{lines_held, IsToldWith};
+ghost use Rattle.cert_text.specs.StoreLogs.{log_store, log_name, is_refused, OnlyWritten, OnlyWritten-stays, OnlyWritten-joins};
+
+use crate::line::CertLine;
+use crate::log::TreeLog;
+use crate::printing::put_whole;
+use outer_store::{Store, StoreFault};
+use std::alloc::Global;
+
+/// The log that prints each line to the end of what a name of a store holds, by one `append` a line.
+#[derive(Drop)]
+pub struct StoreLog<'a, S: Store> {
+    store: &'a mut S,
+    name: &'a str,
+    alloc: Global,
+    /// The text of the last line. Its room is used again.
+    text: Vec<u8>,
+    /// Whether a line was refused.
+    refused: bool,
+}
+
+impl<'a, S: Store> StoreLog<'a, S> {
+    /// A log that goes on behind what the name holds.
+    pub fn new(alloc: Global, store: &'a mut S, name: &'a str) -> Self
+        ensures same_reference { (log_store result).ghost_name ≡ store.entry.ghost_name }
+        ensures store { (log_store result).now ≡ store.old }
+        ensures name { log_name result ≡ name.entry }
+        ensures refused { is_refused result ≡ false }
+        ensures told { lines_held (is_refused result) (S.held (log_store result).now (log_name result).now) ≡ lines_held false (S.held store.old name.now) }
+    {
+        StoreLog {
+            store,
+            name,
+            alloc,
+            text: Vec::new(alloc),
+            refused: false,
+        }
+    }
+}
+
+// Prints a line, and adds its text to what a name holds.
+fn append_line<S: Store>(
+    alloc: Global,
+    store: &mut S,
+    name: &str,
+    text: &mut Vec<u8>,
+    line: &CertLine,
+) -> Result<(), StoreFault>
+    requires { IdsFromOne line.now }
+    ensures told { OnOk result (IsToldWith (lines_held false (S.held store.old name.now)) line.now (lines_held false (S.held store.new name.now))) }
+    ensures written { OnlyWritten name.now (S.held store.old) (S.held store.new)
+        (S.read_faults store.old) (S.read_faults store.new) (S.write_faults store.old) (S.write_faults store.new) }
+    ensures cause { IfFailed result (Rose (S.write_faults store.old name.now) (S.write_faults store.new name.now)) (S.write_faults store.new ≡ S.write_faults store.old) }
+{
+    text.clear();
+    put_whole(alloc, text, line)?;
+    store.append(name, text)
+}
+
+impl<'a, S: Store> TreeLog for StoreLog<'a, S> {
+    ghost use Rattle.std.specs.Prelude.{refl};
+    ghost use Rattle.std.proofs.Common.{◌∙◌, subst};
+
+    ghost drops = { λ _. false };
+
+    ghost lines = { λ l. lines_held (is_refused l) (S.held (log_store l).now (log_name l).now) };
+
+    ghost faults = { λ l. S.write_faults (log_store l).now (log_name l).now };
+
+    ghost steady = { λ a b. (log_name b ≡ log_name a)
+        × ((log_store b).ghost_name ≡ (log_store a).ghost_name)
+        × OnlyWritten (log_name a).now (S.held (log_store a).now) (S.held (log_store b).now)
+        (S.read_faults (log_store a).now) (S.read_faults (log_store b).now)
+        (S.write_faults (log_store a).now) (S.write_faults (log_store b).now) };
+
+    fn put_line(&mut self, line: &CertLine) -> Result<(), StoreFault> {
+        let put = append_line(self.alloc, self.store, self.name, &mut self.text, line);
+        if put.is_err() {
+            self.refused = true;
+        }
+        put
+    }
+
+    fn is_dropping(&self) -> bool {
+        false
+    }
+
+    ghost tells_none = { λ log e. absurd (cc) };
+
+    ghost steady_stays = { λ s. (
+      refl,
+      refl,
+      OnlyWritten-stays (log_name s).now (S.held (log_store s).now)
+          (S.read_faults (log_store s).now) (S.write_faults (log_store s).now),
+    ) };
+
+    ghost steady_joins = { λ a b c first second. (
+      second.0 ∙ first.0,
+      second.1 ∙ first.1,
+      OnlyWritten-joins (log_name a).now
+          (S.held (log_store a).now) (S.held (log_store b).now) (S.held (log_store c).now)
+          (S.read_faults (log_store a).now) (S.read_faults (log_store b).now) (S.read_faults (log_store c).now)
+          (S.write_faults (log_store a).now) (S.write_faults (log_store b).now) (S.write_faults (log_store c).now)
+          first.2 (subst (λ n. OnlyWritten n.now (S.held (log_store b).now) (S.held (log_store c).now)
+          (S.read_faults (log_store b).now) (S.read_faults (log_store c).now)
+          (S.write_faults (log_store b).now) (S.write_faults (log_store c).now)) first.0 second.2),
+    ) };
+}

@@ -1,0 +1,5 @@
+pub mod LevelLemmas
+pub mod TreeLemmas
+pub mod NeedLemmas
+pub mod WalkLemmas
+pub mod PositionLemmas

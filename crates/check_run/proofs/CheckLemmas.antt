@@ -1,0 +1,207 @@
+-- How a check ends, by its parts.
+use Rattle.std.proofs.Common.{◌≡◌, ℕ, List, Option, None, Some, IfSome, IfOk, IfErr, Result, Ok, Err, refl, sym, ap, subst, ◌∙◌, inl, inr, ⊎_elim, arith, take}
+use Rattle.std.specs.Prelude.{⊤}
+use Rattle.outer_store.specs.Contents.{Contents}
+use Rattle.outer_store.specs.Faults.{Rose}
+use Rattle.outer_store.specs.declared.fault.StoreFault.{StoreFault}
+use Rattle.outer_store.specs.declared.fault.StoreFault.TheVariants as store_fault
+use Rattle.world_model.specs.declared.Switches.{Switches}
+use Rattle.world_model.specs.Problem.{Problem}
+use Rattle.cleantax_text.specs.declared.TextKind.{TextKind}
+use Rattle.cleantax_text.specs.Reading.{text_result}
+use Rattle.cert_reader.specs.Reading.{reading}
+use Rattle.cert_rules.specs.Files.{Verdict}
+use Rattle.cert_check.specs.Answers.{verdict_of, IsAnswerOf, IfReadFault}
+use Rattle.cert_check.specs.declared.accepted.Accepted.{Accepted}
+use Rattle.cert_check.specs.declared.fault.CheckFault.{CheckFault}
+use Rattle.cert_check.specs.declared.fault.CheckFault.TheVariants as fault
+use Rattle.run_ends.specs.declared.Status.{Status}
+use Rattle.run_ends.specs.declared.Status.TheVariants as status
+use Rattle.run_ends.specs.Ends.{end_line}
+use Rattle.run_ends.specs.Reads.{problem_by, problem_in, ComesOf, IsWithout}
+use Rattle.run_ends.specs.Runs.{StoreState, SinkState, IsQuiet, Answered, ending_of, IsEarlyEnd, IsCarriedOut}
+use Rattle.run_ends.proofs.ReadLemmas.{text_cut}
+use Rattle.check_run.specs.Checking.{verdict_text, status_by, text_by, IsCertAnswer, IsAnswerBy, IsCheckAnswer, check_names}
+use Rattle.check_run.specs.Steps.{status_of, IsAccepted, IsNotAccepted, IsVerdictOf, IsPutAnswer}
+
+-- bytes that agree with what is told of a name, and say the same as its front does
+record IsText (told : Option (List ℕ)) (switches : Switches) (front : List ℕ) : Type 0 where
+  bytes : List ℕ
+  told_are : IfSome told (λ all. bytes ≡ all)
+  same : text_result bytes switches ≡ text_result front switches
+
+text_of : (told : Option (List ℕ)) (switches : Switches) (front : List ℕ) → IfSome told (λ all. front ≡ take 1048577 all) → IsText told switches front
+text_of None switches front is = record { bytes = front; told_are = tt; same = refl }
+text_of (Some all) switches front is = record {
+  bytes = all;
+  told_are = refl;
+  same = sym (ap (λ (bs : List ℕ). text_result bs switches) is ∙ text_cut all switches);
+}
+
+-- what a text says by how a run goes on
+said_ok : (r : Result Problem (ℕ × TextKind)) (p : Problem) → problem_by r ≡ Ok p → r ≡ Ok p
+said_ok (Ok q) p e = cc
+said_ok (Err f) p e = cc
+
+err_same : {X E : Type 0} (a b : E) (x : Result X E) → x ≡ Err a → x ≡ Err b → a ≡ b
+err_same a b x p q = cc
+
+said_err : (r : Result Problem (ℕ × TextKind)) (told : Option (List ℕ)) (s : Status) → problem_by r ≡ Err s → IsAnswerBy r told s (end_line s) × (ending_of s ≡ Answered)
+said_err (Ok q) told s e = cc
+said_err (Err f) told s e =
+    let same : s ≡ status.RefusedText f.0 f.1 = sym (err_same (status.RefusedText f.0 f.1) s (Err (status.RefusedText f.0 f.1)) refl e) in
+    ((same, ap end_line same), ap ending_of same)
+
+-- a run that has no problem
+pub without_problem : (input cert : List ℕ) (switches : Switches) (s : Status) (one other : StoreState) → IsWithout input (problem_in switches) s one other
+    → IsEarlyEnd (check_names input cert) (IsCheckAnswer input cert switches) s one other
+without_problem input cert switches s one other end = ⊎_elim
+    (λ refused.
+    let text = text_of (one.held input) switches refused.0.bytes refused.0.front in
+    let said = said_err (text_result refused.0.bytes switches) (one.held cert) s refused.0.judged in
+    inl (
+      record {
+        bytes = text.bytes;
+        told = text.told_are;
+        answer = subst (λ r. IsAnswerBy r (one.held cert) s (end_line s)) (sym text.same) said.0;
+        none_written = refl;
+      },
+      said.1,
+      refused.1,
+    ))
+    (λ unread. ⊎_elim
+    (λ failed. inr (inl (failed.0, record { name = input; named = (0, omega arith, refl); rose = failed.1 })))
+    (λ starved. inr (inr starved))
+    unread)
+    end
+
+-- one whose certificate is not accepted
+pub without_cert : (input cert : List ℕ) (switches : Switches) (p : Problem) (s : Status) (one mid other : StoreState) → mid ≡ one
+    → ComesOf one.held input (problem_in switches) (Ok p) → IsNotAccepted p cert s mid other
+    → IsEarlyEnd (check_names input cert) (IsCheckAnswer input cert switches) s one other
+without_cert input cert switches p s one mid other same comes end = by (subst (λ (state : StoreState). IsNotAccepted p cert s state other) same end)
+  where
+    by : IsNotAccepted p cert s one other → IsEarlyEnd (check_names input cert) (IsCheckAnswer input cert switches) s one other
+    by end = ⊎_elim
+        (λ refused.
+        let text = text_of (one.held input) switches comes.bytes comes.front in
+        let is = text.same ∙ said_ok (text_result comes.bytes switches) p comes.judged in
+        inl (
+          record {
+            bytes = text.bytes;
+            told = text.told_are;
+            answer = subst (λ r. IsAnswerBy r (one.held cert) s (end_line s)) (sym is) refused.answer;
+            none_written = refl;
+          },
+          refused.answered,
+          refused.quiet,
+        ))
+        (λ unread. ⊎_elim
+        (λ failed. inr (inl (failed.0, record { name = cert; named = (1, omega arith, refl); rose = failed.1 })))
+        (λ starved. inr (inr starved))
+        unread)
+        end
+
+-- one whose certificate is accepted
+pub verdict_found : (input cert : List ℕ) (switches : Switches) (p : Problem) (v : Verdict) (one mid : Contents) → mid ≡ one
+    → ComesOf one input (problem_in switches) (Ok p) → IsAccepted p (mid cert) v → IsVerdictOf input cert switches one v
+verdict_found input cert switches p v one mid same comes accepted =
+    let text = text_of (one input) switches comes.bytes comes.front in
+    record {
+      bytes = text.bytes;
+      told = text.told_are;
+      problem = p;
+      is = text.same ∙ said_ok (text_result comes.bytes switches) p comes.judged;
+      accepted = subst (λ (held : Contents). IsAccepted p (held cert) v) same accepted;
+    }
+
+accepted_answer : (p : Problem) (told : Option (List ℕ)) (v : Verdict) → IsAccepted p told v → IsCertAnswer p told status.Done (verdict_text v)
+accepted_answer p None v accepted = tt
+accepted_answer p (Some bytes) v accepted = (ap status_by (sym accepted), ap text_by (sym accepted))
+
+verdict_answer : (input cert : List ℕ) (switches : Switches) (held : Contents) (v : Verdict) → IsVerdictOf input cert switches held v
+    → IsCheckAnswer input cert switches held status.Done (verdict_text v) None
+verdict_answer input cert switches held v found = record {
+  bytes = found.bytes;
+  told = found.told;
+  answer = subst (λ r. IsAnswerBy r (held cert) status.Done (verdict_text v)) (sym found.is) (accepted_answer found.problem (held cert) v found.accepted);
+  none_written = refl;
+}
+
+pub carried : (input cert : List ℕ) (switches : Switches) (v : Verdict) (r : Result Status StoreFault) (one other : StoreState) (old new : SinkState)
+    → IsVerdictOf input cert switches one.held v → other.held ≡ one.held → IsQuiet one other → IsPutAnswer r v old new
+    → IsCarriedOut (IsCheckAnswer input cert switches) r None one other old new
+carried input cert switches v (Ok s) one other old new found kept quiet put = record {
+  done = record {
+    text = verdict_text v;
+    file = None;
+    asked = subst (λ x. IsCheckAnswer input cert switches one.held x (verdict_text v) None) (sym put.ok.0) (verdict_answer input cert switches one.held v found);
+    answered = ap ending_of put.ok.0;
+    put = put.ok.1;
+    written = kept;
+  };
+  refused = tt;
+  by_cause = record { cause = (quiet, put.cause); kept = kept };
+}
+carried input cert switches v (Err store_fault.Failed) one other old new found kept quiet put = record {
+  done = tt;
+  refused = record {
+    status = status.Done;
+    text = verdict_text v;
+    file = None;
+    asked = verdict_answer input cert switches one.held v found;
+    part = put.err;
+  };
+  by_cause = record { cause = inl (put.cause, quiet); kept = kept };
+}
+carried input cert switches v (Err store_fault.NoMemory) one other old new found kept quiet put = record {
+  done = tt;
+  refused = record {
+    status = status.Done;
+    text = verdict_text v;
+    file = None;
+    asked = verdict_answer input cert switches one.held v found;
+    part = put.err;
+  };
+  by_cause = record { cause = (quiet, put.cause); kept = kept };
+}
+
+-- what a check answers, by what it tells of the bytes
+pub accepted_told : (p : Problem) (told : Option (List ℕ)) (a : Accepted) → IfSome told (λ bytes. IsAnswerOf p (reading bytes) (Ok a)) → IsAccepted p told (verdict_of a)
+accepted_told p None a said = tt
+accepted_told p (Some bytes) a said = said
+
+told_of : (p : Problem) (told : Option (List ℕ)) (f : CheckFault) → IfSome told (λ bytes. IsAnswerOf p (reading bytes) (Err f)) → ending_of (status_of f) ≡ Answered
+    → IsCertAnswer p told (status_of f) (end_line (status_of f))
+told_of p None f said answered = tt
+told_of p (Some bytes) (fault.Text n kind) said answered = (ap status_by (sym said), ap text_by (sym said))
+told_of p (Some bytes) (fault.Rejected n kind) said answered = (ap status_by (sym said), ap text_by (sym said))
+told_of p (Some bytes) fault.ReadFault said answered = cc
+told_of p (Some bytes) fault.NoMemory said answered = cc
+
+-- why it does not accept
+pub unaccepted : (p : Problem) (cert : List ℕ) (f : CheckFault) (s : Status) (one other : StoreState) → s ≡ status_of f
+    → IfSome (one.held cert) (λ bytes. IsAnswerOf p (reading bytes) (Err f)) → IfReadFault {T = Accepted} (Err f) (Rose (one.reads cert) (other.reads cert)) ⊤
+    → IfReadFault {T = Accepted} (Err f) ⊤ (IsQuiet one other) → IsNotAccepted p cert s one other
+unaccepted p cert (fault.Text n kind) s one other is said cause quiet =
+    subst (λ x. IsNotAccepted p cert x one other) (sym is) (inl (record { answer = told_of p (one.held cert) (fault.Text n kind) said refl; answered = refl; quiet = quiet }))
+unaccepted p cert (fault.Rejected n kind) s one other is said cause quiet =
+    subst (λ x. IsNotAccepted p cert x one other) (sym is) (inl (record { answer = told_of p (one.held cert) (fault.Rejected n kind) said refl; answered = refl; quiet = quiet }))
+unaccepted p cert fault.ReadFault s one other is said cause quiet = inr (inl (is, cause))
+unaccepted p cert fault.NoMemory s one other is said cause quiet = inr (inr (is, quiet))
+
+-- the same of an answer that may be either
+pub if_err : {X E : Type 0} (r : Result X E) (P : E → Type 0) (fault : E) → P fault → r ≡ Err fault → IfErr r P
+if_err (Ok value) P fault fact e = tt
+if_err (Err other) P fault fact e = subst P (sym (err_same other fault (Err other) refl e)) fact
+
+pub found_ok : (r : Result Accepted Status) (input cert : List ℕ) (switches : Switches) (p : Problem) (one mid : Contents) → mid ≡ one
+    → ComesOf one input (problem_in switches) (Ok p) → IfOk r (λ a. IsAccepted p (mid cert) (verdict_of a)) → IfOk r (λ a. IsVerdictOf input cert switches one (verdict_of a))
+found_ok (Ok a) input cert switches p one mid same comes accepted = verdict_found input cert switches p (verdict_of a) one mid same comes accepted
+found_ok (Err s) input cert switches p one mid same comes accepted = tt
+
+pub ended_err : (r : Result Accepted Status) (input cert : List ℕ) (switches : Switches) (p : Problem) (one mid other : StoreState) → mid ≡ one
+    → ComesOf one.held input (problem_in switches) (Ok p) → IfErr r (λ s. IsNotAccepted p cert s mid other)
+    → IfErr r (λ s. IsEarlyEnd (check_names input cert) (IsCheckAnswer input cert switches) s one other)
+ended_err (Ok a) input cert switches p one mid other same comes end = tt
+ended_err (Err s) input cert switches p one mid other same comes end = without_cert input cert switches p s one mid other same comes end

@@ -1,0 +1,10 @@
+use Rattle.std.proofs.Common.{◌≡◌, take, flat_map}
+use Rattle.outer_store.specs.Bytes.{added}
+use Rattle.run_ends.specs.Ends.{world_line}
+use Rattle.check_run.proofs.verdict.put_worlds.Given as goal
+
+abbrev pub invariant-worlds : goal.invariant-worlds
+invariant-worlds g l = record {
+  put : g.W.Sink.received l.out ≡ added (g.W.Sink.received l.initial.out) (flat_map world_line (take l.world-index l.worlds));
+  faults : g.W.Sink.faults l.out ≡ g.W.Sink.faults l.initial.out;
+}

@@ -1,0 +1,4 @@
+pub mod Json
+pub mod Laws
+pub mod Merged
+pub mod Text

@@ -1,0 +1,45 @@
+-- What comes of the bytes that a store holds under a name.
+use Rattle.std.specs.Prelude.{◌≡◌, ℕ, List, IfSome, Result, Ok, Err, take, ◌⊎◌}
+use Rattle.outer_store.specs.Contents.{Contents}
+use Rattle.outer_store.specs.Faults.{Rose}
+use Rattle.world_model.specs.declared.Switches.{Switches}
+use Rattle.world_model.specs.Problem.{Problem}
+use Rattle.cleantax_text.specs.declared.TextKind.{TextKind}
+use Rattle.cleantax_text.specs.Reading.{text_result}
+use Rattle.run_ends.specs.declared.Status.{Status}
+use Rattle.run_ends.specs.declared.Status.TheVariants.{RefusedText, ReadFault, NoMemory}
+use Rattle.run_ends.specs.Runs.{StoreState, IsQuiet}
+
+-- names hold these bytes, by all that the store tells
+abbrev pub AreHeld : (List ℕ → List ℕ) → Contents → Type 0
+AreHeld bytes held = (name : List ℕ) → IfSome (held name) (λ told. bytes name ≡ told)
+
+-- bytes that are the first of what a name holds, where that is told: as many as are read
+abbrev pub AreFront : Contents → List ℕ → List ℕ → Type 0
+AreFront held name bytes = IfSome (held name) (λ told. bytes ≡ take 1048577 told)
+
+-- a problem, or how a run ends whose text is refused
+abbrev pub problem_by : Result Problem (ℕ × TextKind) → Result Problem Status
+problem_by (Ok p) = Ok p
+problem_by (Err fault) = Err (RefusedText fault.0 fault.1)
+
+abbrev pub problem_in : Switches → List ℕ → Result Problem Status
+problem_in switches bytes = problem_by (text_result bytes switches)
+
+-- bytes are refused with this status, or memory was wanting
+abbrev pub IsRefused : {X : Type 0} → Result X Status → Status → Type 0
+IsRefused judged status = (status ≡ NoMemory) ⊎ (judged ≡ Err status)
+
+-- what comes of the bytes that a name holds
+pub record ComesOf {X : Type 0} (held : Contents) (name : List ℕ) (judge : List ℕ → Result X Status) (outcome : Result X Status) : Type 0 where
+  pub bytes : List ℕ
+  pub front : AreFront held name bytes
+  pub judged : judge bytes ≡ outcome
+
+-- why the bytes of a name were not read
+abbrev pub IsUnread : List ℕ → Status → StoreState → StoreState → Type 0
+IsUnread name status one other = ((status ≡ ReadFault) × Rose (one.reads name) (other.reads name)) ⊎ ((status ≡ NoMemory) × IsQuiet one other)
+
+-- why nothing came of them
+abbrev pub IsWithout : {X : Type 0} → List ℕ → (List ℕ → Result X Status) → Status → StoreState → StoreState → Type 0
+IsWithout name judge status one other = (ComesOf one.held name judge (Err status) × IsQuiet one other) ⊎ IsUnread name status one other

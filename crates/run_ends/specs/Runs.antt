@@ -1,0 +1,203 @@
+-- How a run ends: its status beside what it put on the sink and what failed in it, for a command with any answers.
+use Rattle.std.specs.Prelude.{◌≡◌, ◌≤◌, ℕ, List, [], ◌∷◌, Option, None, Some, IfOk, OnErr, Result, Contains, ◌⊎◌, option_map}
+use Rattle.outer_store.specs.Bytes.{GrownInPart, added}
+use Rattle.outer_store.specs.Contents.{Contents, OthersKept}
+use Rattle.outer_store.specs.Faults.{Counts, Rose, IfFailed}
+use Rattle.outer_store.specs.declared.fault.StoreFault.{StoreFault}
+use Rattle.run_ends.specs.declared.Status.{Status}
+use Rattle.run_ends.specs.declared.Status.TheVariants.{Done, RefusedText, Usage, ReadFault, WriteFault, Cut, NoWorld, RefusedToken, RefusedCert, Rejected, NoMemory}
+use Rattle.run_ends.specs.Ends.{end_line}
+
+-- the four ways in which a run ends: it answers, a read failed, a write failed, or memory was wanting
+pub data Ending : Type 0 where
+  Answered : Ending
+  ReadFailed : Ending
+  WriteFailed : Ending
+  Starved : Ending
+
+-- the way in which a run with this status ends
+abbrev pub ending_of : Status → Ending
+ending_of Done = Answered
+ending_of (RefusedText line kind) = Answered
+ending_of (Usage kind) = Answered
+ending_of ReadFault = ReadFailed
+ending_of WriteFault = WriteFailed
+ending_of (Cut at) = Answered
+ending_of NoWorld = Answered
+ending_of (RefusedToken kind) = Answered
+ending_of (RefusedCert line kind) = Answered
+ending_of (Rejected line kind) = Answered
+ending_of NoMemory = Starved
+
+-- what is told of a store at one moment: what it holds, and how many reads and writes failed under each name
+pub record StoreState : Type 0 where
+  pub held : Contents
+  pub reads : Counts
+  pub writes : Counts
+
+-- what is told of a sink at one moment: the bytes that it received, and how many puts failed
+pub record SinkState : Type 0 where
+  pub bytes : Option (List ℕ)
+  pub faults : ℕ
+
+abbrev pub store_state : Contents → Counts → Counts → StoreState
+store_state held reads writes = record { held = held; reads = reads; writes = writes }
+
+abbrev pub sink_state : Option (List ℕ) → ℕ → SinkState
+sink_state bytes faults = record { bytes = bytes; faults = faults }
+
+-- what a call leaves on a sink: what is so after Ok, and after a fault; and a failed put has its cause
+pub record Leaves {T : Type 0} (result : Result T StoreFault) (done : T → Type 0) (refused : Type 0) (old new : SinkState) : Type 0 where
+  pub ok : IfOk result done
+  pub err : OnErr result refused
+  pub cause : IfFailed result (Rose old.faults new.faults) (new.faults ≡ old.faults)
+  pub later : old.faults ≤ new.faults
+
+-- a piece is put, and after a fault a first part of it
+abbrev pub LeavesPiece : {T : Type 0} → Result T StoreFault → List ℕ → SinkState → SinkState → Type 0
+LeavesPiece result piece old new = Leaves result (λ _. new.bytes ≡ added old.bytes piece) (GrownInPart old.bytes new.bytes piece) old new
+
+-- no call of the store failed
+abbrev pub IsQuiet : StoreState → StoreState → Type 0
+IsQuiet old new = (new.reads ≡ old.reads) × (new.writes ≡ old.writes)
+
+-- the answers of a command: the status, the text that is put and the bytes that are written, by what is told of what names hold
+abbrev pub Answers : Type 1
+Answers = Contents → Status → List ℕ → Option (List ℕ) → Type 0
+
+-- a command: the names that it reads, and the one that it may write, if any
+pub record Names : Type 0 where
+  pub read : List (List ℕ)
+  pub written : Option (List ℕ)
+
+-- the read count of one of some names rose
+pub record HasReadFailed (names : List (List ℕ)) (before now : Counts) : Type 0 where
+  pub name : List ℕ
+  pub named : Contains names name
+  pub rose : Rose (before name) (now name)
+
+-- the write count of the name that may be written rose
+abbrev pub HasWriteFailed : Option (List ℕ) → Counts → Counts → Type 0
+HasWriteFailed None before now = ⊥
+HasWriteFailed (Some name) before now = Rose (before name) (now name)
+
+-- all but one name, if any, hold what they held
+abbrev pub IsKeptBut : Option (List ℕ) → Contents → Contents → Type 0
+IsKeptBut None old new = new ≡ old
+IsKeptBut (Some name) old new = OthersKept name old new
+
+-- these bytes are written under a name, where there are some; all else is kept
+abbrev pub IsWritten : Option (List ℕ) → Option (List ℕ) → Contents → Contents → Type 0
+IsWritten name None old new = new ≡ old
+IsWritten None (Some bytes) old new = ⊥
+IsWritten (Some name) (Some bytes) old new = (new name ≡ option_map (λ _. bytes) (old name)) × OthersKept name old new
+
+-- a first part of a text, and then of the line that says that memory was wanting
+pub record IsCutShort (old new : Option (List ℕ)) (text : List ℕ) : Type 0 where
+  pub between : Option (List ℕ)
+  pub begun : GrownInPart old between text
+  pub ended : GrownInPart between new (end_line NoMemory)
+
+-- the text of an answer, or nothing
+abbrev pub IsAskedText : Answers → Contents → List ℕ → Type 0
+IsAskedText answers held text = ((status : Status) × (file : Option (List ℕ)) × answers held status text file) ⊎ (text ≡ [])
+
+-- an answer's text, or nothing, cut short
+pub record IsPutInPart (answers : Answers) (held : Contents) (old new : Option (List ℕ)) : Type 0 where
+  pub text : List ℕ
+  pub of_answer : IsAskedText answers held text
+  pub cut : IsCutShort old new text
+
+-- the answer is put whole and what it writes is written, and no call failed
+pub record IsAnswered (names : Names) (answers : Answers) (status : Status) (store store' : StoreState) (sink sink' : SinkState) : Type 0 where
+  pub text : List ℕ
+  pub file : Option (List ℕ)
+  pub asked : answers store.held status text file
+  pub put : sink'.bytes ≡ added sink.bytes text
+  pub written : IsWritten names.written file store.held store'.held
+  pub quiet : IsQuiet store store'
+  pub no_put_failed : sink'.faults ≡ sink.faults
+
+-- a read failed, and the line that says so is all that is put
+pub record IsReadEnd (names : Names) (store store' : StoreState) (sink sink' : SinkState) : Type 0 where
+  pub failed : HasReadFailed names.read store.reads store'.reads
+  pub said : sink'.bytes ≡ added sink.bytes (end_line ReadFault)
+  pub kept : store'.held ≡ store.held
+  pub no_put_failed : sink'.faults ≡ sink.faults
+
+-- a read failed, and a first part of the line that says so is put; or no call of the store failed, and the answer is put in part
+abbrev pub IsInterrupted : Names → Answers → StoreState → StoreState → SinkState → SinkState → Type 0
+IsInterrupted names answers store store' sink sink' =
+    (HasReadFailed names.read store.reads store'.reads × GrownInPart sink.bytes sink'.bytes (end_line ReadFault))
+    ⊎ (IsQuiet store store' × IsPutInPart answers store.held sink.bytes sink'.bytes)
+
+-- a put failed
+abbrev pub IsPutFailed : Names → Answers → StoreState → StoreState → SinkState → SinkState → Type 0
+IsPutFailed names answers store store' sink sink' = Rose sink.faults sink'.faults × IsInterrupted names answers store store' sink sink'
+
+-- a write of the name failed, when the answer was put in part; nothing is told of the counts of reads and of other names then, since a
+-- store may have one count for all
+pub record IsFileFailed (names : Names) (answers : Answers) (store store' : StoreState) (sink sink' : SinkState) : Type 0 where
+  pub failed : HasWriteFailed names.written store.writes store'.writes
+  pub put : IsPutInPart answers store.held sink.bytes sink'.bytes
+  pub no_put_failed : sink'.faults ≡ sink.faults
+
+-- a put failed, or a write of the name
+pub record IsWriteEnd (names : Names) (answers : Answers) (store store' : StoreState) (sink sink' : SinkState) : Type 0 where
+  pub cause : IsPutFailed names answers store store' sink sink' ⊎ IsFileFailed names answers store store' sink sink'
+  pub kept : IsKeptBut names.written store.held store'.held
+
+-- memory was wanting
+pub record IsStarvedEnd (names : Names) (answers : Answers) (store store' : StoreState) (sink sink' : SinkState) : Type 0 where
+  pub no_put_failed : sink'.faults ≡ sink.faults
+  pub put : IsInterrupted names answers store store' sink sink'
+  pub kept : IsKeptBut names.written store.held store'.held
+
+-- what a run over a store and a sink does, by the way in which it ends: what it put and wrote, and which calls failed in it
+abbrev pub IsRunBy : Ending → Names → Answers → Status → StoreState → StoreState → SinkState → SinkState → Type 0
+IsRunBy Answered names answers status store store' sink sink' = IsAnswered names answers status store store' sink sink'
+IsRunBy ReadFailed names answers status store store' sink sink' = IsReadEnd names store store' sink sink'
+IsRunBy WriteFailed names answers status store store' sink sink' = IsWriteEnd names answers store store' sink sink'
+IsRunBy Starved names answers status store store' sink sink' = IsStarvedEnd names answers store store' sink sink'
+
+abbrev pub IsRunOf : Names → Answers → Status → StoreState → StoreState → SinkState → SinkState → Type 0
+IsRunOf names answers status store store' sink sink' = IsRunBy (ending_of status) names answers status store store' sink sink'
+
+-- why a run ends before anything is put: its answer is a last line alone, a read failed, or memory was wanting
+abbrev pub IsEarlyEnd : Names → Answers → Status → StoreState → StoreState → Type 0
+IsEarlyEnd names answers status one other =
+    (answers one.held status (end_line status) None × (ending_of status ≡ Answered) × IsQuiet one other)
+    ⊎ (((status ≡ ReadFault) × HasReadFailed names.read one.reads other.reads) ⊎ ((status ≡ NoMemory) × IsQuiet one other))
+
+-- a put failed and no call of the store; or a write of the name and no put
+abbrev pub IsWriteCause : Option (List ℕ) → StoreState → StoreState → SinkState → SinkState → Type 0
+IsWriteCause name store store' sink sink' =
+    (Rose sink.faults sink'.faults × IsQuiet store store') ⊎ (HasWriteFailed name store.writes store'.writes × (sink'.faults ≡ sink.faults))
+
+-- which calls failed where an answer is put and written, and what is kept
+pub record IsByCause (result : Result Status StoreFault) (name : Option (List ℕ)) (store store' : StoreState) (sink sink' : SinkState) : Type 0 where
+  pub cause : IfFailed result (IsWriteCause name store store' sink sink') (IsQuiet store store' × (sink'.faults ≡ sink.faults))
+  pub kept : IsKeptBut name store.held store'.held
+
+-- an answer is put and what it writes is written
+pub record IsPutWhole (answers : Answers) (status : Status) (name : Option (List ℕ)) (store store' : StoreState) (sink sink' : SinkState) : Type 0 where
+  pub text : List ℕ
+  pub file : Option (List ℕ)
+  pub asked : answers store.held status text file
+  pub answered : ending_of status ≡ Answered
+  pub put : sink'.bytes ≡ added sink.bytes text
+  pub written : IsWritten name file store.held store'.held
+
+-- a first part of an answer's text is put
+pub record IsPutPart (answers : Answers) (store : StoreState) (sink sink' : SinkState) : Type 0 where
+  pub status : Status
+  pub text : List ℕ
+  pub file : Option (List ℕ)
+  pub asked : answers store.held status text file
+  pub part : GrownInPart sink.bytes sink'.bytes text
+
+-- an answer is put and written, or a first part of its text is put
+pub record IsCarriedOut (answers : Answers) (result : Result Status StoreFault) (name : Option (List ℕ)) (store store' : StoreState) (sink sink' : SinkState) : Type 0 where
+  pub done : IfOk result (λ status. IsPutWhole answers status name store store' sink sink')
+  pub refused : OnErr result (IsPutPart answers store sink sink')
+  pub by_cause : IsByCause result name store store' sink sink'

@@ -1,0 +1,145 @@
+//! Lines on a sink.
+ghost use Rattle.std.specs.Prelude.{◌≡◌, ◌≤◌, string_bytes, IfOk, OnOk, OnErr};
+ghost use Rattle.outer_store.specs.Bytes.{GrownInPart, added};
+ghost use Rattle.outer_store.specs.Faults.{Rose, IfFailed};
+ghost use Rattle.run_ends.specs.Ends.{line_of, refused_words, usage_words, token_words, cert_words, rejected_words, end_line, IsLastPut};
+ghost use Rattle.run_ends.specs.Runs.{sink_state, LeavesPiece};
+
+use crate::{Status, cert_name, reject_name, text_name, token_name};
+use cert_reader::CertTextKind;
+use cert_rules::RejectKind;
+use cleantax_text::TextKind;
+use command_line::UsageKind;
+use outer_store::{Sink, StoreFault};
+use resume_token::TokenKind;
+use std::alloc::{AllocError, Global};
+
+/// Puts a line, its words and its end, in one put.
+pub fn put_line<W: Sink>(alloc: Global, out: &mut W, words: &[u8]) -> Result<(), StoreFault>
+    ensures { LeavesPiece result (line_of words.now) (sink_state (W.received out.old) (W.faults out.old)) (sink_state (W.received out.new) (W.faults out.new)) }
+{
+    let line = whole_line(alloc, words)?;
+    out.put(&line)
+}
+
+fn whole_line(alloc: Global, words: &[u8]) -> Result<Vec<u8>, AllocError>
+    ensures { IfOk result (λ line. line.items ≡ line_of words.now) }
+{
+    let mut line = Vec::from_slice(alloc, words)?;
+    line.push(b'\n')?;
+    Ok(line)
+}
+
+fn put_refused<W: Sink>(
+    alloc: Global,
+    out: &mut W,
+    line: u32,
+    kind: TextKind,
+) -> Result<(), StoreFault>
+    ensures { LeavesPiece result (line_of (refused_words line kind)) (sink_state (W.received out.old) (W.faults out.old)) (sink_state (W.received out.new) (W.faults out.new)) }
+{
+    let words = refused_words(alloc, line, kind)?;
+    put_line(alloc, out, words.as_bytes())
+}
+
+fn put_usage<W: Sink>(alloc: Global, out: &mut W, kind: UsageKind) -> Result<(), StoreFault>
+    ensures { LeavesPiece result (line_of (usage_words kind)) (sink_state (W.received out.old) (W.faults out.old)) (sink_state (W.received out.new) (W.faults out.new)) }
+{
+    let words = usage_words(alloc, kind)?;
+    put_line(alloc, out, words.as_bytes())
+}
+
+fn refused_words(alloc: Global, line: u32, kind: TextKind) -> Result<String, AllocError>
+    ensures { IfOk result (λ words. string_bytes words ≡ refused_words line kind) }
+{
+    let name = text_name(kind);
+    format!(in alloc; "refused {line} {name}")
+}
+
+fn usage_words(alloc: Global, kind: UsageKind) -> Result<String, AllocError>
+    ensures { IfOk result (λ words. string_bytes words ≡ usage_words kind) }
+{
+    let name = kind.name();
+    format!(in alloc; "usage {name}")
+}
+
+fn put_token_fault<W: Sink>(alloc: Global, out: &mut W, kind: TokenKind) -> Result<(), StoreFault>
+    ensures { LeavesPiece result (line_of (token_words kind)) (sink_state (W.received out.old) (W.faults out.old)) (sink_state (W.received out.new) (W.faults out.new)) }
+{
+    let words = token_words(alloc, kind)?;
+    put_line(alloc, out, words.as_bytes())
+}
+
+fn token_words(alloc: Global, kind: TokenKind) -> Result<String, AllocError>
+    ensures { IfOk result (λ words. string_bytes words ≡ token_words kind) }
+{
+    let name = token_name(kind);
+    format!(in alloc; "token {name}")
+}
+
+fn put_cert_fault<W: Sink>(
+    alloc: Global,
+    out: &mut W,
+    line: u64,
+    kind: CertTextKind,
+) -> Result<(), StoreFault>
+    ensures { LeavesPiece result (line_of (cert_words line kind)) (sink_state (W.received out.old) (W.faults out.old)) (sink_state (W.received out.new) (W.faults out.new)) }
+{
+    let words = cert_words(alloc, line, kind)?;
+    put_line(alloc, out, words.as_bytes())
+}
+
+fn cert_words(alloc: Global, line: u64, kind: CertTextKind) -> Result<String, AllocError>
+    ensures { IfOk result (λ words. string_bytes words ≡ cert_words line kind) }
+{
+    let name = cert_name(kind);
+    format!(in alloc; "certificate {line} {name}")
+}
+
+fn put_rejected<W: Sink>(
+    alloc: Global,
+    out: &mut W,
+    line: u64,
+    kind: RejectKind,
+) -> Result<(), StoreFault>
+    ensures { LeavesPiece result (line_of (rejected_words line kind)) (sink_state (W.received out.old) (W.faults out.old)) (sink_state (W.received out.new) (W.faults out.new)) }
+{
+    let words = rejected_words(alloc, line, kind)?;
+    put_line(alloc, out, words.as_bytes())
+}
+
+fn rejected_words(alloc: Global, line: u64, kind: RejectKind) -> Result<String, AllocError>
+    ensures { IfOk result (λ words. string_bytes words ≡ rejected_words line kind) }
+{
+    let name = reject_name(kind);
+    format!(in alloc; "rejected {line} {name}")
+}
+
+// A line that is known beforehand takes no memory.
+fn put_end_line<W: Sink>(alloc: Global, out: &mut W, status: &Status) -> Result<(), StoreFault>
+    ensures { LeavesPiece result (end_line status.now) (sink_state (W.received out.old) (W.faults out.old)) (sink_state (W.received out.new) (W.faults out.new)) }
+{
+    match status {
+        Status::Done | Status::NoWorld | Status::WriteFault | Status::Cut(_) => Ok(()),
+        Status::RefusedText { line, kind } => put_refused(alloc, out, *line, *kind),
+        Status::RefusedToken(kind) => put_token_fault(alloc, out, *kind),
+        Status::RefusedCert { line, kind } => put_cert_fault(alloc, out, *line, *kind),
+        Status::Rejected { line, kind } => put_rejected(alloc, out, *line, *kind),
+        Status::Usage(kind) => put_usage(alloc, out, *kind),
+        Status::ReadFault => out.put(b"read fault\n"),
+        Status::NoMemory => out.put(b"no memory\n"),
+    }
+}
+
+/// Puts the last line of a status, and answers how the run ends. After `Done`, `NoWorld` and
+/// `Cut` the command has put its last line itself, and after `WriteFault` nothing further is put.
+pub fn put_end<W: Sink>(alloc: Global, out: &mut W, status: Status) -> Status
+    ensures put { IsLastPut status result (end_line status) (W.received out.old) (W.received out.new) (W.faults out.old) (W.faults out.new) }
+    ensures later { W.faults out.old ≤ W.faults out.new }
+{
+    match put_end_line(alloc, out, &status) {
+        Ok(()) => status,
+        Err(StoreFault::Failed) => Status::WriteFault,
+        Err(StoreFault::NoMemory) => Status::NoMemory,
+    }
+}

@@ -1,0 +1,5 @@
+//! Tests of problem texts.
+#![tactic(auto)]
+
+#[cfg(test)]
+mod texts;

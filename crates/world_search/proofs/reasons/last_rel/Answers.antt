@@ -1,0 +1,7 @@
+use Rattle.std.proofs.Common.{◌≡◌, length, ap, sym, ◌∙◌}
+use Rattle.std.proofs.lemmas.Bool.{eqb-true}
+use Rattle.world_search.proofs.NodeLines.{root_last}
+use Rattle.world_search.proofs.reasons.last_rel.Goals as goal
+
+pub returns-then-is_empty : goal.returns-then-is_empty
+returns-then-is_empty c = root_last c.args.node.now (eqb-true (length c.args.node.now) 0 (sym c.is_empty.ensures ∙ c.if-is_empty.true))

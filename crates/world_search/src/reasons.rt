@@ -1,0 +1,117 @@
+//! The lines of nodes.
+ghost use Rattle.std.specs.Prelude.{◌≡◌, ◌<◌, ◌≤◌, ◌^◌, true, false, length, All, IfOk, OnOk, IsTrue};
+ghost use Rattle.rcc5_core.specs.Relation.{is_ascending};
+ghost use Rattle.world_model.specs.Problem.{pair_count};
+ghost use Rattle.world_model.specs.Family.{meets, table_of};
+ghost use Rattle.constraint_set.specs.Shape.{shape_of};
+ghost use Rattle.lits_core.specs.Derivation.{State};
+ghost use Rattle.point_query.specs.Asking.{AskerGoes};
+ghost use Rattle.cert_text.specs.Lines.{IdsFromOne};
+ghost use Rattle.cert_rules.specs.Trees.{last_of, is_branch};
+ghost use Rattle.cert_rules.specs.Writing.{TellsOf};
+ghost use Rattle.world_search.specs.Logging.{IsInnerOrDead};
+
+use cert_text::{CertLine, RawFamily};
+use constraint_set::Problem;
+use point_pool::number_of;
+use point_query::{Asker, Probe};
+use rcc5_core::{Position, Rel};
+use set_family::Family;
+use std::alloc::{AllocError, Global};
+
+// The depth of a node.
+fn depth_of(problem: &Problem, node: &Position) -> u32
+    requires { length node.now ≤ pair_count problem.now }
+    ensures { result ≡ length node.now }
+{
+    let _pairs = problem.pair_count();
+    node.len() as u32
+}
+
+// The last relation on the way to a node, which the root lacks.
+fn last_rel(node: &Position) -> Option<Rel>
+    ensures { result ≡ last_of node.now }
+{
+    if node.is_empty() {
+        return None;
+    }
+    Some(node.at(node.len() - 1))
+}
+
+/// The line of a node that branches.
+pub(crate) fn branch_line(problem: &Problem, node: &Position) -> CertLine
+    requires { IsInnerOrDead problem.now node.now true }
+    ensures tells { (state : State) → TellsOf problem.now state node.now result }
+    ensures branches { is_branch result ≡ true }
+    ensures ids { IdsFromOne result }
+{
+    CertLine::Branch {
+        depth: depth_of(problem, node),
+        last: last_rel(node),
+    }
+}
+
+/// The line of a dead node, with what the asker says of it.
+pub(crate) fn reason_line(
+    problem: &Problem,
+    asker: &mut Asker,
+    node: &Position,
+) -> Result<CertLine, AllocError>
+    requires shape { asker.old.shape ≡ shape_of problem.now }
+    requires within { length node.now ≤ pair_count problem.now }
+    requires dead { IsInnerOrDead problem.now node.now false }
+    ensures kept { AskerGoes asker.old asker.new }
+    ensures tells { IfOk result (TellsOf problem.now asker.new.solver.state node.now) }
+    ensures leaf { IfOk result (λ line. is_branch line ≡ false) }
+    ensures ids { IfOk result IdsFromOne }
+{
+    let depth = depth_of(problem, node);
+    let last = last_rel(node);
+    let probe = asker.probe(problem, node)?;
+    asker.facts();
+    match probe {
+        Probe::EmptyPair(pair) => Ok(CertLine::NoRelation { depth, last, pair }),
+        Probe::Closed(need, clause) => Ok(CertLine::NoPoint {
+            depth,
+            last,
+            need: u64::from(number_of(problem, need)),
+            clause,
+        }),
+        Probe::Alive => unreachable!(),
+    }
+}
+
+// The words of a family, which has a set for each of so many concepts.
+fn raw_family(alloc: Global, family: &Family) -> Result<RawFamily, AllocError>
+    requires { length family.now.sets < 2 ^ 32 }
+    ensures raw { IfOk result (λ raw. raw ≡ family.now) }
+    ensures ascend { OnOk result (All (λ set. IsTrue (is_ascending set)) family.now.sets) }
+{
+    let mut lists = Vec::new(alloc);
+    for concept in 0..family.count() {
+        lists.push(Vec::from_slice(alloc, family.set(concept))?)?;
+    }
+    Ok(RawFamily::new(family.universe(), lists))
+}
+
+/// The line of a world, which a family shows.
+pub(crate) fn world_line(
+    alloc: Global,
+    problem: &Problem,
+    node: &Position,
+    family: &Family,
+) -> Result<CertLine, AllocError>
+    requires within { length node.now ≤ pair_count problem.now }
+    requires met { IsTrue (meets problem.now family.now) }
+    requires shown { table_of problem.now family.now ≡ node.now }
+    ensures tells { IfOk result (λ line. (state : State) → TellsOf problem.now state node.now line) }
+    ensures leaf { IfOk result (λ line. is_branch line ≡ false) }
+    ensures ids { IfOk result IdsFromOne }
+{
+    let _concepts = problem.concept_count();
+    Ok(CertLine::World {
+        depth: depth_of(problem, node),
+        last: last_rel(node),
+        family: raw_family(alloc, family)?,
+    })
+}

@@ -1,0 +1,174 @@
+//! Lines put in a log: those of the derivation that wait, and the line of a node behind them.
+ghost use Rattle.std.specs.Prelude.{◌≡◌, ◌<◌, ◌≤◌, List, Option, None, [], All, length, OnOk, OnErr, IsTrue, true, false};
+ghost use Rattle.rcc5_core.specs.declared.Rel.{Rel};
+ghost use Rattle.world_model.specs.Problem.{Problem, pair_count};
+ghost use Rattle.world_model.specs.Alive.{problem_at, IsAlive};
+ghost use Rattle.world_model.specs.Family.{meets, table_of};
+ghost use Rattle.constraint_set.specs.Shape.{shape_of};
+ghost use Rattle.cert_text.specs.Lines.{IdsFromOne};
+ghost use Rattle.cert_text.specs.Logs.{IsToldWith};
+ghost use Rattle.cert_rules.specs.Trees.{is_branch};
+ghost use Rattle.cert_rules.specs.Writing.{TellsOf};
+ghost use Rattle.world_search.specs.Logging.{AreToldWith, LogGoes, KeepsOn, KeepsPast, IsInnerOrDead, IsSameButLines};
+
+use crate::copies::copy_lines;
+use crate::reasons::{branch_line, reason_line, world_line};
+use crate::step::StepFault;
+use cert_text::{CertLine, TreeLog};
+use constraint_set::Problem;
+use point_query::Asker;
+use rcc5_core::Position;
+use set_family::Family;
+use std::alloc::Global;
+
+// Puts a line.
+fn put_one<L: TreeLog>(log: &mut L, line: &CertLine) -> Result<(), StepFault>
+    requires { IdsFromOne line.now }
+    ensures told { OnOk result (IsToldWith (L.lines log.old) line.now (L.lines log.new)) }
+    ensures err { OnErr result (L.lines log.new ≡ None) }
+    ensures log { LogGoes L.drops L.lines L.faults L.steady result log.old log.new }
+{
+    log.put_line(line)?;
+    Ok(())
+}
+
+// Puts lines.
+fn put_all<L: TreeLog>(log: &mut L, lines: &[CertLine]) -> Result<(), StepFault>
+    requires { All IdsFromOne lines.now }
+    ensures told { OnOk result (AreToldWith (L.lines log.old) lines.now (L.lines log.new)) }
+    ensures err { OnErr result (L.lines log.new ≡ None) }
+    ensures log { LogGoes L.drops L.lines L.faults L.steady result log.old log.new }
+{
+    for each in lines {
+        put_one(log, each)?;
+    }
+    Ok(())
+}
+
+/// Puts the lines that wait, or drops them where the log would.
+#[tactic(auto, using(crate::proofs::Telling::cleared_same, crate::proofs::Telling::unchanged_same))]
+pub(crate) fn put_waiting<L: TreeLog>(
+    alloc: Global,
+    asker: &mut Asker,
+    log: &mut L,
+) -> Result<(), StepFault>
+    ensures same { IsSameButLines asker.old asker.new }
+    ensures none_waits { OnOk result (asker.new.solver.waiting ≡ []) }
+    ensures keeps { (p : Problem) (from : List Rel) (at : Option (List Rel)) → KeepsOn p from (L.lines log.old) (L.lines log.new) asker.old asker.new at at }
+    ensures log { LogGoes L.drops L.lines L.faults L.steady result log.old log.new }
+{
+    if log.is_dropping() {
+        asker.clear_lines();
+        return Ok(());
+    }
+    let lines = copy_lines(alloc, asker.lines())?;
+    asker.clear_lines();
+    put_all(log, &lines)
+}
+
+// Puts the line of a node behind the lines that wait.
+fn put_node<L: TreeLog>(
+    alloc: Global,
+    asker: &mut Asker,
+    log: &mut L,
+    line: &CertLine,
+) -> Result<(), StepFault>
+    requires { IdsFromOne line.now }
+    ensures same { IsSameButLines asker.old asker.new }
+    ensures none_waits { OnOk result (asker.new.solver.waiting ≡ []) }
+    ensures keeps { (p : Problem) (m : List Rel) → TellsOf p asker.old.solver.state m line.now →
+        KeepsPast p result (L.lines log.old) (L.lines log.new) asker.old asker.new m (is_branch line.now) }
+    ensures log { LogGoes L.drops L.lines L.faults L.steady result log.old log.new }
+{
+    put_waiting(alloc, asker, log)?;
+    put_one(log, line)
+}
+
+// Tells of a node that it branches.
+fn tell_branch<L: TreeLog>(
+    alloc: Global,
+    problem: &Problem,
+    asker: &mut Asker,
+    log: &mut L,
+    node: &Position,
+) -> Result<(), StepFault>
+    requires { IsInnerOrDead problem.now node.now true }
+    ensures shape { asker.new.shape ≡ asker.old.shape }
+    ensures keeps { KeepsPast problem.now result (L.lines log.old) (L.lines log.new) asker.old asker.new node.now true }
+    ensures log { LogGoes L.drops L.lines L.faults L.steady result log.old log.new }
+{
+    let line = branch_line(problem, node);
+    put_node(alloc, asker, log, &line)
+}
+
+// Tells of a node why it is dead. Where nobody will read it, nothing is asked.
+fn tell_dead<L: TreeLog>(
+    alloc: Global,
+    problem: &Problem,
+    asker: &mut Asker,
+    log: &mut L,
+    node: &Position,
+) -> Result<(), StepFault>
+    requires shape { asker.old.shape ≡ shape_of problem.now }
+    requires within { length node.now ≤ pair_count problem.now }
+    requires dead { IsInnerOrDead problem.now node.now false }
+    ensures shape { asker.new.shape ≡ asker.old.shape }
+    ensures keeps { KeepsPast problem.now result (L.lines log.old) (L.lines log.new) asker.old asker.new node.now false }
+    ensures log { LogGoes L.drops L.lines L.faults L.steady result log.old log.new }
+{
+    if log.is_dropping() {
+        asker.clear_lines();
+        return Ok(());
+    }
+    let line = reason_line(problem, asker, node)?;
+    put_node(alloc, asker, log, &line)
+}
+
+/// Tells of a node that it branches, or why it is dead.
+pub(crate) fn tell<L: TreeLog>(
+    alloc: Global,
+    problem: &Problem,
+    asker: &mut Asker,
+    log: &mut L,
+    node: &Position,
+    branches: bool,
+) -> Result<(), StepFault>
+    requires shape { asker.old.shape ≡ shape_of problem.now }
+    requires within { length node.now ≤ pair_count problem.now }
+    requires so { IsInnerOrDead problem.now node.now branches }
+    ensures shape { asker.new.shape ≡ asker.old.shape }
+    ensures keeps { KeepsPast problem.now result (L.lines log.old) (L.lines log.new) asker.old asker.new node.now branches }
+    ensures log { LogGoes L.drops L.lines L.faults L.steady result log.old log.new }
+{
+    if branches {
+        tell_branch(alloc, problem, asker, log, node)
+    } else {
+        tell_dead(alloc, problem, asker, log, node)
+    }
+}
+
+/// Tells of a node that it is a world, which a family shows.
+#[tactic(auto, using(crate::proofs::Telling::cleared_same, crate::proofs::Telling::unchanged_same))]
+pub(crate) fn tell_world<L: TreeLog>(
+    alloc: Global,
+    problem: &Problem,
+    asker: &mut Asker,
+    log: &mut L,
+    node: &Position,
+    family: &Family,
+) -> Result<(), StepFault>
+    requires within { length node.now ≤ pair_count problem.now }
+    requires met { IsTrue (meets problem.now family.now) }
+    requires shown { table_of problem.now family.now ≡ node.now }
+    ensures same { IsSameButLines asker.old asker.new }
+    ensures none_waits { OnOk result (asker.new.solver.waiting ≡ []) }
+    ensures keeps { KeepsPast problem.now result (L.lines log.old) (L.lines log.new) asker.old asker.new node.now false }
+    ensures log { LogGoes L.drops L.lines L.faults L.steady result log.old log.new }
+{
+    if log.is_dropping() {
+        asker.clear_lines();
+        return Ok(());
+    }
+    let line = world_line(alloc, problem, node, family)?;
+    put_node(alloc, asker, log, &line)
+}

@@ -1,0 +1,76 @@
+//! The merged taxonomy of each world, as text.
+
+ghost use Rattle.std.specs.Prelude.{◌≡◌, ◌++◌, length, map, codes, IfOk, OnOk};
+ghost use Rattle.rcc5_core.specs.Relation.{letter_of};
+ghost use Rattle.world_model.specs.Problem.{pair_count};
+ghost use Rattle.world_watch.specs.Kinds.{merge_part, merge_report};
+ghost use Rattle.world_watch.specs.Steps.{IsNew};
+
+use crate::watcher::WorldWatcher;
+use constraint_set::Problem;
+use merge_print::{merged, merged_text};
+use rcc5_core::{Position, Rel};
+use std::alloc::{AllocError, Global};
+
+/// Keeps each world's table and the text of its merged taxonomy.
+#[derive(Drop)]
+pub struct MergeWatcher {
+    alloc: Global,
+    lines: Vec<u8>,
+}
+
+fn put_letters(out: &mut Vec<u8>, rels: &[Rel]) -> Result<(), AllocError>
+    ensures { OnOk result (out.new.items ≡ out.old.items ++ map letter_of rels.now) }
+{
+    for rel in rels {
+        out.push(rel.letter())?;
+    }
+    Ok(())
+}
+
+fn world_part(alloc: Global, problem: &Problem, table: &Position) -> Result<Vec<u8>, AllocError>
+    requires { length table.now ≡ pair_count problem.now }
+    ensures { IfOk result (λ part. part.items ≡ merge_part problem.now table.now) }
+{
+    let text = merged_text(alloc, problem, &merged(alloc, problem, table)?)?;
+    let mut part = Vec::new(alloc);
+    part.extend_from_slice(b"world ")?;
+    put_letters(&mut part, table.rels())?;
+    part.extend_from_slice(b"\n")?;
+    part.extend_from_slice(&text)?;
+    Ok(part)
+}
+
+impl MergeWatcher {
+    pub fn new(alloc: Global) -> MergeWatcher
+        ensures { IsNew ⟦<MergeWatcher as WorldWatcher>⟧.name ⟦<MergeWatcher as WorldWatcher>⟧.text (codes "merge") merge_report result }
+    {
+        MergeWatcher {
+            alloc,
+            lines: Vec::new(alloc),
+        }
+    }
+}
+
+impl WorldWatcher for MergeWatcher {
+    ghost use Rattle.std.specs.Prelude.{◌++◌, codes, flat_map};
+    ghost use Rattle.world_watch.specs.Kinds.{merge_part};
+
+    ghost name = { λ _. codes "merge" };
+
+    ghost text = { λ w p tables. w.lines.items ++ flat_map (merge_part p) tables };
+
+    fn is_named(&self, word: &[u8]) -> bool {
+        word == b"merge".as_slice()
+    }
+
+    fn see(&mut self, problem: &Problem, table: &Position) -> Result<(), AllocError> {
+        let part = world_part(self.alloc, problem, table)?;
+        self.lines.extend_from_slice(&part)?;
+        Ok(())
+    }
+
+    fn report(&self, alloc: Global, _problem: &Problem) -> Result<Vec<u8>, AllocError> {
+        Vec::from_slice(alloc, &self.lines)
+    }
+}
