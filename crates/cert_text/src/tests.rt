@@ -1,6 +1,7 @@
 use super::*;
 use outer_store::{MemoryStore, StoreFault};
 use proof_text::LineTextFault;
+use std::alloc::Global;
 use std::test::*;
 
 /// A line of each form, some of them at the ends of their numbers.
@@ -113,24 +114,28 @@ fn a_log_keeps_its_lines(rt: HostRuntime) -> Result<(), Fail> {
     Ok(())
 }
 
+/// Puts two lines, one that is refused and one more. Whether each was answered so.
+fn puts_four(alloc: Global, store: &mut MemoryStore) -> bool {
+    let mut log = StoreLog::new(alloc, store, "log");
+    let first = CertLine::Branch {
+        depth: 0,
+        last: None,
+    };
+    let end = CertLine::End(None);
+    let both = log.put_line(&first).is_ok() && log.put_line(&end).is_ok();
+    let refused = log.put_line(&end) == Err(StoreFault::Failed);
+    both && refused && log.put_line(&CertLine::Quit).is_ok() && !log.is_dropping()
+}
+
 #[test]
 fn a_log_over_a_store_adds_texts(rt: HostRuntime) -> Result<(), Fail> {
     let alloc = rt.alloc();
     let failing = vec![in alloc; 3]?;
     let mut store = MemoryStore::new(alloc, failing);
-    let mut log = StoreLog::new(alloc, &mut store, "log");
-    let end = CertLine::End(None);
-    assert!(rt;
-        log.put_line(&CertLine::Branch {
-            depth: 0,
-            last: None
-        })
-        .is_ok()
+    assert!(rt; puts_four(alloc, &mut store));
+    assert_eq!(rt;
+        store.bytes("log").unwrap_or(&[]),
+        b"b 0 .\nend -\nquit\n".as_slice()
     );
-    assert!(rt; log.put_line(&end).is_ok());
-    assert!(rt; log.put_line(&end) == Err(StoreFault::Failed));
-    assert!(rt; log.put_line(&CertLine::Quit).is_ok());
-    assert!(rt; !log.is_dropping());
-    assert!(rt; store.bytes("log") == Some(b"b 0 .\nend -\nquit\n".as_slice()));
     Ok(())
 }
