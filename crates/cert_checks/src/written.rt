@@ -42,6 +42,44 @@ fn walk_to_end<L: TreeLog>(
     Err(AllocError)
 }
 
+/// Puts the first line of a listing from a position on.
+fn put_first<L: TreeLog>(log: &mut L, problem: &Problem, from: Position) -> Result<(), AllocError> {
+    let first = CertLine::Certificate {
+        switches: problem.switches(),
+        from,
+    };
+    log.put_line(&first).map_err(|_| AllocError)
+}
+
+/// Puts the last line of a listing that ends at a node, or where none is left.
+fn put_last<L: TreeLog>(
+    alloc: Global,
+    log: &mut L,
+    end: &Option<Position>,
+) -> Result<(), AllocError> {
+    let to = match end {
+        Some(node) => Some(node.copy(alloc)?),
+        None => None,
+    };
+    log.put_line(&CertLine::End(to)).map_err(|_| AllocError)
+}
+
+/// Puts what a search tells, from its first line to its last. Where it ends.
+fn put_all<L: TreeLog>(
+    alloc: Global,
+    problem: &Problem,
+    search: &mut Search,
+    left: Option<u64>,
+    log: &mut L,
+) -> Result<Option<Position>, AllocError>
+    requires { search.old.problem ≡ problem.now }
+{
+    let mut asker = Asker::new(alloc, problem)?;
+    let end = walk_to_end(problem, &mut asker, search, left, log)?;
+    put_last(alloc, log, &end)?;
+    Ok(end)
+}
+
 /// Writes the certificate of a listing under the name `c`. Where it ends.
 fn write(
     alloc: Global,
@@ -52,21 +90,11 @@ fn write(
 ) -> Result<Option<Position>, AllocError>
     requires { length from ≤ pair_count problem.now }
 {
-    let mut asker = Asker::new(alloc, problem)?;
-    let first = CertLine::Certificate {
-        switches: problem.switches(),
-        from: from.copy(alloc)?,
-    };
+    let start = from.copy(alloc)?;
     let mut search = Search::from(alloc, problem, from, None)?;
     let mut log = StoreLog::new(alloc, store, "c");
-    log.put_line(&first).map_err(|_| AllocError)?;
-    let end = walk_to_end(problem, &mut asker, &mut search, left, &mut log)?;
-    let copy = match &end {
-        Some(node) => Some(node.copy(alloc)?),
-        None => None,
-    };
-    log.put_line(&CertLine::End(copy)).map_err(|_| AllocError)?;
-    Ok(end)
+    put_first(&mut log, problem, start)?;
+    put_all(alloc, problem, &mut search, left, &mut log)
 }
 
 /// Two positions in letters, and the worlds between them; a minus where there is no end.
