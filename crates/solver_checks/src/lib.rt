@@ -2,7 +2,7 @@
 #![tactic(auto)]
 
 #[cfg(test)]
-mod deriving;
+mod by_hints;
 #[cfg(test)]
 mod forgetting;
 #[cfg(test)]
