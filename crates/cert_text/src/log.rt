@@ -1,6 +1,6 @@
 //! Logs: where a search puts the lines of its certificate.
 
-ghost use Rattle.std.specs.Prelude.{◌≡◌, ◌≤◌, ℕ, Bool, true, None, OnOk, OnErr};
+ghost use Rattle.std.specs.Prelude.{◌≡◌, ◌≤◌, ℕ, Bool, true, None, OnOk, OnErr, ⊤};
 ghost use Rattle.outer_store.specs.Faults.{Rose, IfFailed};
 ghost use Rattle.cert_text.specs.Lines.{IdsFromOne};
 ghost use Rattle.cert_text.specs.Logs.{Told, IsToldWith};
@@ -22,6 +22,9 @@ pub trait TreeLog {
     /// The second may have come from the first by calls.
     ghost steady: { Self → Self → Type 0 };
 
+    /// No count of faults moved between the two.
+    ghost quiet: { Self → Self → Type 0 };
+
     /// Puts a line at the end. After a refusal the log tells nothing.
     fn put_line(&mut self, line: &CertLine) -> Result<(), StoreFault>
         requires { IdsFromOne line.now }
@@ -30,7 +33,8 @@ pub trait TreeLog {
         ensures kept { drops self.new ≡ drops self.old }
         ensures cause { IfFailed result (Rose (faults self.old) (faults self.new)) (faults self.new ≡ faults self.old) }
         ensures later { faults self.old ≤ faults self.new }
-        ensures steady { steady self.old self.new };
+        ensures steady { steady self.old self.new }
+        ensures quiet { IfFailed result ⊤ (quiet self.old self.new) };
 
     /// Whether the log drops what it is given, so that nobody will read it.
     fn is_dropping(&self) -> bool
@@ -42,6 +46,10 @@ pub trait TreeLog {
     ghost steady_stays: { (log : Self) → steady log log };
 
     ghost steady_joins: { (a : Self) (b : Self) (c : Self) → steady a b → steady b c → steady a c };
+
+    ghost quiet_stays: { (log : Self) → quiet log log };
+
+    ghost quiet_joins: { (a : Self) (b : Self) (c : Self) → quiet a b → quiet b c → quiet a c };
 }
 
 /// The log that drops everything. It takes no memory.
@@ -65,6 +73,8 @@ impl TreeLog for NoLog {
 
     ghost steady = { λ _ _. ⊤ };
 
+    ghost quiet = { λ _ _. ⊤ };
+
     fn put_line(&mut self, _line: &CertLine) -> Result<(), StoreFault> {
         Ok(())
     }
@@ -78,4 +88,8 @@ impl TreeLog for NoLog {
     ghost steady_stays = { λ _. tt };
 
     ghost steady_joins = { λ _ _ _ _ _. tt };
+
+    ghost quiet_stays = { λ _. tt };
+
+    ghost quiet_joins = { λ _ _ _ _ _. tt };
 }

@@ -65,6 +65,8 @@ impl TreeLog for MemoryLog {
 
     ghost steady = { λ _ _. ⊤ };
 
+    ghost quiet = { λ _ _. ⊤ };
+
     fn put_line(&mut self, line: &CertLine) -> Result<(), StoreFault> {
         let added = self.add(line);
         if added.is_err() {
@@ -83,4 +85,8 @@ impl TreeLog for MemoryLog {
     ghost steady_stays = { λ _. tt };
 
     ghost steady_joins = { λ _ _ _ _ _. tt };
+
+    ghost quiet_stays = { λ _. tt };
+
+    ghost quiet_joins = { λ _ _ _ _ _. tt };
 }

@@ -4,6 +4,7 @@ ghost use Rattle.std.specs.Prelude.{◌≡◌, ◌++◌, ◌∷◌, [], false, O
 ghost use Rattle.outer_store.specs.Bytes.{added};
 ghost use Rattle.outer_store.specs.Contents.{OthersKept};
 ghost use Rattle.outer_store.specs.Faults.{Rose, NoneFell, IfFailed};
+ghost use Rattle.outer_store.specs.Reader.{NoneMoved};
 ghost use Rattle.cert_text.specs.Lines.{cert_text, IdsFromOne, IsCertLine};
 ghost use Rattle.cert_text.specs.Logs.{lines_held, IsToldWith};
 ghost use Rattle.cert_text.specs.StoreLogs.{log_store, log_name, is_refused, OnlyWritten, OnlyWritten-stays, OnlyWritten-joins};
@@ -57,7 +58,8 @@ fn append_line<S: Store>(
     ensures told { OnOk result (IsToldWith (lines_held false (S.held store.old name.now)) line.now (lines_held false (S.held store.new name.now))) }
     ensures written { OnlyWritten name.now (S.held store.old) (S.held store.new)
         (S.read_faults store.old) (S.read_faults store.new) (S.write_faults store.old) (S.write_faults store.new) }
-    ensures cause { IfFailed result (Rose (S.write_faults store.old name.now) (S.write_faults store.new name.now)) (S.write_faults store.new ≡ S.write_faults store.old) }
+    ensures cause { IfFailed result (Rose (S.write_faults store.old name.now) (S.write_faults store.new name.now))
+        (NoneMoved (S.read_faults store.old) (S.read_faults store.new) (S.write_faults store.old) (S.write_faults store.new)) }
 {
     text.clear();
     put_whole(alloc, text, line)?;
@@ -77,6 +79,10 @@ impl<'a, S: Store> TreeLog for StoreLog<'a, S> {
     ghost steady = { λ a b. (log_name b ≡ log_name a)
         × ((log_store b).ghost_name ≡ (log_store a).ghost_name)
         × OnlyWritten (log_name a).now (S.held (log_store a).now) (S.held (log_store b).now)
+        (S.read_faults (log_store a).now) (S.read_faults (log_store b).now)
+        (S.write_faults (log_store a).now) (S.write_faults (log_store b).now) };
+
+    ghost quiet = { λ a b. NoneMoved
         (S.read_faults (log_store a).now) (S.read_faults (log_store b).now)
         (S.write_faults (log_store a).now) (S.write_faults (log_store b).now) };
 
@@ -112,4 +118,8 @@ impl<'a, S: Store> TreeLog for StoreLog<'a, S> {
           (S.read_faults (log_store b).now) (S.read_faults (log_store c).now)
           (S.write_faults (log_store b).now) (S.write_faults (log_store c).now)) first.0 second.2),
     ) };
+
+    ghost quiet_stays = { λ s. record { reads = refl; writes = refl } };
+
+    ghost quiet_joins = { λ a b c first second. record { reads = second.reads ∙ first.reads; writes = second.writes ∙ first.writes } };
 }
