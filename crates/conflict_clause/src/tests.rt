@@ -5,7 +5,7 @@ ghost use Rattle.watch_arena.specs.Trails.{IsConflict};
 use super::*;
 use crate::notes::level_of;
 use clause_arena::Ref;
-use lits_core::{Clause, Ids, Lit};
+use lits_core::Lit;
 use std::alloc::{AllocError, Global};
 use std::test::Fail;
 use watch_arena::Trail;
@@ -18,57 +18,62 @@ fn lit(number: i32) -> Lit
 }
 
 /// Adds a clause of three literals, which may be repeats.
-fn add(trail: &mut Trail, lits: [i32; 3], id: u64) -> Result<(), AllocError>
+fn add(trail: &mut Trail, a: i32, b: i32, c: i32, id: u64) -> Result<(), AllocError>
     requires { trail.old.variables ≡ 7 }
     ensures { trail.new.variables ≡ 7 }
 {
-    trail.add(&[lit(lits[0]), lit(lits[1]), lit(lits[2])], id)?;
+    trail.add(&[lit(a), lit(b), lit(c)], id)?;
     Ok(())
 }
 
 /// 5 holds. 2 follows from 1, 3 from 2 with 6, and 4 from 2 with 3; with 5, not both 3 and 4 hold.
-const CLAUSES: [[i32; 3]; 5] = [
-    [5, 5, 5],
-    [-1, 2, 2],
-    [-2, -6, 3],
-    [-2, -3, 4],
-    [-3, -4, -5],
-];
-
-/// The clauses under the ids 10, 20 and so on.
-fn chain(alloc: Global) -> Result<Trail, AllocError>
-    ensures { IfOk result (λ trail. trail.variables ≡ 7) }
+fn add_chain(trail: &mut Trail) -> Result<(), AllocError>
+    requires { trail.old.variables ≡ 7 }
+    ensures { trail.new.variables ≡ 7 }
 {
-    let mut trail = Trail::new(alloc, 7)?;
-    for (k, lits) in CLAUSES.iter().enumerate() {
-        add(&mut trail, *lits, 10 * (k as u64 % 5) + 10)?;
-    }
-    Ok(trail)
+    add(trail, 5, 5, 5, 9)?;
+    add(trail, -1, 2, 2, 8)?;
+    add(trail, -2, -6, 3, 7)?;
+    add(trail, -2, -3, 4, 6)?;
+    add(trail, -3, -4, -5, 5)
+}
+
+/// Propagates what holds with nothing assumed.
+fn propagate(trail: &mut Trail)
+    requires { trail.old.variables ≡ 7 }
+    ensures { trail.new.variables ≡ 7 }
+{
+    trail.propagate();
 }
 
 /// Assumes a literal, if its variable has no value, and propagates.
-fn assume(trail: &mut Trail, number: i32) -> Result<Option<Ref>, AllocError>
+fn assume(trail: &mut Trail, number: i32) -> Option<Ref>
     requires { trail.old.variables ≡ 7 }
     ensures variables { trail.new.variables ≡ 7 }
-    ensures conflict { IfOk result (λ o. IfSome o (λ at. IsConflict trail.new at)) }
+    ensures conflict { IfSome result (λ at. IsConflict trail.new at) }
 {
     let lit = lit(number);
     if trail.place_of(lit.variable()).is_none() {
         trail.assume(lit);
     }
-    Ok(trail.propagate())
+    trail.propagate()
 }
 
-/// The chain with 5, then 6 assumed, then 1 assumed, and the clause that is false then.
-fn conflict(alloc: Global) -> Result<(Trail, Option<Ref>), AllocError>
-    ensures variables { IfOk result (λ p. p.0.variables ≡ 7) }
-    ensures conflict { IfOk result (λ p. IfSome p.1 (λ at. IsConflict p.0 at)) }
-{
-    let mut trail = chain(alloc)?;
-    trail.propagate();
-    assume(&mut trail, 6)?;
-    let found = assume(&mut trail, 1)?;
-    Ok((trail, found))
+/// Adds literals with their signs, and then one digit for each hint.
+fn put(text: &mut String, lits: &[Lit], hints: &[u64]) -> Result<(), AllocError> {
+    for lit in lits {
+        text.push(if lit.is_negative() { '-' } else { '+' })?;
+        text.push(digit(u64::from(lit.variable())))?;
+    }
+    text.push(':')?;
+    for hint in hints {
+        text.push(digit(*hint))?;
+    }
+    text.push(' ')
+}
+
+fn digit(number: u64) -> char {
+    char::from_digit((number % 10) as u32, 10).unwrap_or('?')
 }
 
 /// Learns from a conflict with a literal of the current level above 0; none where there is no such literal.
@@ -105,62 +110,96 @@ fn close_place(
     Ok(Some(analyzer.close_false(trail, trail.lit_on(place).negate())?))
 }
 
-/// What to ask of the conflict.
-#[derive(Clone, Copy, Debug)]
-enum Call {
-    Learn,
-    Close,
-    CloseFalse(usize),
-}
-
-/// The literals and hints of a call; none where there is nothing to ask.
-fn answer(alloc: Global, call: Call) -> Result<Option<(Clause, Ids)>, AllocError> {
-    let (trail, found) = conflict(alloc)?;
-    let Some(at) = found else {
-        return Ok(None);
-    };
-    let mut analyzer = Analyzer::new(alloc, 7)?;
-    match call {
-        Call::Learn => match learn(&mut analyzer, &trail, at)? {
-            Some(learnt) => Ok(Some((learnt.lits, learnt.hints))),
-            None => Ok(None),
-        },
-        Call::Close => {
-            let closing = analyzer.close(&trail, at)?;
-            Ok(Some((closing.lits, closing.hints)))
-        }
-        Call::CloseFalse(place) => match close_place(&mut analyzer, &trail, place)? {
-            Some(closing) => Ok(Some((closing.lits, closing.hints))),
-            None => Ok(None),
-        },
+fn put_learnt(
+    text: &mut String,
+    analyzer: &mut Analyzer,
+    trail: &Trail,
+    at: Ref,
+) -> Result<(), AllocError>
+    requires variables { analyzer.old ≡ trail.now.variables }
+    requires conflict { IsConflict trail.now at }
+    ensures { analyzer.new ≡ analyzer.old }
+{
+    match learn(analyzer, trail, at)? {
+        Some(learnt) => put(text, learnt.lits.lits(), learnt.hints.list()),
+        None => Ok(()),
     }
 }
 
-/// Whether literals are those of these numbers.
-fn are(lits: &[Lit], numbers: &[i32]) -> bool {
-    lits.len() == numbers.len()
-        && lits
-            .iter()
-            .zip(numbers)
-            .all(|(one, number)| *one == lit(*number))
+fn put_closing(
+    text: &mut String,
+    analyzer: &mut Analyzer,
+    trail: &Trail,
+    at: Ref,
+) -> Result<(), AllocError>
+    requires variables { analyzer.old ≡ trail.now.variables }
+    requires conflict { IsConflict trail.now at }
+    ensures { analyzer.new ≡ analyzer.old }
+{
+    let closing = analyzer.close(trail, at)?;
+    put(text, closing.lits.lits(), closing.hints.list())
+}
+
+fn put_place(
+    text: &mut String,
+    analyzer: &mut Analyzer,
+    trail: &Trail,
+    place: usize,
+) -> Result<(), AllocError>
+    requires variables { analyzer.old ≡ trail.now.variables }
+    ensures { analyzer.new ≡ analyzer.old }
+{
+    match close_place(analyzer, trail, place)? {
+        Some(closing) => put(text, closing.lits.lits(), closing.hints.list()),
+        None => Ok(()),
+    }
+}
+
+/// All that one analyzer says of the conflict, and of the places 4, which is that of 3, and 0.
+fn put_all(alloc: Global, text: &mut String, trail: &Trail, at: Ref) -> Result<(), AllocError>
+    requires variables { trail.now.variables ≡ 7 }
+    requires conflict { IsConflict trail.now at }
+{
+    let mut analyzer = Analyzer::new(alloc, 7)?;
+    put_learnt(text, &mut analyzer, trail, at)?;
+    put_closing(text, &mut analyzer, trail, at)?;
+    put_place(text, &mut analyzer, trail, 4)?;
+    put_place(text, &mut analyzer, trail, 0)
+}
+
+/// The chain with 5, then 6 assumed, then 1 assumed: a clause is false then.
+fn put_conflict(alloc: Global, text: &mut String, trail: &mut Trail) -> Result<(), AllocError>
+    requires { trail.old.variables ≡ 7 }
+{
+    propagate(trail);
+    assume(trail, 6);
+    match assume(trail, 1) {
+        Some(at) => put_all(alloc, text, trail, at),
+        None => Ok(()),
+    }
+}
+
+/// What all of them say of a chain on this trail, as text.
+fn told(alloc: Global, trail: &mut Trail) -> Result<String, AllocError>
+    requires { trail.old.variables ≡ 7 }
+{
+    add_chain(trail)?;
+    let mut text = String::new(alloc);
+    put_conflict(alloc, &mut text, trail)?;
+    Ok(text)
+}
+
+// No `?` comes after the trail: each would be one more place that lets it go, and proving those is dear.
+fn taught(alloc: Global) -> Result<String, AllocError> {
+    let mut trail = Trail::new(alloc, 7)?;
+    told(alloc, &mut trail)
 }
 
 // There follow 2, 3, and 4 or its negation, and then a clause is false. All of it rests on 2, on 6 at the level before, and on
-// 5, which holds at level 0. Place 4 is that of 3.
+// 5, which holds at level 0. One analyzer is asked four times.
 #[test]
 fn a_chain_teaches_its_clauses(rt: HostRuntime) -> Result<(), Fail> {
-    let cases: [(Call, &[i32], &[u64]); 4] = [
-        (Call::Learn, &[-2, -6, -5], &[30, 50, 40]),
-        (Call::Close, &[-1, -6], &[10, 20, 30, 50, 40]),
-        (Call::CloseFalse(4), &[3, -1, -6], &[20, 30]),
-        (Call::CloseFalse(0), &[5], &[10]),
-    ];
-    for (call, lits, hints) in cases {
-        let Some(found) = answer(rt.alloc(), call)? else {
-            panic!(rt; "nothing at {call:?}");
-        };
-        assert!(rt; are(found.0.lits(), lits), "at {call:?}");
-        assert_eq!(rt; found.1.list(), hints, "at {call:?}");
-    }
+    let text = taught(rt.alloc())?;
+    assert_eq!(rt; text.as_str(), "-2-6-5:756 -1-6:98756 +3-1-6:87 +5:9 ");
     Ok(())
 }

@@ -1,11 +1,10 @@
-ghost use Rattle.std.specs.Prelude.{◌≡◌, ◌++◌, [], ◌≤◌, OnOk, OnErr, IfOk, IfSome};
-ghost use Rattle.std.specs.Bool.{OnTrue};
-ghost use Rattle.outer_store.specs.Bytes.{added, GrownInPart};
+ghost use Rattle.std.specs.Prelude.{◌≡◌, ◌≤◌};
 ghost use Rattle.outer_store.specs.Faults.{Rose, NoneFell, IfFailed};
 
 use super::*;
-use std::alloc::Global;
+use std::alloc::{AllocError, Global};
 use std::fs;
+use std::rt::Files;
 use std::test::Fail;
 
 /// Takes twice from any source.
@@ -29,177 +28,254 @@ fn read_twice<S: Store>(store: &mut S, name: &str, into: &mut [u8]) -> Result<us
     take_twice(&mut reader, into)
 }
 
-/// Reads a whole name, in pieces of one byte or two, `budget` of them at most.
-fn read_whole<S: Store>(
-    store: &mut S,
-    name: &str,
-    budget: u32,
-    bytes: &mut Vec<u8>,
-) -> Result<bool, StoreFault>
-    requires { bytes.old.items ≡ [] }
-    ensures whole { IfSome (S.held store.old name.now) (λ held. IfOk result (λ ended. OnTrue ended (bytes.new.items ≡ held))) }
-    ensures contents { S.held store.new ≡ S.held store.old }
-    ensures cause { IfFailed result (Rose (S.read_faults store.old name.now) (S.read_faults store.new name.now))
-        ((S.read_faults store.new ≡ S.read_faults store.old) × (S.write_faults store.new ≡ S.write_faults store.old)) }
-{
-    let mut piece = [0; 2];
-    for _ in 0..budget {
-        let count = store.read(name, bytes.len() as u64, &mut piece)?;
-        if count == 0 {
-            return Ok(true);
-        }
-        bytes.extend_from_slice(&piece[..count])?;
+/// The letter of an answer that counts bytes.
+fn counted(answer: Result<usize, StoreFault>) -> char {
+    match answer {
+        Ok(count) => char::from_digit((count % 10) as u32, 10).unwrap_or('?'),
+        Err(StoreFault::Failed) => '!',
+        Err(StoreFault::NoMemory) => '?',
     }
-    Ok(false)
 }
 
-/// Puts two pieces on any sink, one after another.
-fn put_both<W: Sink>(sink: &mut W, first: &[u8], second: &[u8]) -> Result<(), StoreFault>
-    ensures ok { OnOk result (W.received sink.new ≡ added (W.received sink.old) (first.now ++ second.now)) }
-    ensures err { OnErr result (GrownInPart (W.received sink.old) (W.received sink.new) (first.now ++ second.now)) }
-    ensures cause { IfFailed result (Rose (W.faults sink.old) (W.faults sink.new)) (W.faults sink.new ≡ W.faults sink.old) }
-{
-    sink.put(first)?;
-    sink.put(second)
+/// The letter of an answer that counts nothing.
+fn done(answer: Result<(), StoreFault>) -> char {
+    match answer {
+        Ok(()) => '.',
+        Err(StoreFault::Failed) => '!',
+        Err(StoreFault::NoMemory) => '?',
+    }
 }
 
-/// Makes one call of each kind through the bound, and answers what came of each.
-fn write_and_read<S: Store>(store: &mut S, into: &mut [u8]) -> [Result<usize, StoreFault>; 4] {
-    let created = store.create("b").map(|()| 0);
-    let appended = store.append("b", b"12").map(|()| 0);
-    let again = store.append("a", b"z").map(|()| 0);
-    let read = store.read("a", 1, into);
+/// Adds letters, and what is held after a space; a minus for nothing.
+fn add(text: &mut String, letters: &[char], held: Option<&[u8]>) -> Result<(), AllocError> {
+    for letter in letters {
+        text.push(*letter)?;
+    }
+    text.push(' ')?;
+    for byte in held.unwrap_or(b"-") {
+        text.push(char::from(*byte))?;
+    }
+    text.push(';')
+}
+
+/// Makes one call of each kind through the bound, and answers a letter for each.
+fn write_and_read<S: Store>(store: &mut S) -> [char; 4] {
+    let mut into = [0; 8];
+    let created = done(store.create("b"));
+    let appended = done(store.append("b", b"12"));
+    let again = done(store.append("a", b"z"));
+    let read = counted(store.read("a", 1, &mut into));
     [created, appended, again, read]
 }
 
-fn put_twice<W: Sink>(sink: &mut W) -> [Result<(), StoreFault>; 2] {
-    let first = sink.put(b"one ");
-    let second = sink.put(b"two");
+fn put_twice<W: Sink>(sink: &mut W) -> [char; 2] {
+    let first = done(sink.put(b"one "));
+    let second = done(sink.put(b"two"));
     [first, second]
 }
 
-// A store whose sixth call, and the one of this number, is listed. It holds a file before it is called.
-fn listed(alloc: Global, number: u64, step: usize) -> Result<MemoryStore, StoreFault>
-    requires { 1 ≤ step }
-{
-    let mut failing = Vec::new(alloc);
-    failing.push(number)?;
-    failing.push(6)?;
-    let mut store = MemoryStore::in_steps(alloc, failing, step);
+// The store's sixth call, and the one of this number, is listed. It holds a file before it is called.
+fn listed(alloc: Global, number: u64) -> Result<MemoryStore, AllocError> {
+    let failing = Vec::from_slice(alloc, &[number, 6])?;
+    let mut store = MemoryStore::new(alloc, failing);
     store.hold("a", b"xy")?;
     Ok(store)
 }
 
-fn holds(store: &MemoryStore, name: &str, text: &str) -> bool {
-    store.bytes(name) == Some(text.as_bytes())
+/// What the four calls of a store answer, and what the two names then hold.
+fn add_answers(text: &mut String, store: &mut MemoryStore) -> Result<(), AllocError> {
+    let letters = write_and_read(store);
+    add(text, &letters, store.bytes("a"))?;
+    add(text, &[], store.bytes("b"))
 }
 
-// The answers of the four calls, and what the two names then hold.
+// Here and below no `?` comes after a store or a sink is made: each would be one more place that lets it go, and proving those
+// is dear.
+fn add_store(text: &mut String, alloc: Global, number: u64) -> Result<(), AllocError> {
+    let mut store = listed(alloc, number)?;
+    add_answers(text, &mut store)
+}
+
+fn stores(alloc: Global) -> Result<String, AllocError> {
+    let mut text = String::new(alloc);
+    for number in 1..6 {
+        add_store(&mut text, alloc, number)?;
+    }
+    Ok(text)
+}
+
 #[test]
 fn each_call_of_a_store_fails_by_its_number(rt: HostRuntime) -> Result<(), Fail> {
-    let failed = Err(StoreFault::Failed);
-    let rows = [
-        (1, [failed, Ok(0), Ok(0), Ok(2)], "xyz", "12"),
-        (2, [Ok(0), failed, Ok(0), Ok(2)], "xyz", ""),
-        (3, [Ok(0), Ok(0), failed, Ok(1)], "xy", "12"),
-        (4, [Ok(0), Ok(0), Ok(0), failed], "xyz", "12"),
-        (5, [Ok(0), Ok(0), Ok(0), Ok(2)], "xyz", "12"),
-    ];
-    for (number, answers, a, b) in rows {
-        let mut store = listed(rt.alloc(), number, usize::MAX)?;
-        let mut into = [0; 8];
-        assert_eq!(rt;
-            write_and_read(&mut store, &mut into),
-            answers,
-            "call {number}"
-        );
-        assert!(rt; holds(&store, "a", a), "call {number}");
-        assert!(rt; holds(&store, "b", b), "call {number}");
-    }
-    Ok(())
-}
-
-#[test]
-fn each_call_of_a_sink_fails_by_its_number(rt: HostRuntime) -> Result<(), Fail> {
-    let alloc = rt.alloc();
-    let failed = Err(StoreFault::Failed);
-    let rows = [
-        (1, [failed, Ok(())], b"two".as_slice()),
-        (2, [Ok(()), failed], b"one ".as_slice()),
-        (3, [Ok(()), Ok(())], b"one two".as_slice()),
-    ];
-    for (number, answers, received) in rows {
-        let mut sink = MemorySink::new(alloc, vec![in alloc; number]?);
-        assert_eq!(rt; put_twice(&mut sink), answers, "call {number}");
-        assert_eq!(rt; sink.bytes(), received, "call {number}");
-    }
-    Ok(())
-}
-
-#[test]
-fn sure_objects_keep_what_they_are_given(rt: HostRuntime) -> Result<(), Fail> {
-    let alloc = rt.alloc();
-    let mut store = SureStore::new(alloc);
-    let mut into = [0; 8];
-    let answers = write_and_read(&mut store, &mut into);
-    assert_eq!(rt; answers, [Ok(0), Ok(0), Ok(0), Ok(0)]);
-    assert_eq!(rt; store.bytes("b"), Some(b"12".as_slice()));
-    assert_eq!(rt; store.bytes("c"), None);
-    let mut sink = SureSink::new(alloc);
-    assert_eq!(rt; put_twice(&mut sink), [Ok(()), Ok(())]);
-    assert_eq!(rt; sink.bytes(), b"one two".as_slice());
-    Ok(())
-}
-
-// In steps of one byte the second call fails, and the third goes on where the first ended.
-#[test]
-fn a_reader_goes_on_after_a_fault(rt: HostRuntime) -> Result<(), Fail> {
-    let mut store = listed(rt.alloc(), 2, 1)?;
-    let mut into = [0; 8];
-    let mut reader = StoreReader::new(&mut store, "a");
-    for (answer, byte) in [
-        (Ok(1), b'x'),
-        (Err(StoreFault::Failed), b'x'),
-        (Ok(1), b'y'),
-        (Ok(0), b'y'),
-    ] {
-        assert_eq!(rt; reader.take(&mut into), answer);
-        assert_eq!(rt; into[0], byte);
-    }
+    let text = stores(rt.alloc())?;
     assert_eq!(rt;
-        read_twice(&mut store, "a", &mut into),
-        Err(StoreFault::Failed)
+        text.as_str(),
+        "!..2 xyz; 12;.!.2 xyz; ;..!1 xy; 12;...! xyz; 12;...2 xyz; 12;"
     );
     Ok(())
 }
 
+/// What the two calls of a sink answer, and what it then has received.
+fn add_sink(text: &mut String, alloc: Global, number: u64) -> Result<(), AllocError> {
+    let mut sink = MemorySink::new(alloc, Vec::from_slice(alloc, &[number])?);
+    let letters = put_twice(&mut sink);
+    add(text, &letters, Some(sink.bytes()))
+}
+
+fn sinks(alloc: Global) -> Result<String, AllocError> {
+    let mut text = String::new(alloc);
+    for number in 1..4 {
+        add_sink(&mut text, alloc, number)?;
+    }
+    Ok(text)
+}
+
+#[test]
+fn each_call_of_a_sink_fails_by_its_number(rt: HostRuntime) -> Result<(), Fail> {
+    let text = sinks(rt.alloc())?;
+    assert_eq!(rt; text.as_str(), "!. two;.! one ;.. one two;");
+    Ok(())
+}
+
+/// The same of a store that never fails; it lacks the last name.
+fn add_kept(text: &mut String, store: &mut SureStore) -> Result<(), AllocError> {
+    let letters = write_and_read(store);
+    add(text, &letters, store.bytes("b"))?;
+    add(text, &[], store.bytes("c"))
+}
+
+fn add_sure_store(text: &mut String, alloc: Global) -> Result<(), AllocError> {
+    let mut store = SureStore::new(alloc);
+    add_kept(text, &mut store)
+}
+
+fn add_sure_sink(text: &mut String, alloc: Global) -> Result<(), AllocError> {
+    let mut sink = SureSink::new(alloc);
+    let letters = put_twice(&mut sink);
+    add(text, &letters, Some(sink.bytes()))
+}
+
+fn sure(alloc: Global) -> Result<String, AllocError> {
+    let mut text = String::new(alloc);
+    add_sure_store(&mut text, alloc)?;
+    add_sure_sink(&mut text, alloc)?;
+    Ok(text)
+}
+
+#[test]
+fn sure_objects_keep_what_they_are_given(rt: HostRuntime) -> Result<(), Fail> {
+    let text = sure(rt.alloc())?;
+    assert_eq!(rt; text.as_str(), "...0 12; -;.. one two;");
+    Ok(())
+}
+
+/// Takes four times, and adds the letter of each answer and the first byte then.
+fn add_taken<S: Source>(text: &mut String, source: &mut S) -> Result<(), AllocError> {
+    let mut into = [0; 8];
+    for _ in 0..4 {
+        let answer = counted(source.take(&mut into));
+        add(text, &[answer], Some(&into[..1]))?;
+    }
+    Ok(())
+}
+
+/// A store that reads in steps of one byte, and whose second and sixth call fail.
+fn stepping(alloc: Global) -> Result<MemoryStore, AllocError> {
+    let failing = Vec::from_slice(alloc, &[2, 6])?;
+    let mut store = MemoryStore::in_steps(alloc, failing, 1);
+    store.hold("a", b"xy")?;
+    Ok(store)
+}
+
+/// Reads to the end, and then twice more, of which the second read fails.
+fn add_reads(text: &mut String, store: &mut MemoryStore) -> Result<(), AllocError> {
+    let mut reader = StoreReader::new(store, "a");
+    add_taken(text, &mut reader)?;
+    let mut into = [0; 8];
+    text.push(counted(read_twice(store, "a", &mut into)))
+}
+
+fn all_reads(alloc: Global, store: &mut MemoryStore) -> Result<String, AllocError> {
+    let mut text = String::new(alloc);
+    add_reads(&mut text, store)?;
+    Ok(text)
+}
+
+fn reads(alloc: Global) -> Result<String, AllocError> {
+    let mut store = stepping(alloc)?;
+    all_reads(alloc, &mut store)
+}
+
+// The second call fails, and the third goes on where the first ended.
+#[test]
+fn a_reader_goes_on_after_a_fault(rt: HostRuntime) -> Result<(), Fail> {
+    let text = reads(rt.alloc())?;
+    assert_eq!(rt; text.as_str(), "1 x;! x;1 y;0 y;!");
+    Ok(())
+}
+
+const FILE: &str = "outer_store_test_file";
+
+/// Makes a file of two pieces, and answers a letter for each call.
+fn make<S: Store>(store: &mut S) -> [char; 3] {
+    let created = done(store.create(FILE));
+    let first = done(store.append(FILE, b"abcd"));
+    let second = done(store.append(FILE, b"efg"));
+    [created, first, second]
+}
+
+/// Reads pieces in order and out of it. Bytes that a read does not fill stay as they are.
+fn add_pieces<S: Store>(text: &mut String, store: &mut S) -> Result<(), AllocError> {
+    let mut into = [0; 3];
+    for at in [0, 3, 6, 7, 1] {
+        let count = counted(store.read(FILE, at, &mut into));
+        add(text, &[count], Some(&into))?;
+    }
+    Ok(())
+}
+
+/// Makes the file anew, and reads nothing from it.
+fn make_anew<S: Store>(store: &mut S) -> [char; 2] {
+    let mut into = [0; 3];
+    let created = done(store.create(FILE));
+    let count = counted(store.read(FILE, 0, &mut into));
+    [created, count]
+}
+
+fn use_file<S: Store>(alloc: Global, store: &mut S) -> Result<String, AllocError> {
+    let mut text = String::new(alloc);
+    add(&mut text, &make(store), None)?;
+    add_pieces(&mut text, store)?;
+    add(&mut text, &make_anew(store), None)?;
+    Ok(text)
+}
+
+fn use_real_file<R: Files>(alloc: Global, files: &R) -> Result<String, AllocError> {
+    let mut store = FileStore::new(alloc, files);
+    use_file(alloc, &mut store)
+}
+
 #[test]
 fn a_file_is_made_grown_and_read_in_pieces(rt: HostRuntime) -> Result<(), Fail> {
-    let name = "outer_store_test_file";
-    let mut store = FileStore::new(rt.alloc(), &rt);
-    store.create(name)?;
-    store.append(name, b"abcd")?;
-    store.append(name, b"efg")?;
-    let mut into = [0; 3];
-    for (at, count, bytes) in [
-        (0, 3, b"abc"),
-        (3, 3, b"def"),
-        (6, 1, b"gef"),
-        (7, 0, b"gef"),
-        (1, 3, b"bcd"),
-    ] {
-        assert_eq!(rt; store.read(name, at, &mut into)?, count, "at {at}");
-        assert_eq!(rt; into.as_slice(), bytes.as_slice(), "at {at}");
-    }
-    store.create(name)?;
-    assert_eq!(rt; store.read(name, 0, &mut into)?, 0);
-    fs::remove_file(&rt, name)?;
-    let failed = StoreFault::Failed;
-    assert_eq!(rt; store.read("outer_store_absent", 0, &mut into), Err(failed));
-    assert_eq!(rt; store.read("/", 0, &mut into), Err(failed));
-    assert_eq!(rt; store.create("outer_store_absent/file"), Err(failed));
-    assert_eq!(rt; store.append("outer_store_absent/file", b"a"), Err(failed));
+    let text = use_real_file(rt.alloc(), &rt)?;
+    assert_eq!(rt; text.as_str(), "... -;3 abc;3 def;1 gef;0 gef;3 bcd;.0 -;");
+    fs::remove_file(&rt, FILE)?;
     Ok(())
+}
+
+/// Calls of each kind that the system refuses.
+fn use_wrongly<S: Store>(store: &mut S) -> [char; 4] {
+    let mut into = [0; 3];
+    let absent = counted(store.read("outer_store_absent", 0, &mut into));
+    let folder = counted(store.read("/", 0, &mut into));
+    let created = done(store.create("outer_store_absent/file"));
+    let appended = done(store.append("outer_store_absent/file", b"a"));
+    [absent, folder, created, appended]
+}
+
+#[test]
+fn what_the_system_refuses_has_failed(rt: HostRuntime) {
+    let mut store = FileStore::new(rt.alloc(), &rt);
+    assert!(rt; use_wrongly(&mut store) == ['!'; 4]);
 }
 
 #[test]
