@@ -26,11 +26,11 @@ use Rattle.cert_check.specs.Claiming.{claim_stand, IsClaimStep}
 use Rattle.cert_check.specs.Whole.{answer_from, verdict_from, ended_answer, IsTaken, Starts}
 
 -- what has ended, or was rejected, stays
-steps_ended : (tree : Tree) (listed : Listed) (lines : List CertLine) → steps tree (Ended listed) lines ≡ Ended listed
+pub steps_ended : (tree : Tree) (listed : Listed) (lines : List CertLine) → steps tree (Ended listed) lines ≡ Ended listed
 steps_ended tree listed [] = refl
 steps_ended tree listed (line ∷ lines) = steps_ended tree listed lines
 
-steps_rejected : (tree : Tree) (n : ℕ) (kind : RejectKind) (lines : List CertLine) → steps tree (Rejected n kind) lines ≡ Rejected n kind
+pub steps_rejected : (tree : Tree) (n : ℕ) (kind : RejectKind) (lines : List CertLine) → steps tree (Rejected n kind) lines ≡ Rejected n kind
 steps_rejected tree n kind [] = refl
 steps_rejected tree n kind (line ∷ lines) = steps_rejected tree n kind lines
 

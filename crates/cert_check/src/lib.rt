@@ -6,12 +6,14 @@ mod checker;
 mod checking;
 mod claims;
 mod fault;
+mod laws;
 mod listing;
 
 pub use accepted::{Accepted, Claim, ClaimList, Worlds};
 pub use cert_rules::RejectKind;
 pub use checking::check;
 pub use fault::CheckFault;
+pub use laws::law_written_is_accepted;
 
 #[cfg(test)]
 mod tests;
