@@ -1,6 +1,6 @@
 -- What a log tells keeps up with the walk.
 use Rattle.std.proofs.Common.{◌≡◌, ℕ, ◌<◌, ◌≤◌, Bool, true, false, not, inl, inr, List, [], ◌∷◌, ◌++◌, map, length, Option, Some, None, Result, Ok, Err, OnOk, OnErr, refl, sym, ap, ◌∙◌, subst, arith, IsTrue, append_assoc, append-nil}
-use Rattle.std.specs.Prelude.{IfSome, is_some, ◌↔◌}
+use Rattle.std.specs.Prelude.{IfSome, is_some, ◌↔◌, ⊤}
 use Rattle.std.specs.Result.{IsErrAnd}
 use Rattle.rcc5_core.specs.declared.Rel.{Rel}
 use Rattle.rcc5_core.specs.declared.RelSet.{RelSet}
@@ -123,61 +123,71 @@ on_ok_adds (Err e) a b c first second = tt
 fault_joins : {T : Type 0} (r : Result T StepFault) (a b c : ℕ) → b ≡ a → IfLogFailed r (Rose b c) (c ≡ b) → IfLogFailed r (Rose a c) (c ≡ a)
 fault_joins r a b c first second = subst (λ a. IfLogFailed r (Rose a c) (c ≡ a)) first second
 
+quiet_joined : {T : Type 0} (r : Result T StepFault) (A B : Type 0) → (A → B) → IfLogFailed r ⊤ A → IfLogFailed r ⊤ B
+quiet_joined (Ok v) A B by h = by h
+quiet_joined (Err LogFailed) A B by h = tt
+quiet_joined (Err NoMemory) A B by h = by h
+
 -- a log that is left as it is, and one that two calls go on with
-module _ {L : Type 0} {drops : L → Bool} {lines : L → Told} {faults : L → ℕ} {steady : L → L → Type 0} where
-  pub log_stays_ok : {T : Type 0} (v : T) (a : L) → steady a a → LogGoes {T = T} drops lines faults steady (Ok v) a a
-  log_stays_ok v a stays = record { told = adds_none (lines a); fault = refl; later = omega arith; comes = stays; as_before = refl }
+module _ {L : Type 0} {drops : L → Bool} {lines : L → Told} {faults : L → ℕ} {steady quiet : L → L → Type 0} where
+  pub log_stays_ok : {T : Type 0} (v : T) (a : L) → steady a a → quiet a a → LogGoes {T = T} drops lines faults steady quiet (Ok v) a a
+  log_stays_ok v a stays still = record { told = adds_none (lines a); fault = refl; later = omega arith; comes = stays; still = still; as_before = refl }
 
-  pub log_memory : {T : Type 0} (r : Result T StepFault) (a : L) → steady a a → IsErrAnd r (λ f. f ≡ NoMemory) → LogGoes {T = T} drops lines faults steady r a a
-  log_memory {T} (Ok v) a stays h = absurd h
-  log_memory {T} (Err f) a stays h =
-      record { told = tt; fault = fault_memory T f (Rose (faults a) (faults a)) (faults a ≡ faults a) h refl; later = omega arith; comes = stays; as_before = refl }
+  pub log_memory : {T : Type 0} (r : Result T StepFault) (a : L) → steady a a → quiet a a → IsErrAnd r (λ f. f ≡ NoMemory) → LogGoes {T = T} drops lines faults steady quiet r a a
+  log_memory {T} (Ok v) a stays still h = absurd h
+  log_memory {T} (Err f) a stays still h =
+      record { told = tt; fault = fault_memory T f (Rose (faults a) (faults a)) (faults a ≡ faults a) h refl; later = omega arith; comes = stays;
+        still = fault_memory T f ⊤ (quiet a a) h still; as_before = refl }
 
-  pub log_joins : {S T : Type 0} (v : S) (r : Result T StepFault) (a b c : L) → (steady a b → steady b c → steady a c) →
-      LogGoes {T = S} drops lines faults steady (Ok v) a b → LogGoes {T = T} drops lines faults steady r b c → LogGoes {T = T} drops lines faults steady r a c
-  log_joins v r a b c joins first second = record {
+  pub log_joins : {S T : Type 0} (v : S) (r : Result T StepFault) (a b c : L) → (steady a b → steady b c → steady a c) → (quiet a b → quiet b c → quiet a c) →
+      LogGoes {T = S} drops lines faults steady quiet (Ok v) a b → LogGoes {T = T} drops lines faults steady quiet r b c → LogGoes {T = T} drops lines faults steady quiet r a c
+  log_joins v r a b c joins both first second = record {
     told = on_ok_adds r (lines a) (lines b) (lines c) first.told second.told;
     fault = fault_joins r (faults a) (faults b) (faults c) first.fault second.fault;
     later = omega (arith, first.later, second.later);
     comes = joins first.comes second.comes;
+    still = quiet_joined r (quiet b c) (quiet a c) (λ later. both first.still later) second.still;
     as_before = second.as_before ∙ first.as_before;
   }
 
   -- with an answer of another type
-  pub log_ok_as : {S T : Type 0} (v : S) (u : T) (a b : L) → LogGoes {T = S} drops lines faults steady (Ok v) a b → LogGoes {T = T} drops lines faults steady (Ok u) a b
-  log_ok_as v u a b goes = record { told = goes.told; fault = goes.fault; later = goes.later; comes = goes.comes; as_before = goes.as_before }
+  pub log_ok_as : {S T : Type 0} (v : S) (u : T) (a b : L) → LogGoes {T = S} drops lines faults steady quiet (Ok v) a b → LogGoes {T = T} drops lines faults steady quiet (Ok u) a b
+  log_ok_as v u a b goes = record { told = goes.told; fault = goes.fault; later = goes.later; comes = goes.comes; still = goes.still; as_before = goes.as_before }
 
-  pub log_then_memory : {S T : Type 0} (v : S) (r : Result T StepFault) (a b : L) → IsErrAnd r (λ f. f ≡ NoMemory) → LogGoes {T = S} drops lines faults steady (Ok v) a b →
-      LogGoes {T = T} drops lines faults steady r a b
+  pub log_then_memory : {S T : Type 0} (v : S) (r : Result T StepFault) (a b : L) → IsErrAnd r (λ f. f ≡ NoMemory) → LogGoes {T = S} drops lines faults steady quiet (Ok v) a b →
+      LogGoes {T = T} drops lines faults steady quiet r a b
   log_then_memory {S} {T} v (Ok u) a b h goes = absurd h
   log_then_memory {S} {T} v (Err f) a b h goes = record {
     told = tt;
     fault = fault_memory T f (Rose (faults a) (faults b)) (faults b ≡ faults a) h goes.fault;
     later = goes.later;
     comes = goes.comes;
+    still = fault_memory T f ⊤ (quiet a b) h goes.still;
     as_before = goes.as_before;
   }
 
-  pub log_as : {S T : Type 0} (e : StepFault) (r : Result T StepFault) (a b : L) → IsErrAnd r (λ f. f ≡ e) → LogGoes {T = S} drops lines faults steady (Err e) a b →
-      LogGoes {T = T} drops lines faults steady r a b
+  pub log_as : {S T : Type 0} (e : StepFault) (r : Result T StepFault) (a b : L) → IsErrAnd r (λ f. f ≡ e) → LogGoes {T = S} drops lines faults steady quiet (Err e) a b →
+      LogGoes {T = T} drops lines faults steady quiet r a b
   log_as {S} {T} e (Ok u) a b h goes = absurd h
   log_as {S} {T} e (Err f) a b h goes = record {
     told = tt;
     fault = fault_same S T e f (Rose (faults a) (faults b)) (faults b ≡ faults a) h goes.fault;
     later = goes.later;
     comes = goes.comes;
+    still = fault_same S T e f ⊤ (quiet a b) h goes.still;
     as_before = goes.as_before;
   }
 
   -- what a log answers, as a step
   pub log_put_err : (S T : Type 0) (e : StoreFault) (r : Result T StepFault) (a b : L) → IsErrAnd r (λ f. f ≡ step_fault e) → IfFailed {T = S} (Err e) (Rose (faults a) (faults b)) (faults b ≡ faults a) →
-      faults a ≤ faults b → steady a b → drops b ≡ drops a → LogGoes {T = T} drops lines faults steady r a b
-  log_put_err S T e (Ok u) a b h cause later comes as_before = absurd h
-  log_put_err S T e (Err f) a b h cause later comes as_before = record {
+      faults a ≤ faults b → steady a b → IfFailed {T = S} (Err e) ⊤ (quiet a b) → drops b ≡ drops a → LogGoes {T = T} drops lines faults steady quiet r a b
+  log_put_err S T e (Ok u) a b h cause later comes still as_before = absurd h
+  log_put_err S T e (Err f) a b h cause later comes still as_before = record {
     told = tt;
     fault = fault_of S T e f (Rose (faults a) (faults b)) (faults b ≡ faults a) h cause;
     later = later;
     comes = comes;
+    still = fault_of S T e f ⊤ (quiet a b) h still;
     as_before = as_before;
   }
 

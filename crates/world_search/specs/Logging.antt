@@ -1,5 +1,5 @@
 -- What a search puts in a log, so that what the log tells stays a valid listing.
-use Rattle.std.specs.Prelude.{◌≡◌, ℕ, ◌<◌, ◌≤◌, Bool, true, false, not, IsTrue, List, ◌++◌, length, Option, Some, None, IfSome, Result, Ok, Err, OnOk}
+use Rattle.std.specs.Prelude.{◌≡◌, ℕ, ◌<◌, ◌≤◌, Bool, true, false, not, IsTrue, List, ◌++◌, length, Option, Some, None, IfSome, Result, Ok, Err, OnOk, ⊤}
 use Rattle.rcc5_core.specs.declared.Rel.{Rel}
 use Rattle.world_model.specs.Problem.{Problem, pair_count}
 use Rattle.world_model.specs.Alive.{problem_at, IsAlive}
@@ -37,12 +37,14 @@ IfLogFailed (Ok value) failed other = other
 IfLogFailed (Err LogFailed) failed other = failed
 IfLogFailed (Err NoMemory) failed other = other
 
--- what a call leaves of a log: after Ok the told lines with more behind them, and a failure only where the count of faults rose
-pub record LogGoes {L T : Type 0} (drops : L → Bool) (lines : L → Told) (faults : L → ℕ) (steady : L → L → Type 0) (result : Result T StepFault) (old new : L) : Type 0 where
+-- what a call leaves of a log: after Ok the told lines with more behind them, a failure only where the count of faults rose, and at any
+-- other answer no count that moved
+pub record LogGoes {L T : Type 0} (drops : L → Bool) (lines : L → Told) (faults : L → ℕ) (steady quiet : L → L → Type 0) (result : Result T StepFault) (old new : L) : Type 0 where
   pub told : OnOk result (AddsLines (lines old) (lines new))
   pub fault : IfLogFailed result (Rose (faults old) (faults new)) (faults new ≡ faults old)
   pub later : faults old ≤ faults new
   pub comes : steady old new
+  pub still : IfLogFailed result ⊤ (quiet old new)
   pub as_before : drops new ≡ drops old
 
 -- told lines that begin a listing and keep up with an asker that waits at one node keep up with it, later, at the next

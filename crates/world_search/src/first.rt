@@ -106,7 +106,7 @@ fn along<L: TreeLog>(
     ensures guide { IsGuideOf problem.now walk.new.path guide.new }
     ensures shape { asker.new.shape ≡ asker.old.shape }
     ensures keeps { KeepsOn problem.now from.now (L.lines log.old) (L.lines log.new) asker.old asker.new (expected walk.old) (expected walk.new) }
-    ensures log { LogGoes L.drops L.lines L.faults L.steady result log.old log.new }
+    ensures log { LogGoes L.drops L.lines L.faults L.steady L.quiet result log.old log.new }
 {
     let alive = guide.is_alive(problem, asker, &walk.path)?;
     tell(alloc, problem, asker, log, &walk.path, alive)?;
@@ -133,7 +133,7 @@ fn find<L: TreeLog>(
     ensures guide { IsGuideOf problem.now walk.new.path guide.new }
     ensures shape { asker.new.shape ≡ asker.old.shape }
     ensures keeps { KeepsOn problem.now from.now (L.lines log.old) (L.lines log.new) asker.old asker.new (expected walk.old) (expected walk.new) }
-    ensures log { LogGoes L.drops L.lines L.faults L.steady result log.old log.new }
+    ensures log { LogGoes L.drops L.lines L.faults L.steady L.quiet result log.old log.new }
 {
     let mut turns = 0;
     walk.settle()?;
@@ -170,7 +170,7 @@ pub(crate) fn begin<L: TreeLog>(
     ensures guide { IsGuideOf problem.now walk.new.path guide.new }
     ensures shape { asker.new.shape ≡ asker.old.shape }
     ensures keeps { KeepsOn problem.now span.now.from (L.lines log.old) (L.lines log.new) asker.old asker.new (expected walk.old) (expected walk.new) }
-    ensures log { LogGoes L.drops L.lines L.faults L.steady result log.old log.new }
+    ensures log { LogGoes L.drops L.lines L.faults L.steady L.quiet result log.old log.new }
 {
     if walk.stage == Stage::Start {
         find(alloc, problem, asker, log, guide, &span.from, walk)?;

@@ -1,5 +1,5 @@
 //! The walk over the nodes.
-ghost use Rattle.std.specs.Prelude.{◌≡◌, ◌≤◌, [], length, IfOk, OnOk, OnErr, IfSome};
+ghost use Rattle.std.specs.Prelude.{◌≡◌, ◌≤◌, [], length, IfOk, OnOk, OnErr, IfSome, ⊤};
 ghost use Rattle.world_model.specs.Problem.{pair_count};
 ghost use Rattle.constraint_set.specs.Shape.{shape_of};
 ghost use Rattle.world_search.specs.Guiding.{IsGuideOf};
@@ -101,6 +101,7 @@ impl Search {
         ensures fault { IfLogFailed result (Rose (L.faults log.old) (L.faults log.new)) (L.faults log.new ≡ L.faults log.old) }
         ensures later { L.faults log.old ≤ L.faults log.new }
         ensures steady { L.steady log.old log.new }
+        ensures quiet { IfLogFailed result ⊤ (L.quiet log.old log.new) }
     {
         let (guide, walk) = (&mut self.guide, &mut self.walk);
         family_step(

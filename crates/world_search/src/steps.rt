@@ -82,7 +82,7 @@ fn turn<L: TreeLog>(
     ensures guide { IsGuideOf problem.now walk.new.path guide.new }
     ensures shape { asker.new.shape ≡ asker.old.shape }
     ensures keeps { KeepsOn problem.now span.now.from (L.lines log.old) (L.lines log.new) asker.old asker.new (expected walk.old) (expected walk.new) }
-    ensures log { LogGoes L.drops L.lines L.faults L.steady result log.old log.new }
+    ensures log { LogGoes L.drops L.lines L.faults L.steady L.quiet result log.old log.new }
 {
     walk.settle()?;
     if !is_before_end(&walk.path, &span.to) {
@@ -125,7 +125,7 @@ fn walk_on<L: TreeLog>(
     ensures few { OnOk result (length asker.new.solver.idle ≤ 1024) }
     ensures shape { asker.new.shape ≡ asker.old.shape }
     ensures keeps { KeepsOn problem.now span.now.from (L.lines log.old) (L.lines log.new) asker.old asker.new (expected walk.old) (expected walk.new) }
-    ensures log { LogGoes L.drops L.lines L.faults L.steady result log.old log.new }
+    ensures log { LogGoes L.drops L.lines L.faults L.steady L.quiet result log.old log.new }
 {
     begin(alloc, problem, asker, log, guide, span, walk)?;
     let mut turns = 0;
@@ -273,7 +273,7 @@ fn world_step<L: TreeLog>(
     ensures few { OnOk result (length asker.new.solver.idle ≤ 1024) }
     ensures shape { asker.new.shape ≡ asker.old.shape }
     ensures keeps { KeepsFrom problem.now (L.lines log.old) (L.lines log.new) asker.old asker.new walk.old walk.new }
-    ensures log { LogGoes L.drops L.lines L.faults L.steady result log.old log.new }
+    ensures log { LogGoes L.drops L.lines L.faults L.steady L.quiet result log.old log.new }
 {
     let family = family_of(alloc, problem, asker, table)?;
     tell_world(alloc, problem, asker, log, table, &family)?;
@@ -305,7 +305,7 @@ pub(crate) fn family_step<L: TreeLog>(
     ensures few { OnOk result (length asker.new.solver.idle ≤ 1024) }
     ensures shape { asker.new.shape ≡ asker.old.shape }
     ensures keeps { KeepsOn problem.now span.now.from (L.lines log.old) (L.lines log.new) asker.old asker.new (expected walk.old) (expected walk.new) }
-    ensures log { LogGoes L.drops L.lines L.faults L.steady result log.old log.new }
+    ensures log { LogGoes L.drops L.lines L.faults L.steady L.quiet result log.old log.new }
 {
     match walk_on(alloc, problem, asker, log, guide, span, walk, nodes)? {
         TableStep::World(table) => {

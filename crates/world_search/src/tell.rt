@@ -26,7 +26,7 @@ fn put_one<L: TreeLog>(log: &mut L, line: &CertLine) -> Result<(), StepFault>
     requires { IdsFromOne line.now }
     ensures told { OnOk result (IsToldWith (L.lines log.old) line.now (L.lines log.new)) }
     ensures err { OnErr result (L.lines log.new ≡ None) }
-    ensures log { LogGoes L.drops L.lines L.faults L.steady result log.old log.new }
+    ensures log { LogGoes L.drops L.lines L.faults L.steady L.quiet result log.old log.new }
 {
     log.put_line(line)?;
     Ok(())
@@ -37,7 +37,7 @@ fn put_all<L: TreeLog>(log: &mut L, lines: &[CertLine]) -> Result<(), StepFault>
     requires { All IdsFromOne lines.now }
     ensures told { OnOk result (AreToldWith (L.lines log.old) lines.now (L.lines log.new)) }
     ensures err { OnErr result (L.lines log.new ≡ None) }
-    ensures log { LogGoes L.drops L.lines L.faults L.steady result log.old log.new }
+    ensures log { LogGoes L.drops L.lines L.faults L.steady L.quiet result log.old log.new }
 {
     for each in lines {
         put_one(log, each)?;
@@ -55,7 +55,7 @@ pub(crate) fn put_waiting<L: TreeLog>(
     ensures same { IsSameButLines asker.old asker.new }
     ensures none_waits { OnOk result (asker.new.solver.waiting ≡ []) }
     ensures keeps { (p : Problem) (from : List Rel) (at : Option (List Rel)) → KeepsOn p from (L.lines log.old) (L.lines log.new) asker.old asker.new at at }
-    ensures log { LogGoes L.drops L.lines L.faults L.steady result log.old log.new }
+    ensures log { LogGoes L.drops L.lines L.faults L.steady L.quiet result log.old log.new }
 {
     if log.is_dropping() {
         asker.clear_lines();
@@ -78,7 +78,7 @@ fn put_node<L: TreeLog>(
     ensures none_waits { OnOk result (asker.new.solver.waiting ≡ []) }
     ensures keeps { (p : Problem) (m : List Rel) → TellsOf p asker.old.solver.state m line.now →
         KeepsPast p result (L.lines log.old) (L.lines log.new) asker.old asker.new m (is_branch line.now) }
-    ensures log { LogGoes L.drops L.lines L.faults L.steady result log.old log.new }
+    ensures log { LogGoes L.drops L.lines L.faults L.steady L.quiet result log.old log.new }
 {
     put_waiting(alloc, asker, log)?;
     put_one(log, line)
@@ -95,7 +95,7 @@ fn tell_branch<L: TreeLog>(
     requires { IsInnerOrDead problem.now node.now true }
     ensures shape { asker.new.shape ≡ asker.old.shape }
     ensures keeps { KeepsPast problem.now result (L.lines log.old) (L.lines log.new) asker.old asker.new node.now true }
-    ensures log { LogGoes L.drops L.lines L.faults L.steady result log.old log.new }
+    ensures log { LogGoes L.drops L.lines L.faults L.steady L.quiet result log.old log.new }
 {
     let line = branch_line(problem, node);
     put_node(alloc, asker, log, &line)
@@ -114,7 +114,7 @@ fn tell_dead<L: TreeLog>(
     requires dead { IsInnerOrDead problem.now node.now false }
     ensures shape { asker.new.shape ≡ asker.old.shape }
     ensures keeps { KeepsPast problem.now result (L.lines log.old) (L.lines log.new) asker.old asker.new node.now false }
-    ensures log { LogGoes L.drops L.lines L.faults L.steady result log.old log.new }
+    ensures log { LogGoes L.drops L.lines L.faults L.steady L.quiet result log.old log.new }
 {
     if log.is_dropping() {
         asker.clear_lines();
@@ -138,7 +138,7 @@ pub(crate) fn tell<L: TreeLog>(
     requires so { IsInnerOrDead problem.now node.now branches }
     ensures shape { asker.new.shape ≡ asker.old.shape }
     ensures keeps { KeepsPast problem.now result (L.lines log.old) (L.lines log.new) asker.old asker.new node.now branches }
-    ensures log { LogGoes L.drops L.lines L.faults L.steady result log.old log.new }
+    ensures log { LogGoes L.drops L.lines L.faults L.steady L.quiet result log.old log.new }
 {
     if branches {
         tell_branch(alloc, problem, asker, log, node)
@@ -163,7 +163,7 @@ pub(crate) fn tell_world<L: TreeLog>(
     ensures same { IsSameButLines asker.old asker.new }
     ensures none_waits { OnOk result (asker.new.solver.waiting ≡ []) }
     ensures keeps { KeepsPast problem.now result (L.lines log.old) (L.lines log.new) asker.old asker.new node.now false }
-    ensures log { LogGoes L.drops L.lines L.faults L.steady result log.old log.new }
+    ensures log { LogGoes L.drops L.lines L.faults L.steady L.quiet result log.old log.new }
 {
     if log.is_dropping() {
         asker.clear_lines();

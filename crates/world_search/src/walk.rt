@@ -227,7 +227,7 @@ fn move_on<L: TreeLog>(
     ensures guide { IsGuideOf problem.now walk.new.path guide.new }
     ensures shape { asker.new.shape ≡ asker.old.shape }
     ensures keeps { KeepsFrom problem.now (L.lines log.old) (L.lines log.new) asker.old asker.new walk.old walk.new }
-    ensures log { LogGoes L.drops L.lines L.faults L.steady result log.old log.new }
+    ensures log { LogGoes L.drops L.lines L.faults L.steady L.quiet result log.old log.new }
 {
     tell(alloc, problem, asker, log, &walk.path, set.is_some())?;
     go_on(problem, guide, walk, set);
@@ -256,7 +256,7 @@ pub(crate) fn visit<L: TreeLog>(
     ensures guide { IsGuideOf problem.now walk.new.path guide.new }
     ensures shape { asker.new.shape ≡ asker.old.shape }
     ensures keeps { KeepsFrom problem.now (L.lines log.old) (L.lines log.new) asker.old asker.new walk.old walk.new }
-    ensures log { LogGoes L.drops L.lines L.faults L.steady result log.old log.new }
+    ensures log { LogGoes L.drops L.lines L.faults L.steady L.quiet result log.old log.new }
 {
     match look(problem, asker, guide, walk)? {
         Found::World => Ok(true),

@@ -15,7 +15,7 @@ returns-in_err-alive-clause-keeps g c =
     keeps_goes c.args.problem.now c.args.from.now (g.L.TreeLog.lines c.args.log.now) c.args.asker.now c.is_alive.new.asker (expected c.args.walk.now) c.is_alive.ensures.kept
 
 pub returns-in_err-alive-clause-log : goal.returns-in_err-alive-clause-log
-returns-in_err-alive-clause-log g c = log_memory c.from_residual.result c.args.log.now (g.met.L.TreeLog.steady_stays c.args.log.now) c.from_residual.ensures.1
+returns-in_err-alive-clause-log g c = log_memory c.from_residual.result c.args.log.now (g.met.L.TreeLog.steady_stays c.args.log.now) (g.met.L.TreeLog.quiet_stays c.args.log.now) c.from_residual.ensures.1
 
 pub returns-in_err-tell-clause-keeps : goal.returns-in_err-tell-clause-keeps
 returns-in_err-tell-clause-keeps g c =

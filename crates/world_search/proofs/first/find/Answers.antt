@@ -18,7 +18,7 @@ returns-in_err-settle-clause-keeps g c =
     (expected_same c.args.walk.now c.settle.new.self c.settle.ensures.stage c.settle.ensures.place)
 
 pub returns-in_err-settle-clause-log : goal.returns-in_err-settle-clause-log
-returns-in_err-settle-clause-log g c = log_memory c.from_residual.result c.args.log.now (g.met.L.TreeLog.steady_stays c.args.log.now) c.from_residual.ensures.1
+returns-in_err-settle-clause-log g c = log_memory c.from_residual.result c.args.log.now (g.met.L.TreeLog.steady_stays c.args.log.now) (g.met.L.TreeLog.quiet_stays c.args.log.now) c.from_residual.ensures.1
 
 pub returns-in_err-turns-clause-keeps : goal.returns-in_err-turns-clause-keeps
 returns-in_err-turns-clause-keeps g c =
@@ -45,7 +45,7 @@ returns-in_err-along-clause-keeps g c =
 
 pub returns-in_err-along-clause-log : goal.returns-in_err-along-clause-log
 returns-in_err-along-clause-log g c =
-    log_as _ c.from_residual-in_err-along.result c.args.log.now c.along.new.log c.from_residual-in_err-along.ensures.1 (log_joins _ _ c.args.log.now c.loop-alloc.log c.along.new.log (g.met.L.TreeLog.steady_joins c.args.log.now c.loop-alloc.log c.along.new.log) c.loop-alloc.invariant.log c.in_err-along.ensures.log)
+    log_as _ c.from_residual-in_err-along.result c.args.log.now c.along.new.log c.from_residual-in_err-along.ensures.1 (log_joins _ _ c.args.log.now c.loop-alloc.log c.along.new.log (g.met.L.TreeLog.steady_joins c.args.log.now c.loop-alloc.log c.along.new.log) (g.met.L.TreeLog.quiet_joins c.args.log.now c.loop-alloc.log c.along.new.log) c.loop-alloc.invariant.log c.in_err-along.ensures.log)
 
 pub returns-then-not-branch-clause-ok : goal.returns-then-not-branch-clause-ok
 returns-then-not-branch-clause-ok g c =
@@ -62,7 +62,7 @@ returns-then-not-branch-clause-keeps g c =
 
 pub returns-then-not-branch-clause-log : goal.returns-then-not-branch-clause-log
 returns-then-not-branch-clause-log g c =
-    log_ok_as _ _ c.args.log.now c.along.new.log (log_joins _ _ c.args.log.now c.loop-alloc.log c.along.new.log (g.met.L.TreeLog.steady_joins c.args.log.now c.loop-alloc.log c.along.new.log) c.loop-alloc.invariant.log c.in_ok-along.ensures.log)
+    log_ok_as _ _ c.args.log.now c.along.new.log (log_joins _ _ c.args.log.now c.loop-alloc.log c.along.new.log (g.met.L.TreeLog.steady_joins c.args.log.now c.loop-alloc.log c.along.new.log) (g.met.L.TreeLog.quiet_joins c.args.log.now c.loop-alloc.log c.along.new.log) c.loop-alloc.invariant.log c.in_ok-along.ensures.log)
 
 pub returns-in_err-settle-2-clause-err : goal.returns-in_err-settle-2-clause-err
 returns-in_err-settle-2-clause-err g c =
@@ -81,7 +81,7 @@ returns-in_err-settle-2-clause-keeps g c =
 
 pub returns-in_err-settle-2-clause-log : goal.returns-in_err-settle-2-clause-log
 returns-in_err-settle-2-clause-log g c =
-    log_then_memory _ c.from_residual-in_err-settle-2.result c.args.log.now c.along.new.log c.from_residual-in_err-settle-2.ensures.1 (log_joins _ _ c.args.log.now c.loop-alloc.log c.along.new.log (g.met.L.TreeLog.steady_joins c.args.log.now c.loop-alloc.log c.along.new.log) c.loop-alloc.invariant.log c.in_ok-along.ensures.log)
+    log_then_memory _ c.from_residual-in_err-settle-2.result c.args.log.now c.along.new.log c.from_residual-in_err-settle-2.ensures.1 (log_joins _ _ c.args.log.now c.loop-alloc.log c.along.new.log (g.met.L.TreeLog.steady_joins c.args.log.now c.loop-alloc.log c.along.new.log) (g.met.L.TreeLog.quiet_joins c.args.log.now c.loop-alloc.log c.along.new.log) c.loop-alloc.invariant.log c.in_ok-along.ensures.log)
 
 pub returns-clause-ok : goal.returns-clause-ok
 returns-clause-ok g c =
@@ -116,5 +116,5 @@ loop-alloc-preserved g c =
       keeps = keeps_ends p from (g.L.TreeLog.lines c.args.log.now) (g.L.TreeLog.lines c.along.new.log) c.args.asker.now c.along.new.asker (expected c.args.walk.now) (expected c.args.walk.now) (expected c.along.new.walk) (expected c.settle-in-loop-alloc.new.self) refl
           (expected_same c.along.new.walk c.settle-in-loop-alloc.new.self c.settle-in-loop-alloc.ensures.stage c.settle-in-loop-alloc.ensures.place) (keeps_joins p from (g.L.TreeLog.lines c.args.log.now) (g.L.TreeLog.lines c.loop-alloc.log) (g.L.TreeLog.lines c.along.new.log) c.args.asker.now c.tidy_by_turns.new.asker c.along.new.asker (expected c.args.walk.now) (expected c.loop-alloc.walk) (expected c.along.new.walk)
           c.loop-alloc.invariant.log.told (keeps_before p from (g.L.TreeLog.lines c.args.log.now) (g.L.TreeLog.lines c.loop-alloc.log) c.args.asker.now c.loop-alloc.asker c.tidy_by_turns.new.asker (expected c.args.walk.now) (expected c.loop-alloc.walk) c.loop-alloc.invariant.keeps c.tidy_by_turns.ensures.kept) c.along.ensures.keeps);
-      log = log_ok_as _ (tt {0}) c.args.log.now c.along.new.log (log_joins _ _ c.args.log.now c.loop-alloc.log c.along.new.log (g.met.L.TreeLog.steady_joins c.args.log.now c.loop-alloc.log c.along.new.log) c.loop-alloc.invariant.log c.in_ok-along.ensures.log);
+      log = log_ok_as _ (tt {0}) c.args.log.now c.along.new.log (log_joins _ _ c.args.log.now c.loop-alloc.log c.along.new.log (g.met.L.TreeLog.steady_joins c.args.log.now c.loop-alloc.log c.along.new.log) (g.met.L.TreeLog.quiet_joins c.args.log.now c.loop-alloc.log c.along.new.log) c.loop-alloc.invariant.log c.in_ok-along.ensures.log);
     }

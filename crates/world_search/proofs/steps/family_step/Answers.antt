@@ -87,7 +87,7 @@ returns-in_err-family-in-World-clause-keeps g c =
 
 pub returns-in_err-family-in-World-clause-log : goal.returns-in_err-family-in-World-clause-log
 returns-in_err-family-in-World-clause-log g c =
-    log_as _ c.from_residual-in_err-family-in-World.result c.args.log.now c.world_step.new.log c.from_residual-in_err-family-in-World.ensures.1 (log_joins _ _ c.args.log.now c.walk_on.new.log c.world_step.new.log (g.met.L.TreeLog.steady_joins c.args.log.now c.walk_on.new.log c.world_step.new.log) c.in_ok-table.ensures.log c.in_err-family-in-World.ensures.log)
+    log_as _ c.from_residual-in_err-family-in-World.result c.args.log.now c.world_step.new.log c.from_residual-in_err-family-in-World.ensures.1 (log_joins _ _ c.args.log.now c.walk_on.new.log c.world_step.new.log (g.met.L.TreeLog.steady_joins c.args.log.now c.walk_on.new.log c.world_step.new.log) (g.met.L.TreeLog.quiet_joins c.args.log.now c.walk_on.new.log c.world_step.new.log) c.in_ok-table.ensures.log c.in_err-family-in-World.ensures.log)
 
 pub returns-in_ok-family-in-World-clause-step : goal.returns-in_ok-family-in-World-clause-step
 returns-in_ok-family-in-World-clause-step g c =
@@ -123,7 +123,7 @@ returns-in_ok-family-in-World-clause-keeps g c =
 
 pub returns-in_ok-family-in-World-clause-log : goal.returns-in_ok-family-in-World-clause-log
 returns-in_ok-family-in-World-clause-log g c =
-    log_ok_as _ _ c.args.log.now c.world_step.new.log (log_joins _ _ c.args.log.now c.walk_on.new.log c.world_step.new.log (g.met.L.TreeLog.steady_joins c.args.log.now c.walk_on.new.log c.world_step.new.log) c.in_ok-table.ensures.log c.in_ok-family-in-World.ensures.log)
+    log_ok_as _ _ c.args.log.now c.world_step.new.log (log_joins _ _ c.args.log.now c.walk_on.new.log c.world_step.new.log (g.met.L.TreeLog.steady_joins c.args.log.now c.walk_on.new.log c.world_step.new.log) (g.met.L.TreeLog.quiet_joins c.args.log.now c.walk_on.new.log c.world_step.new.log) c.in_ok-table.ensures.log c.in_ok-family-in-World.ensures.log)
 
 pub returns-in_err-put_waiting-in-Spent-clause-keeps : goal.returns-in_err-put_waiting-in-Spent-clause-keeps
 returns-in_err-put_waiting-in-Spent-clause-keeps g c =

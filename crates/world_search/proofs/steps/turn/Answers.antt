@@ -77,7 +77,7 @@ returns-in_err-settle-clause-keeps g c =
     (expected_same c.args.walk.now c.settle.new.self c.settle.ensures.stage c.settle.ensures.place)
 
 pub returns-in_err-settle-clause-log : goal.returns-in_err-settle-clause-log
-returns-in_err-settle-clause-log g c = log_memory c.from_residual.result c.args.log.now (g.met.L.TreeLog.steady_stays c.args.log.now) c.from_residual.ensures.1
+returns-in_err-settle-clause-log g c = log_memory c.from_residual.result c.args.log.now (g.met.L.TreeLog.steady_stays c.args.log.now) (g.met.L.TreeLog.quiet_stays c.args.log.now) c.from_residual.ensures.1
 
 pub returns-in_err-node-clause-keeps : goal.returns-in_err-node-clause-keeps
 returns-in_err-node-clause-keeps g c =
@@ -85,7 +85,7 @@ returns-in_err-node-clause-keeps g c =
     (expected_same c.args.walk.now c.settle.new.self c.settle.ensures.stage c.settle.ensures.place)
 
 pub returns-in_err-node-clause-log : goal.returns-in_err-node-clause-log
-returns-in_err-node-clause-log g c = log_memory c.from_residual-in_err-node.result c.args.log.now (g.met.L.TreeLog.steady_stays c.args.log.now) c.from_residual-in_err-node.ensures.1
+returns-in_err-node-clause-log g c = log_memory c.from_residual-in_err-node.result c.args.log.now (g.met.L.TreeLog.steady_stays c.args.log.now) (g.met.L.TreeLog.quiet_stays c.args.log.now) c.from_residual-in_err-node.ensures.1
 
 pub returns-then-not-is_before_end-clause-keeps : goal.returns-then-not-is_before_end-clause-keeps
 returns-then-not-is_before_end-clause-keeps g c =
@@ -93,7 +93,7 @@ returns-then-not-is_before_end-clause-keeps g c =
     (expected_same c.args.walk.now c.settle.new.self c.settle.ensures.stage c.settle.ensures.place)
 
 pub returns-then-not-is_before_end-clause-log : goal.returns-then-not-is_before_end-clause-log
-returns-then-not-is_before_end-clause-log g c = log_stays_ok _ c.args.log.now (g.met.L.TreeLog.steady_stays c.args.log.now)
+returns-then-not-is_before_end-clause-log g c = log_stays_ok _ c.args.log.now (g.met.L.TreeLog.steady_stays c.args.log.now) (g.met.L.TreeLog.quiet_stays c.args.log.now)
 
 pub returns-in_err-node-2-clause-keeps : goal.returns-in_err-node-2-clause-keeps
 returns-in_err-node-2-clause-keeps g c =
@@ -101,7 +101,7 @@ returns-in_err-node-2-clause-keeps g c =
     (expected_same c.args.walk.now c.settle.new.self c.settle.ensures.stage c.settle.ensures.place)
 
 pub returns-in_err-node-2-clause-log : goal.returns-in_err-node-2-clause-log
-returns-in_err-node-2-clause-log g c = log_memory c.from_residual-in_err-node-2.result c.args.log.now (g.met.L.TreeLog.steady_stays c.args.log.now) c.from_residual-in_err-node-2.ensures.1
+returns-in_err-node-2-clause-log g c = log_memory c.from_residual-in_err-node-2.result c.args.log.now (g.met.L.TreeLog.steady_stays c.args.log.now) (g.met.L.TreeLog.quiet_stays c.args.log.now) c.from_residual-in_err-node-2.ensures.1
 
 pub returns-then-is_spent-clause-keeps : goal.returns-then-is_spent-clause-keeps
 returns-then-is_spent-clause-keeps g c =
@@ -109,7 +109,7 @@ returns-then-is_spent-clause-keeps g c =
     (expected_same c.args.walk.now c.settle.new.self c.settle.ensures.stage c.settle.ensures.place)
 
 pub returns-then-is_spent-clause-log : goal.returns-then-is_spent-clause-log
-returns-then-is_spent-clause-log g c = log_stays_ok _ c.args.log.now (g.met.L.TreeLog.steady_stays c.args.log.now)
+returns-then-is_spent-clause-log g c = log_stays_ok _ c.args.log.now (g.met.L.TreeLog.steady_stays c.args.log.now) (g.met.L.TreeLog.quiet_stays c.args.log.now)
 
 pub visit-requires-clause-at : goal.visit-requires-clause-at
 visit-requires-clause-at g c =

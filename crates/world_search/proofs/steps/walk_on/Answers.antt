@@ -53,7 +53,7 @@ loop-alloc-preserved g c =
       keeps = keeps_before p from (g.L.TreeLog.lines c.args.log.now) (g.L.TreeLog.lines c.turn.new.log) c.args.asker.now c.turn.new.asker c.tidy_by_turns.new.asker (expected c.args.walk.now) (expected c.turn.new.walk)
           (keeps_joins p from (g.L.TreeLog.lines c.args.log.now) (g.L.TreeLog.lines c.loop-alloc.log) (g.L.TreeLog.lines c.turn.new.log) c.args.asker.now c.loop-alloc.asker c.turn.new.asker
           (expected c.args.walk.now) (expected c.loop-alloc.walk) (expected c.turn.new.walk) c.loop-alloc.invariant.log.told c.loop-alloc.invariant.keeps c.turn.ensures.keeps) c.tidy_by_turns.ensures.kept;
-      log = log_ok_as _ (tt {0}) c.args.log.now c.turn.new.log (log_joins _ _ c.args.log.now c.loop-alloc.log c.turn.new.log (g.met.L.TreeLog.steady_joins c.args.log.now c.loop-alloc.log c.turn.new.log) c.loop-alloc.invariant.log c.in_ok-step.ensures.log);
+      log = log_ok_as _ (tt {0}) c.args.log.now c.turn.new.log (log_joins _ _ c.args.log.now c.loop-alloc.log c.turn.new.log (g.met.L.TreeLog.steady_joins c.args.log.now c.loop-alloc.log c.turn.new.log) (g.met.L.TreeLog.quiet_joins c.args.log.now c.loop-alloc.log c.turn.new.log) c.loop-alloc.invariant.log c.in_ok-step.ensures.log);
     }
 
 pub returns-in_err-begin-clause-keeps : goal.returns-in_err-begin-clause-keeps
@@ -73,7 +73,7 @@ returns-in_err-step-clause-keeps g c =
     (expected c.args.walk.now) (expected c.loop-alloc.walk) (expected c.turn.new.walk) c.loop-alloc.invariant.log.told c.loop-alloc.invariant.keeps c.turn.ensures.keeps
 
 pub returns-in_err-step-clause-log : goal.returns-in_err-step-clause-log
-returns-in_err-step-clause-log g c = log_as _ c.from_residual-in_err-step.result c.args.log.now c.turn.new.log c.from_residual-in_err-step.ensures.1 (log_joins _ _ c.args.log.now c.loop-alloc.log c.turn.new.log (g.met.L.TreeLog.steady_joins c.args.log.now c.loop-alloc.log c.turn.new.log) c.loop-alloc.invariant.log c.in_err-step.ensures.log)
+returns-in_err-step-clause-log g c = log_as _ c.from_residual-in_err-step.result c.args.log.now c.turn.new.log c.from_residual-in_err-step.ensures.1 (log_joins _ _ c.args.log.now c.loop-alloc.log c.turn.new.log (g.met.L.TreeLog.steady_joins c.args.log.now c.loop-alloc.log c.turn.new.log) (g.met.L.TreeLog.quiet_joins c.args.log.now c.loop-alloc.log c.turn.new.log) c.loop-alloc.invariant.log c.in_err-step.ensures.log)
 
 pub returns-in_err-tidy-clause-keeps : goal.returns-in_err-tidy-clause-keeps
 returns-in_err-tidy-clause-keeps g c =
@@ -84,7 +84,7 @@ returns-in_err-tidy-clause-keeps g c =
     (expected c.args.walk.now) (expected c.loop-alloc.walk) (expected c.turn.new.walk) c.loop-alloc.invariant.log.told c.loop-alloc.invariant.keeps c.turn.ensures.keeps) c.tidy.ensures.kept
 
 pub returns-in_err-tidy-clause-log : goal.returns-in_err-tidy-clause-log
-returns-in_err-tidy-clause-log g c = log_then_memory _ c.from_residual-in_err-tidy.result c.args.log.now c.turn.new.log c.from_residual-in_err-tidy.ensures.1 (log_joins _ _ c.args.log.now c.loop-alloc.log c.turn.new.log (g.met.L.TreeLog.steady_joins c.args.log.now c.loop-alloc.log c.turn.new.log) c.loop-alloc.invariant.log c.in_ok-step.ensures.log)
+returns-in_err-tidy-clause-log g c = log_then_memory _ c.from_residual-in_err-tidy.result c.args.log.now c.turn.new.log c.from_residual-in_err-tidy.ensures.1 (log_joins _ _ c.args.log.now c.loop-alloc.log c.turn.new.log (g.met.L.TreeLog.steady_joins c.args.log.now c.loop-alloc.log c.turn.new.log) (g.met.L.TreeLog.quiet_joins c.args.log.now c.loop-alloc.log c.turn.new.log) c.loop-alloc.invariant.log c.in_ok-step.ensures.log)
 
 pub returns-in-Some-clause-keeps : goal.returns-in-Some-clause-keeps
 returns-in-Some-clause-keeps g c =
@@ -95,7 +95,7 @@ returns-in-Some-clause-keeps g c =
     (expected c.args.walk.now) (expected c.loop-alloc.walk) (expected c.turn.new.walk) c.loop-alloc.invariant.log.told c.loop-alloc.invariant.keeps c.turn.ensures.keeps) c.tidy.ensures.kept
 
 pub returns-in-Some-clause-log : goal.returns-in-Some-clause-log
-returns-in-Some-clause-log g c = log_ok_as _ _ c.args.log.now c.turn.new.log (log_joins _ _ c.args.log.now c.loop-alloc.log c.turn.new.log (g.met.L.TreeLog.steady_joins c.args.log.now c.loop-alloc.log c.turn.new.log) c.loop-alloc.invariant.log c.in_ok-step.ensures.log)
+returns-in-Some-clause-log g c = log_ok_as _ _ c.args.log.now c.turn.new.log (log_joins _ _ c.args.log.now c.loop-alloc.log c.turn.new.log (g.met.L.TreeLog.steady_joins c.args.log.now c.loop-alloc.log c.turn.new.log) (g.met.L.TreeLog.quiet_joins c.args.log.now c.loop-alloc.log c.turn.new.log) c.loop-alloc.invariant.log c.in_ok-step.ensures.log)
 
 pub returns-in_err-turns-clause-keeps : goal.returns-in_err-turns-clause-keeps
 returns-in_err-turns-clause-keeps g c =
@@ -106,7 +106,7 @@ returns-in_err-turns-clause-keeps g c =
     (expected c.args.walk.now) (expected c.loop-alloc.walk) (expected c.turn.new.walk) c.loop-alloc.invariant.log.told c.loop-alloc.invariant.keeps c.turn.ensures.keeps) c.tidy_by_turns.ensures.kept
 
 pub returns-in_err-turns-clause-log : goal.returns-in_err-turns-clause-log
-returns-in_err-turns-clause-log g c = log_then_memory _ c.from_residual-in_err-turns.result c.args.log.now c.turn.new.log c.from_residual-in_err-turns.ensures.1 (log_joins _ _ c.args.log.now c.loop-alloc.log c.turn.new.log (g.met.L.TreeLog.steady_joins c.args.log.now c.loop-alloc.log c.turn.new.log) c.loop-alloc.invariant.log c.in_ok-step.ensures.log)
+returns-in_err-turns-clause-log g c = log_then_memory _ c.from_residual-in_err-turns.result c.args.log.now c.turn.new.log c.from_residual-in_err-turns.ensures.1 (log_joins _ _ c.args.log.now c.loop-alloc.log c.turn.new.log (g.met.L.TreeLog.steady_joins c.args.log.now c.loop-alloc.log c.turn.new.log) (g.met.L.TreeLog.quiet_joins c.args.log.now c.loop-alloc.log c.turn.new.log) c.loop-alloc.invariant.log c.in_ok-step.ensures.log)
 
 pub returns-in_err-tidy-2-clause-keeps : goal.returns-in_err-tidy-2-clause-keeps
 returns-in_err-tidy-2-clause-keeps g c =

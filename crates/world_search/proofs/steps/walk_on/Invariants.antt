@@ -16,7 +16,7 @@ invariant-loop-alloc g l = record {
   guided : IsGuideOf l.problem l.walk.path l.guide;
   came : Came (state_of l.problem l.span.from l.span.to l.fn.walk) (state_of l.problem l.span.from l.span.to l.walk) l.fn.nodes.left l.nodes.left [];
   keeps : KeepsOn l.problem l.span.from (g.L.TreeLog.lines l.fn.log) (g.L.TreeLog.lines l.log) l.fn.asker l.asker (expected l.fn.walk) (expected l.walk);
-  log : LogGoes g.L.TreeLog.drops g.L.TreeLog.lines g.L.TreeLog.faults g.L.TreeLog.steady (Ok (tt {0})) l.fn.log l.log;
+  log : LogGoes g.L.TreeLog.drops g.L.TreeLog.lines g.L.TreeLog.faults g.L.TreeLog.steady g.L.TreeLog.quiet (Ok (tt {0})) l.fn.log l.log;
 }
 
 abbrev pub decreases-loop-alloc : goal.decreases-loop-alloc

@@ -10,7 +10,7 @@ returns-in_err-family-clause-keeps g c = λ from from_there.
     keeps_goes c.args.problem.now from (g.L.TreeLog.lines c.args.log.now) c.args.asker.now c.family_of.new.asker (expected c.args.walk.now) c.family_of.ensures.kept
 
 pub returns-in_err-family-clause-log : goal.returns-in_err-family-clause-log
-returns-in_err-family-clause-log g c = log_memory c.from_residual.result c.args.log.now (g.met.L.TreeLog.steady_stays c.args.log.now) c.from_residual.ensures.1
+returns-in_err-family-clause-log g c = log_memory c.from_residual.result c.args.log.now (g.met.L.TreeLog.steady_stays c.args.log.now) (g.met.L.TreeLog.quiet_stays c.args.log.now) c.from_residual.ensures.1
 
 pub returns-in_err-tell_world-clause-keeps : goal.returns-in_err-tell_world-clause-keeps
 returns-in_err-tell_world-clause-keeps g c = λ from from_there.

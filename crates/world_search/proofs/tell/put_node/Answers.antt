@@ -23,5 +23,5 @@ returns-clause-keeps g c = λ p m tells from.
 
 pub returns-clause-log : goal.returns-clause-log
 returns-clause-log g c =
-    log_joins _ c.put_one.result c.args.log.now c.put_waiting.new.log c.put_one.new.log (g.met.L.TreeLog.steady_joins c.args.log.now c.put_waiting.new.log c.put_one.new.log)
+    log_joins _ c.put_one.result c.args.log.now c.put_waiting.new.log c.put_one.new.log (g.met.L.TreeLog.steady_joins c.args.log.now c.put_waiting.new.log c.put_one.new.log) (g.met.L.TreeLog.quiet_joins c.args.log.now c.put_waiting.new.log c.put_one.new.log)
     c.in_ok-put_waiting.ensures.log c.put_one.ensures.log

@@ -11,13 +11,13 @@ returns-then-is_dropping-clause-keeps g c = λ p from at.
     (g.met.L.TreeLog.tells_none c.args.log.now (sym c.is_dropping.ensures ∙ c.if-is_dropping.true))
 
 pub returns-then-is_dropping-clause-log : goal.returns-then-is_dropping-clause-log
-returns-then-is_dropping-clause-log g c = log_stays_ok _ c.args.log.now (g.met.L.TreeLog.steady_stays c.args.log.now)
+returns-then-is_dropping-clause-log g c = log_stays_ok _ c.args.log.now (g.met.L.TreeLog.steady_stays c.args.log.now) (g.met.L.TreeLog.quiet_stays c.args.log.now)
 
 pub returns-in_err-lines-clause-keeps : goal.returns-in_err-lines-clause-keeps
 returns-in_err-lines-clause-keeps g c = λ p from at. keeps_same p from (g.L.TreeLog.lines c.args.log.now) c.args.asker.now at at refl
 
 pub returns-in_err-lines-clause-log : goal.returns-in_err-lines-clause-log
-returns-in_err-lines-clause-log g c = log_memory c.from_residual.result c.args.log.now (g.met.L.TreeLog.steady_stays c.args.log.now) c.from_residual.ensures.1
+returns-in_err-lines-clause-log g c = log_memory c.from_residual.result c.args.log.now (g.met.L.TreeLog.steady_stays c.args.log.now) (g.met.L.TreeLog.quiet_stays c.args.log.now) c.from_residual.ensures.1
 
 pub returns-clause-keeps : goal.returns-clause-keeps
 returns-clause-keeps g c = λ p from at.

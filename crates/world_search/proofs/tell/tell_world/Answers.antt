@@ -12,10 +12,10 @@ returns-then-is_dropping-clause-keeps g c = λ from.
     (g.met.L.TreeLog.tells_none c.args.log.now (sym c.is_dropping.ensures ∙ c.if-is_dropping.true))
 
 pub returns-then-is_dropping-clause-log : goal.returns-then-is_dropping-clause-log
-returns-then-is_dropping-clause-log g c = log_stays_ok _ c.args.log.now (g.met.L.TreeLog.steady_stays c.args.log.now)
+returns-then-is_dropping-clause-log g c = log_stays_ok _ c.args.log.now (g.met.L.TreeLog.steady_stays c.args.log.now) (g.met.L.TreeLog.quiet_stays c.args.log.now)
 
 pub returns-in_err-line-clause-log : goal.returns-in_err-line-clause-log
-returns-in_err-line-clause-log g c = log_memory c.from_residual.result c.args.log.now (g.met.L.TreeLog.steady_stays c.args.log.now) c.from_residual.ensures.1
+returns-in_err-line-clause-log g c = log_memory c.from_residual.result c.args.log.now (g.met.L.TreeLog.steady_stays c.args.log.now) (g.met.L.TreeLog.quiet_stays c.args.log.now) c.from_residual.ensures.1
 
 pub returns-in_err-line-clause-keeps : goal.returns-in_err-line-clause-keeps
 returns-in_err-line-clause-keeps g c = λ from.

@@ -11,7 +11,7 @@ returns-in_err-look-clause-keeps g c = λ from from_there.
     keeps_goes c.args.problem.now from (g.L.TreeLog.lines c.args.log.now) c.args.asker.now c.look.new.asker (expected c.args.walk.now) c.look.ensures.kept
 
 pub returns-in_err-look-clause-log : goal.returns-in_err-look-clause-log
-returns-in_err-look-clause-log g c = log_memory c.from_residual.result c.args.log.now (g.met.L.TreeLog.steady_stays c.args.log.now) c.from_residual.ensures.1
+returns-in_err-look-clause-log g c = log_memory c.from_residual.result c.args.log.now (g.met.L.TreeLog.steady_stays c.args.log.now) (g.met.L.TreeLog.quiet_stays c.args.log.now) c.from_residual.ensures.1
 
 pub returns-in-World-clause-found : goal.returns-in-World-clause-found
 returns-in-World-clause-found g c = (λ _. subst (IsFoundAt c.args.problem.now c.args.walk.now.path) c.in-World.is c.in_ok-look.ensures.found, λ _. refl)
@@ -21,7 +21,7 @@ returns-in-World-clause-keeps g c = λ from from_there.
     keeps_goes c.args.problem.now from (g.L.TreeLog.lines c.args.log.now) c.args.asker.now c.look.new.asker (expected c.args.walk.now) c.look.ensures.kept
 
 pub returns-in-World-clause-log : goal.returns-in-World-clause-log
-returns-in-World-clause-log g c = log_stays_ok _ c.args.log.now (g.met.L.TreeLog.steady_stays c.args.log.now)
+returns-in-World-clause-log g c = log_stays_ok _ c.args.log.now (g.met.L.TreeLog.steady_stays c.args.log.now) (g.met.L.TreeLog.quiet_stays c.args.log.now)
 
 pub returns-in_err-move_on-in-NoWorld-clause-keeps : goal.returns-in_err-move_on-in-NoWorld-clause-keeps
 returns-in_err-move_on-in-NoWorld-clause-keeps g c = λ from from_there.
