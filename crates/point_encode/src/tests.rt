@@ -11,8 +11,8 @@ ghost use Rattle.constraint_set.specs.Facts.{is_said};
 ghost use Rattle.point_encode.specs.Samples.{fits_two};
 
 use super::{
-    Need, allowed_at, forced_at, given_clauses, is_forced, need_lits, need_number, need_of,
-    needs_of, selectors_of, variable_count,
+    allowed_at, forced_at, given_clauses, is_forced, need_lits, need_number, need_of, needs_of,
+    selectors_of, variable_count,
 };
 use constraint_set::Problem;
 use lits_core::Lit;
@@ -22,20 +22,36 @@ use std::test::Fail;
 use taxon_tree::Forest;
 use world_model::{Articulation, Parts, Switches};
 
-// A forest of so many concepts.
-fn forest(alloc: Global, rows: &[&str], size: u32) -> Result<Forest, AllocError>
+// The names of a row.
+fn names_of(alloc: Global, row: &str) -> Result<Vec<Vec<u8>>, AllocError> {
+    let mut names = Vec::new(alloc);
+    for word in row.split_whitespace() {
+        names.push(Vec::from_slice(alloc, word.as_bytes())?)?;
+    }
+    Ok(names)
+}
+
+fn add_row(alloc: Global, forest: &mut Forest, row: &str, size: u32) -> Result<(), AllocError> {
+    let names = names_of(alloc, row)?;
+    if names.is_empty() || forest.add_row(names.as_slice(), size).is_err() {
+        return Err(AllocError);
+    }
+    Ok(())
+}
+
+fn add_rows(alloc: Global, forest: &mut Forest, rows: &str, size: u32) -> Result<(), AllocError> {
+    for row in rows.lines() {
+        add_row(alloc, forest, row, size)?;
+    }
+    Ok(())
+}
+
+// A forest of so many concepts, a row a line.
+fn forest(alloc: Global, rows: &str, size: u32) -> Result<Forest, AllocError>
     ensures { IfOk result (λ f. size_of f ≡ size) }
 {
     let mut forest = Forest::new(alloc);
-    for row in rows {
-        let mut names = Vec::new(alloc);
-        for word in row.split_whitespace() {
-            names.push(Vec::from_slice(alloc, word.as_bytes())?)?;
-        }
-        if names.is_empty() || forest.add_row(names.as_slice(), size).is_err() {
-            return Err(AllocError);
-        }
-    }
+    add_rows(alloc, &mut forest, rows, size)?;
     if forest.len() != size {
         return Err(AllocError);
     }
@@ -82,8 +98,8 @@ fn equal(left: u32, right: u32) -> Articulation
 
 // A has B and C, and each of B and C equals D.
 fn two_equal(alloc: Global) -> Result<Problem, AllocError> {
-    let left = forest(alloc, &["A B C"], 3)?;
-    let right = forest(alloc, &["D"], 1)?;
+    let left = forest(alloc, "A B C", 3)?;
+    let right = forest(alloc, "D", 1)?;
     let mut articulations = Vec::new(alloc);
     articulations.push(equal(1, 3))?;
     articulations.push(equal(2, 3))?;
@@ -94,178 +110,263 @@ fn two_equal(alloc: Global) -> Result<Problem, AllocError> {
 fn one_sum(alloc: Global) -> Result<Problem, AllocError>
     ensures { IfOk result (λ p. length p.articulations ≡ 1) }
 {
-    let left = forest(alloc, &["A"], 1)?;
-    let right = forest(alloc, &["B", "C"], 2)?;
+    let left = forest(alloc, "A", 1)?;
+    let right = forest(alloc, "B\nC", 2)?;
     let parts = Parts::new(Vec::from_slice(alloc, &[1, 2])?);
     let mut articulations = Vec::new(alloc);
     articulations.push(Articulation::Sum { whole: 0, parts })?;
     problem(alloc, left, right, articulations)
 }
 
-// A literal as a number.
-fn signed(lit: Lit) -> i64 {
-    let number = i64::from(lit.variable()) + 1;
-    if lit.is_negative() { -number } else { number }
+// Adds a number below 100, after a minus where it is one of a negative literal, and a space.
+fn add_number(text: &mut String, negative: bool, number: u64) -> Result<(), AllocError> {
+    if negative {
+        text.push('-')?;
+    }
+    if number > 9 {
+        text.push(digit(number / 10))?;
+    }
+    text.push(digit(number))?;
+    text.push(' ')
 }
 
-// All clauses one after the other, each with 0 at its end.
-fn clauses_of(alloc: Global, problem: &Problem) -> Result<Vec<i64>, AllocError> {
-    let mut list = Vec::new(alloc);
+fn digit(number: u64) -> char {
+    char::from_digit((number % 10) as u32, 10).unwrap_or('?')
+}
+
+fn add_lit(text: &mut String, lit: Lit) -> Result<(), AllocError> {
+    add_number(text, lit.is_negative(), u64::from(lit.variable()) + 1)
+}
+
+fn add_lits(text: &mut String, lits: &[Lit]) -> Result<(), AllocError> {
+    for lit in lits {
+        add_lit(text, *lit)?;
+    }
+    text.push(';')
+}
+
+// The number of variables, and then all clauses.
+fn clauses_of(alloc: Global, problem: &Problem) -> Result<String, AllocError> {
+    let mut text = String::new(alloc);
+    add_number(&mut text, false, u64::from(variable_count(problem)))?;
+    text.push(':')?;
     for clause in given_clauses(alloc, problem)?.iter() {
-        for lit in clause.lits() {
-            list.push(signed(*lit))?;
-        }
-        list.push(0)?;
+        add_lits(&mut text, clause.lits())?;
     }
-    Ok(list)
+    Ok(text)
 }
 
-// What a prefix makes of a problem: its selectors, the numbers of its needs, and how many pairs may not have all relations, and
-// have nothing in the right concept alone.
-#[derive(Drop)]
-struct Found {
-    selectors: Vec<i64>,
-    needs: Vec<u64>,
-    told: u32,
-    within: u32,
+fn add_selectors(
+    text: &mut String,
+    alloc: Global,
+    problem: &Problem,
+    prefix: &Position,
+) -> Result<(), AllocError>
+    requires { length prefix.now ≤ pair_count problem.now }
+{
+    let lits = selectors_of(alloc, problem, prefix)?;
+    add_lits(text, &lits)
 }
 
-// What the prefix of these relations makes of a problem.
-fn found_at(alloc: Global, problem: &Problem, rels: &[Rel]) -> Result<Found, AllocError> {
+// The numbers of the needs that are forced.
+fn add_needs(
+    text: &mut String,
+    alloc: Global,
+    problem: &Problem,
+    prefix: &Position,
+) -> Result<(), AllocError>
+    requires { length prefix.now ≤ pair_count problem.now }
+{
+    for need in needs_of(alloc, problem, prefix)?.iter() {
+        if is_forced(problem, prefix, *need) {
+            add_number(text, false, need_number(problem, *need))?;
+        }
+    }
+    text.push(';')
+}
+
+// How many pairs may not have all relations, and have nothing in the right concept alone.
+fn add_counts(text: &mut String, problem: &Problem, prefix: &Position) -> Result<(), AllocError>
+    requires { length prefix.now ≤ pair_count problem.now }
+{
+    let mut told: u64 = 0;
+    let mut within: u64 = 0;
+    for pair in 0..problem.pair_count() {
+        if allowed_at(problem, prefix, pair) != RelSet::all() {
+            told = told.saturating_add(1);
+        }
+        if forced_at(problem, prefix, pair).right_only == Occupancy::Empty {
+            within = within.saturating_add(1);
+        }
+    }
+    add_number(text, false, told)?;
+    add_number(text, false, within)
+}
+
+// What a prefix makes of a problem: its selectors, its needs, and the two counts.
+fn found_at(alloc: Global, problem: &Problem, prefix: &Position) -> Result<String, AllocError> {
+    let mut text = String::new(alloc);
+    if prefix.len() <= problem.pair_count() as usize {
+        add_selectors(&mut text, alloc, problem, prefix)?;
+        add_needs(&mut text, alloc, problem, prefix)?;
+        add_counts(&mut text, problem, prefix)?;
+    }
+    Ok(text)
+}
+
+// The prefix of these letters.
+fn prefix_of(alloc: Global, letters: &str) -> Result<Position, AllocError> {
     let mut prefix = Position::new(alloc);
-    for rel in rels {
-        prefix.push(*rel)?;
-    }
-    if prefix.len() > problem.pair_count() as usize {
-        return Err(AllocError);
-    }
-    let mut selectors = Vec::new(alloc);
-    for lit in selectors_of(alloc, problem, &prefix)?.iter() {
-        selectors.push(signed(*lit))?;
-    }
-    let mut needs = Vec::new(alloc);
-    for need in needs_of(alloc, problem, &prefix)?.iter() {
-        if is_forced(problem, &prefix, *need) {
-            needs.push(need_number(problem, *need))?;
+    for byte in letters.bytes() {
+        if let Some(rel) = Rel::from_letter(byte) {
+            prefix.push(rel)?;
         }
     }
-    Ok(Found {
-        selectors,
-        needs,
-        told: told(problem, &prefix),
-        within: within(problem, &prefix),
-    })
+    Ok(prefix)
 }
 
-fn told(problem: &Problem, prefix: &Position) -> u32
-    requires { length prefix.now ≤ pair_count problem.now }
-{
-    (0..problem.pair_count())
-        .filter(|pair| allowed_at(problem, prefix, *pair) != RelSet::all())
-        .count() as u32
+fn found_with(alloc: Global, problem: &Problem, letters: &str) -> Result<String, AllocError> {
+    let prefix = prefix_of(alloc, letters)?;
+    found_at(alloc, problem, &prefix)
 }
 
-fn within(problem: &Problem, prefix: &Position) -> u32
-    requires { length prefix.now ≤ pair_count problem.now }
-{
-    (0..problem.pair_count())
-        .filter(|pair| forced_at(problem, prefix, *pair).right_only == Occupancy::Empty)
-        .count() as u32
+// Here and below no `?` comes after a problem is made: each would be one more place that lets it go, and proving those is dear.
+fn two_equal_clauses(alloc: Global) -> Result<String, AllocError> {
+    let problem = two_equal(alloc)?;
+    clauses_of(alloc, &problem)
 }
 
 #[test]
 fn two_equal_have_22_clauses(rt: HostRuntime) -> Result<(), Fail> {
-    let alloc = rt.alloc();
+    let text = two_equal_clauses(rt.alloc())?;
+    assert_eq!(rt;
+        text.as_str(),
+        "22 :-2 1 ;-3 1 ;-2 -3 ;-1 2 3 ;-5 -1 4 ;-6 -1 -4 ;-7 1 -4 ;-8 -2 4 ;-9 -2 -4 ;-10 2 -4 ;-11 -3 4 ;-12 -3 -4 ;-13 3 -4 ;-14 -1 2 ;-15 -1 -2 ;-16 1 -2 ;-17 -1 3 ;-18 -1 -3 ;-19 1 -3 ;-20 -2 3 ;-21 -2 -3 ;-22 2 -3 ;"
+    );
+    Ok(())
+}
+
+fn two_equal_at(alloc: Global, letters: &str) -> Result<String, AllocError> {
     let problem = two_equal(alloc)?;
-    assert_eq!(rt; variable_count(&problem), 22);
-    let clauses = [
-        [-2, 1, 0].as_slice(),
-        [-3, 1, 0].as_slice(),
-        [-2, -3, 0].as_slice(),
-        [-1, 2, 3, 0].as_slice(),
-        [-5, -1, 4, 0, -6, -1, -4, 0, -7, 1, -4, 0].as_slice(),
-        [-8, -2, 4, 0, -9, -2, -4, 0, -10, 2, -4, 0].as_slice(),
-        [-11, -3, 4, 0, -12, -3, -4, 0, -13, 3, -4, 0].as_slice(),
-        [-14, -1, 2, 0, -15, -1, -2, 0, -16, 1, -2, 0].as_slice(),
-        [-17, -1, 3, 0, -18, -1, -3, 0, -19, 1, -3, 0].as_slice(),
-        [-20, -2, 3, 0, -21, -2, -3, 0, -22, 2, -3, 0].as_slice(),
-    ];
-    let wanted = clauses.concat(alloc)?;
-    assert_eq!(rt; clauses_of(alloc, &problem)?.as_slice(), wanted.as_slice());
+    found_with(alloc, &problem, letters)
+}
+
+#[test]
+fn nothing_decided_has_selectors_and_needs(rt: HostRuntime) -> Result<(), Fail> {
+    let text = two_equal_at(rt.alloc(), "")?;
+    assert_eq!(rt; text.as_str(), "8 10 11 13 ;18 19 20 21 ;2 2 ");
     Ok(())
 }
 
 #[test]
-fn prefixes_add_selectors_and_needs(rt: HostRuntime) -> Result<(), Fail> {
-    let alloc = rt.alloc();
-    let problem = two_equal(alloc)?;
-    let empty = found_at(alloc, &problem, &[])?;
-    assert_eq!(rt; empty.selectors.as_slice(), [8, 10, 11, 13].as_slice());
-    assert_eq!(rt; empty.needs.as_slice(), [18, 19, 20, 21].as_slice());
-    assert_eq!(rt; (empty.told, empty.within), (2, 2));
-    let longer = found_at(alloc, &problem, &[Rel::Includes, Rel::Equals])?;
-    assert_eq!(rt; longer.selectors.as_slice(), [7, 8, 10, 11, 13].as_slice());
-    assert_eq!(rt; longer.needs.as_slice(), [0, 18, 19, 20, 21].as_slice());
-    assert_eq!(rt; (longer.told, longer.within), (3, 3));
+fn a_prefix_adds_selectors_and_needs(rt: HostRuntime) -> Result<(), Fail> {
+    let text = two_equal_at(rt.alloc(), ">=")?;
+    assert_eq!(rt; text.as_str(), "7 8 10 11 13 ;0 18 19 20 21 ;3 3 ");
     Ok(())
+}
+
+fn add_optional(text: &mut String, lit: Option<Lit>) -> Result<(), AllocError> {
+    match lit {
+        Some(lit) => add_lit(text, lit),
+        None => Ok(()),
+    }
+}
+
+// The literals of the need of a number, and the number that it has.
+fn add_need(text: &mut String, problem: &Problem, number: u64) -> Result<(), AllocError> {
+    let Some(need) = need_of(problem, number) else {
+        return text.push('?');
+    };
+    let [first, second] = need_lits(problem, need);
+    add_optional(text, first)?;
+    add_optional(text, second)?;
+    add_number(text, false, need_number(problem, need))?;
+    text.push(';')
+}
+
+fn all_needs(alloc: Global, problem: &Problem) -> Result<String, AllocError> {
+    let mut text = String::new(alloc);
+    for number in [0, 1, 2, 5, 17, 19, 21, 22] {
+        add_need(&mut text, problem, number)?;
+    }
+    Ok(text)
+}
+
+fn two_equal_needs(alloc: Global) -> Result<String, AllocError> {
+    let problem = two_equal(alloc)?;
+    all_needs(alloc, &problem)
 }
 
 #[test]
 fn needs_have_numbers_and_literals(rt: HostRuntime) -> Result<(), Fail> {
-    let alloc = rt.alloc();
-    let problem = two_equal(alloc)?;
-    for (number, first, second) in [
-        (0, 1, -4),
-        (1, 1, 4),
-        (2, -1, 4),
-        (5, -2, 4),
-        (17, -2, 3),
-        (19, 2, 0),
-        (21, 4, 0),
-    ] {
-        match need_of(&problem, number) {
-            None => assert!(rt; false),
-            Some(need) => {
-                let lits = need_lits(&problem, need);
-                assert_eq!(rt; lits[0].map_or(0, signed), first);
-                assert_eq!(rt; lits[1].map_or(0, signed), second);
-                assert_eq!(rt; need_number(&problem, need), number);
-            }
-        }
-    }
-    assert_eq!(rt; need_of(&problem, 22), None);
+    let text = two_equal_needs(rt.alloc())?;
+    assert_eq!(rt;
+        text.as_str(),
+        "1 -4 0 ;1 4 1 ;-1 4 2 ;-2 4 5 ;-2 3 17 ;2 19 ;4 21 ;?"
+    );
+    Ok(())
+}
+
+const SUM_CLAUSES: &str =
+    "13 :-4 -1 2 ;-5 -1 -2 ;-6 1 -2 ;-7 -1 3 ;-8 -1 -3 ;-9 1 -3 ;-10 -2 3 ;-11 -2 -3 ;-12 2 -3 ;-13 -2 1 ;-13 -3 1 ;-13 -1 2 3 ;";
+
+fn sum_clauses(alloc: Global) -> Result<String, AllocError> {
+    let problem = one_sum(alloc)?;
+    clauses_of(alloc, &problem)
+}
+
+#[test]
+fn sums_have_clauses(rt: HostRuntime) -> Result<(), Fail> {
+    let text = sum_clauses(rt.alloc())?;
+    assert_eq!(rt; text.as_str(), SUM_CLAUSES);
+    Ok(())
+}
+
+fn sum_at(alloc: Global, letters: &str) -> Result<String, AllocError> {
+    let problem = one_sum(alloc)?;
+    found_with(alloc, &problem, letters)
+}
+
+#[test]
+fn sums_have_a_selector(rt: HostRuntime) -> Result<(), Fail> {
+    let text = sum_at(rt.alloc(), "")?;
+    assert!(rt; text.as_str().starts_with("13 ;"));
     Ok(())
 }
 
 #[test]
-fn sums_have_clauses_and_selectors(rt: HostRuntime) -> Result<(), Fail> {
-    let alloc = rt.alloc();
-    let problem = one_sum(alloc)?;
-    assert_eq!(rt; variable_count(&problem), 13);
-    let clauses = [
-        [-4, -1, 2, 0, -5, -1, -2, 0, -6, 1, -2, 0].as_slice(),
-        [-7, -1, 3, 0, -8, -1, -3, 0, -9, 1, -3, 0].as_slice(),
-        [-10, -2, 3, 0, -11, -2, -3, 0, -12, 2, -3, 0].as_slice(),
-        [-13, -2, 1, 0, -13, -3, 1, 0, -13, -1, 2, 3, 0].as_slice(),
-    ];
-    let wanted = clauses.concat(alloc)?;
-    assert_eq!(rt; clauses_of(alloc, &problem)?.as_slice(), wanted.as_slice());
-    let empty = found_at(alloc, &problem, &[])?;
-    assert_eq!(rt; empty.selectors.as_slice(), [13].as_slice());
-    let apart = found_at(alloc, &problem, &[Rel::Overlaps, Rel::Disjoint])?;
-    assert_eq!(rt; apart.selectors.as_slice(), [8, 13].as_slice());
-    assert_eq!(rt;
-        apart.needs.as_slice(),
-        [0, 1, 2, 3, 5, 9, 10, 11].as_slice()
-    );
+fn a_prefix_beside_a_sum_adds_to_it(rt: HostRuntime) -> Result<(), Fail> {
+    let text = sum_at(rt.alloc(), "x!")?;
+    assert!(rt; text.as_str().starts_with("8 13 ;0 1 2 3 5 9 10 11 ;"));
+    Ok(())
+}
 
-    // The sum is not kept: its clauses stay, and its selector is not made true.
-    let none_kept = problem.restricted(alloc, &[false])?;
-    assert_eq!(rt;
-        clauses_of(alloc, &none_kept)?.as_slice(),
-        wanted.as_slice()
-    );
-    let free = found_at(alloc, &none_kept, &[])?;
-    assert_eq!(rt; free.selectors.as_slice(), [].as_slice());
+fn none_kept(alloc: Global) -> Result<Problem, AllocError> {
+    let problem = one_sum(alloc)?;
+    problem.restricted(alloc, &[false])
+}
+
+fn unkept_clauses(alloc: Global) -> Result<String, AllocError> {
+    let problem = none_kept(alloc)?;
+    clauses_of(alloc, &problem)
+}
+
+fn unkept_at(alloc: Global, letters: &str) -> Result<String, AllocError> {
+    let problem = none_kept(alloc)?;
+    found_with(alloc, &problem, letters)
+}
+
+// The sum is not kept: its clauses stay, and its selector is not made true.
+#[test]
+fn a_sum_that_is_not_kept_has_clauses(rt: HostRuntime) -> Result<(), Fail> {
+    let text = unkept_clauses(rt.alloc())?;
+    assert_eq!(rt; text.as_str(), SUM_CLAUSES);
+    Ok(())
+}
+
+#[test]
+fn a_sum_that_is_not_kept_has_no_selector(rt: HostRuntime) -> Result<(), Fail> {
+    let text = unkept_at(rt.alloc(), "")?;
+    assert!(rt; text.as_str().starts_with(";"));
     Ok(())
 }

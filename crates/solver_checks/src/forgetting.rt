@@ -68,17 +68,21 @@ fn forget_in_turn(
 
 /// How many clauses a solver has forgotten that answers each question as one that forgets none; none where they differ or a line
 /// is not accepted.
-fn forgotten_alike(alloc: Global, clauses: [[i32; 3]; 22]) -> Result<Option<u64>, AllocError> {
-    let mut tidied = solver_of(alloc, clauses)?;
-    let mut keeping = solver_of(alloc, clauses)?;
-    let mut book = book_of(alloc, clauses)?;
+fn forgotten_alike(
+    tidied: &mut Solver,
+    keeping: &mut Solver,
+    book: &mut Book,
+) -> Result<Option<u64>, AllocError>
+    requires tidied { tidied.old.variables ≡ 22 }
+    requires keeping { keeping.old.variables ≡ 22 }
+{
     let mut forgotten: u64 = 0;
     for question in 0..QUESTIONS {
         let numbers = variables_of(question);
-        if has_bits(&mut tidied, numbers)? != has_bits(&mut keeping, numbers)? {
+        if has_bits(tidied, numbers)? != has_bits(keeping, numbers)? {
             return Ok(None);
         }
-        match forget_in_turn(question, &mut tidied, &mut book)? {
+        match forget_in_turn(question, tidied, book)? {
             Some(count) => forgotten = forgotten.saturating_add(count),
             None => return Ok(None),
         }
@@ -86,11 +90,39 @@ fn forgotten_alike(alloc: Global, clauses: [[i32; 3]; 22]) -> Result<Option<u64>
     Ok(Some(forgotten))
 }
 
+// No `?` comes after a solver or a book is made: each would be one more place that lets it go, and proving those is dear.
+fn with_both(
+    alloc: Global,
+    clauses: &str,
+    tidied: &mut Solver,
+    keeping: &mut Solver,
+) -> Result<Option<u64>, AllocError>
+    requires tidied { tidied.old.variables ≡ 22 }
+    requires keeping { keeping.old.variables ≡ 22 }
+{
+    let mut book = book_of(alloc, clauses)?;
+    forgotten_alike(tidied, keeping, &mut book)
+}
+
+fn with_tidied(alloc: Global, clauses: &str, tidied: &mut Solver) -> Result<Option<u64>, AllocError>
+    requires { tidied.old.variables ≡ 22 }
+{
+    let mut keeping = solver_of(alloc, clauses)?;
+    with_both(alloc, clauses, tidied, &mut keeping)
+}
+
+fn forgotten(alloc: Global, clauses: &str) -> Result<Option<u64>, AllocError> {
+    let mut tidied = solver_of(alloc, clauses)?;
+    with_tidied(alloc, clauses, &mut tidied)
+}
+
+fn is_many(forgotten: Option<u64>) -> bool {
+    matches!(forgotten, Some(count) if count > 100)
+}
+
 #[test]
 fn a_solver_that_forgets_answers_alike(rt: HostRuntime) -> Result<(), Fail> {
-    for clauses in [REGIONS, PIGEONS] {
-        let forgotten = forgotten_alike(rt.alloc(), clauses)?;
-        assert!(rt; forgotten.is_some_and(|count| count > 100), "{forgotten:?}");
-    }
+    assert!(rt; is_many(forgotten(rt.alloc(), REGIONS)?));
+    assert!(rt; is_many(forgotten(rt.alloc(), PIGEONS)?));
     Ok(())
 }

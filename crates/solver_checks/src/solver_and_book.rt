@@ -7,6 +7,7 @@ use learn_solver::{Answer, Solver};
 use lits_core::{Bits, Clause, Line, LineFault, Lit};
 use proof_check::Book;
 use std::alloc::{AllocError, Global};
+use std::str::SplitWhitespace;
 use std::test::Fail;
 
 /// A literal by its number, from 1 to 22; it is negative with `-`.
@@ -25,60 +26,35 @@ fn variable(number: i32) -> Lit
 }
 
 /// A over B and C, and D: B and C are in A and apart, and A is in B or C. Then for each pair of concepts three selectors,
-/// each of which rules out one of their regions. A short clause repeats a literal.
-pub(crate) const REGIONS: [[i32; 3]; 22] = [
-    [-2, 1, 1],
-    [-3, 1, 1],
-    [-2, -3, -3],
-    [-1, 2, 3],
-    [-5, -1, 4],
-    [-6, -1, -4],
-    [-7, 1, -4],
-    [-8, -2, 4],
-    [-9, -2, -4],
-    [-10, 2, -4],
-    [-11, -3, 4],
-    [-12, -3, -4],
-    [-13, 3, -4],
-    [-14, -1, 2],
-    [-15, -1, -2],
-    [-16, 1, -2],
-    [-17, -1, 3],
-    [-18, -1, -3],
-    [-19, 1, -3],
-    [-20, -2, 3],
-    [-21, -2, -3],
-    [-22, 2, -3],
-];
+/// each of which rules out one of their regions. A clause a line; a short one repeats a literal.
+pub(crate) const REGIONS: &str = "-2 1 1\n-3 1 1\n-2 -3 -3\n-1 2 3\n\
+    -5 -1 4\n-6 -1 -4\n-7 1 -4\n-8 -2 4\n\
+    -9 -2 -4\n-10 2 -4\n-11 -3 4\n-12 -3 -4\n\
+    -13 3 -4\n-14 -1 2\n-15 -1 -2\n-16 1 -2\n\
+    -17 -1 3\n-18 -1 -3\n-19 1 -3\n-20 -2 3\n\
+    -21 -2 -3\n-22 2 -3";
 
 /// Four pigeons in three holes: the pigeons' clauses, and then for each hole no two of them. Variable `3 * p + h + 1` puts
 /// pigeon `p` into hole `h`.
-pub(crate) const PIGEONS: [[i32; 3]; 22] = [
-    [1, 2, 3],
-    [4, 5, 6],
-    [7, 8, 9],
-    [10, 11, 12],
-    [-1, -4, -4],
-    [-1, -7, -7],
-    [-1, -10, -10],
-    [-4, -7, -7],
-    [-4, -10, -10],
-    [-7, -10, -10],
-    [-2, -5, -5],
-    [-2, -8, -8],
-    [-2, -11, -11],
-    [-5, -8, -8],
-    [-5, -11, -11],
-    [-8, -11, -11],
-    [-3, -6, -6],
-    [-3, -9, -9],
-    [-3, -12, -12],
-    [-6, -9, -9],
-    [-6, -12, -12],
-    [-9, -12, -12],
-];
+pub(crate) const PIGEONS: &str = "1 2 3\n4 5 6\n7 8 9\n10 11 12\n\
+    -1 -4 -4\n-1 -7 -7\n-1 -10 -10\n-4 -7 -7\n\
+    -4 -10 -10\n-7 -10 -10\n-2 -5 -5\n-2 -8 -8\n\
+    -2 -11 -11\n-5 -8 -8\n-5 -11 -11\n-8 -11 -11\n\
+    -3 -6 -6\n-3 -9 -9\n-3 -12 -12\n-6 -9 -9\n\
+    -6 -12 -12\n-9 -12 -12";
 
-fn add(solver: &mut Solver, lits: [i32; 3]) -> Result<u64, AllocError>
+/// The literal of the next word.
+fn next_lit(words: &mut SplitWhitespace<'_>) -> Lit
+    ensures { variable_of result < 22 }
+{
+    match words.next() {
+        Some(word) => lit(word.parse().unwrap_or(1)),
+        None => lit(1),
+    }
+}
+
+/// Adds the clause of a line.
+fn add(solver: &mut Solver, line: &str) -> Result<(), AllocError>
     requires variables { solver.old.variables ≡ 22 }
     requires first { solver.old.state.derived ≡ [] }
     requires quiet { solver.old.waiting ≡ [] }
@@ -86,24 +62,47 @@ fn add(solver: &mut Solver, lits: [i32; 3]) -> Result<u64, AllocError>
     ensures first { IfOk result (λ _. solver.new.state.derived ≡ []) }
     ensures quiet { IfOk result (λ _. solver.new.waiting ≡ []) }
 {
-    solver.add(&[lit(lits[0]), lit(lits[1]), lit(lits[2])])
+    let mut words = line.split_whitespace();
+    let first = next_lit(&mut words);
+    let second = next_lit(&mut words);
+    let third = next_lit(&mut words);
+    solver.add(&[first, second, third])?;
+    Ok(())
 }
 
-pub(crate) fn solver_of(alloc: Global, clauses: [[i32; 3]; 22]) -> Result<Solver, AllocError>
+/// Adds the clauses of all lines.
+fn add_all(solver: &mut Solver, clauses: &str) -> Result<(), AllocError>
+    requires variables { solver.old.variables ≡ 22 }
+    requires first { solver.old.state.derived ≡ [] }
+    requires quiet { solver.old.waiting ≡ [] }
+    ensures { IfOk result (λ _. solver.new.variables ≡ 22) }
+{
+    for line in clauses.lines() {
+        add(solver, line)?;
+    }
+    Ok(())
+}
+
+pub(crate) fn solver_of(alloc: Global, clauses: &str) -> Result<Solver, AllocError>
     ensures { IfOk result (λ solver. solver.variables ≡ 22) }
 {
     let mut solver = Solver::new(alloc, 22)?;
-    for lits in clauses {
-        add(&mut solver, lits)?;
-    }
+    add_all(&mut solver, clauses)?;
     Ok(solver)
 }
 
-pub(crate) fn book_of(alloc: Global, clauses: [[i32; 3]; 22]) -> Result<Book, AllocError> {
+fn clause_of(alloc: Global, line: &str) -> Result<Clause, AllocError> {
+    let mut words = line.split_whitespace();
+    let first = next_lit(&mut words);
+    let second = next_lit(&mut words);
+    let third = next_lit(&mut words);
+    Clause::from_lits(alloc, &[first, second, third])
+}
+
+pub(crate) fn book_of(alloc: Global, clauses: &str) -> Result<Book, AllocError> {
     let mut given = Vec::new(alloc);
-    for lits in clauses {
-        let clause = Clause::from_lits(alloc, &[lit(lits[0]), lit(lits[1]), lit(lits[2])])?;
-        given.push(clause)?;
+    for line in clauses.lines() {
+        given.push(clause_of(alloc, line)?)?;
     }
     Book::new(alloc, given)
 }
@@ -125,7 +124,7 @@ pub(crate) fn solve(solver: &mut Solver, numbers: [i32; 3]) -> Result<Answer, Al
 }
 
 /// Whether bits say that a variable holds, given by its number.
-fn is_true(bits: &Bits, number: i32) -> bool {
+pub(crate) fn is_true(bits: &Bits, number: i32) -> bool {
     let lit = variable(number);
     (lit.variable() as usize) < bits.len() && lit.true_in(bits)
 }
@@ -137,52 +136,154 @@ fn is_ruled_out(lit: Lit, numbers: &[i32]) -> bool {
         .any(|number| lit == variable(*number).negate())
 }
 
+pub(crate) fn sign(holds: bool) -> char {
+    if holds { '+' } else { '-' }
+}
+
+/// The last digit of a number.
+pub(crate) fn digit(number: u64) -> char {
+    char::from_digit((number % 10) as u32, 10).unwrap_or('?')
+}
+
+/// Adds the id of the refuting clause, of two digits, or a sign for each of two variables that are to hold in the bits.
+pub(crate) fn put_answer(
+    text: &mut String,
+    answer: &Answer,
+    holding: [i32; 2],
+) -> Result<(), AllocError> {
+    match answer {
+        Answer::Refuted(id) => {
+            text.push(digit(*id / 10))?;
+            text.push(digit(*id))
+        }
+        Answer::Bits(bits) => {
+            text.push(sign(is_true(bits, holding[0])))?;
+            text.push(sign(is_true(bits, holding[1])))
+        }
+    }
+}
+
+/// Asks with three variables assumed, and puts the answer: in bits, "B" and "D" are to hold.
+pub(crate) fn ask(
+    text: &mut String,
+    solver: &mut Solver,
+    numbers: [i32; 3],
+) -> Result<(), AllocError>
+    requires { solver.old.variables ≡ 22 }
+    ensures { solver.new.variables ≡ 22 }
+{
+    let answer = solve(solver, numbers)?;
+    put_answer(text, &answer, [2, 4])?;
+    text.push(' ')
+}
+
+/// Puts how many lines wait, and whether a book accepts them.
+fn put_lines(text: &mut String, solver: &Solver, book: &mut Book) -> Result<(), AllocError> {
+    text.push(digit(solver.lines().len() as u64))?;
+    text.push(sign(accept_all(book, solver.lines()).is_ok()))?;
+    text.push(' ')
+}
+
+/// Whether a book has a live clause of this id, each literal of which is ruled out by these variables.
+fn is_live(book: &Book, id: u64, numbers: &[i32]) -> bool {
+    match book.live(id) {
+        Some(lits) => lits.iter().all(|lit| is_ruled_out(*lit, numbers)),
+        None => false,
+    }
+}
+
 // "B", "B is in D" and "D is in C" are refuted, and "D is in B" in place of the last is not.
+fn refute(alloc: Global, solver: &mut Solver, book: &mut Book) -> Result<String, AllocError>
+    requires { solver.old.variables ≡ 22 }
+{
+    let mut text = String::new(alloc);
+    ask(&mut text, solver, [2, 8, 13])?;
+    ask(&mut text, solver, [2, 8, 10])?;
+    put_lines(&mut text, solver, book)?;
+    text.push(sign(is_live(book, 23, &[2, 8, 13])))?;
+    Ok(text)
+}
+
+// Here and below no `?` comes after a solver or a book is made: each would be one more place that lets it go, and proving those
+// is dear.
+fn refute_with_book(alloc: Global, solver: &mut Solver) -> Result<String, AllocError>
+    requires { solver.old.variables ≡ 22 }
+{
+    let mut book = book_of(alloc, REGIONS)?;
+    refute(alloc, solver, &mut book)
+}
+
+fn refutation(alloc: Global) -> Result<String, AllocError> {
+    let mut solver = solver_of(alloc, REGIONS)?;
+    refute_with_book(alloc, &mut solver)
+}
+
+// One line waits after both questions.
 #[test]
 fn a_book_accepts_the_lines_of_a_refutation(rt: HostRuntime) -> Result<(), Fail> {
-    let mut solver = solver_of(rt.alloc(), REGIONS)?;
-    let mut book = book_of(rt.alloc(), REGIONS)?;
-    let Answer::Refuted(id) = solve(&mut solver, [2, 8, 13])? else {
-        panic!(rt; "bits");
-    };
-    solve(&mut solver, [2, 8, 10])?;
-    assert_eq!(rt; solver.lines().len(), 1);
-    assert_eq!(rt; accept_all(&mut book, solver.lines()), Ok(()));
-    let Some(lits) = book.live(id) else {
-        panic!(rt; "no clause");
-    };
-    assert!(rt; lits.iter().all(|lit| is_ruled_out(*lit, &[2, 8, 13])));
+    let text = refutation(rt.alloc())?;
+    assert_eq!(rt; text.as_str(), "23 ++ 1+ +");
     Ok(())
 }
 
-// The same where the clauses that are idle are forgotten after the first answer: in the bits, "B" and "D" hold.
+// The same where the clauses that are idle are forgotten after the first answer.
+fn forget(alloc: Global, solver: &mut Solver, book: &mut Book) -> Result<String, AllocError>
+    requires { solver.old.variables ≡ 22 }
+{
+    let mut text = String::new(alloc);
+    ask(&mut text, solver, [2, 8, 13])?;
+    solver.tidy()?;
+    text.push(digit(solver.idle()))?;
+    ask(&mut text, solver, [2, 8, 10])?;
+    text.push(sign(accept_all(book, solver.lines()).is_ok()))?;
+    Ok(text)
+}
+
+fn forget_with_book(alloc: Global, solver: &mut Solver) -> Result<String, AllocError>
+    requires { solver.old.variables ≡ 22 }
+{
+    let mut book = book_of(alloc, REGIONS)?;
+    forget(alloc, solver, &mut book)
+}
+
+fn forgetting(alloc: Global) -> Result<String, AllocError> {
+    let mut solver = solver_of(alloc, REGIONS)?;
+    forget_with_book(alloc, &mut solver)
+}
+
 #[test]
 fn an_answer_stands_after_forgetting(rt: HostRuntime) -> Result<(), Fail> {
-    let mut solver = solver_of(rt.alloc(), REGIONS)?;
-    let mut book = book_of(rt.alloc(), REGIONS)?;
-    let Answer::Refuted(_) = solve(&mut solver, [2, 8, 13])? else {
-        panic!(rt; "bits");
-    };
-    solver.tidy()?;
-    assert_eq!(rt; solver.idle(), 0);
-    let Answer::Bits(bits) = solve(&mut solver, [2, 8, 10])? else {
-        panic!(rt; "refuted");
-    };
-    assert!(rt; is_true(&bits, 2) && is_true(&bits, 4));
-    assert_eq!(rt; accept_all(&mut book, solver.lines()), Ok(()));
+    let text = forgetting(rt.alloc())?;
+    assert_eq!(rt; text.as_str(), "23 0++ +");
     Ok(())
+}
+
+/// Whether a solver refutes its clauses, by more than one line, and a book accepts the lines and then has the clause with no
+/// literals.
+fn is_refuted(solver: &mut Solver, book: &mut Book) -> Result<bool, AllocError> {
+    match solver.solve(&[])? {
+        Answer::Refuted(id) => Ok(
+            solver.lines().len() > 1
+                && accept_all(book, solver.lines()).is_ok()
+                && matches!(book.live(id), Some([])),
+        ),
+        Answer::Bits(_) => Ok(false),
+    }
+}
+
+fn pigeons_with_book(alloc: Global, solver: &mut Solver) -> Result<bool, AllocError> {
+    let mut book = book_of(alloc, PIGEONS)?;
+    is_refuted(solver, &mut book)
+}
+
+fn pigeons(alloc: Global) -> Result<bool, AllocError> {
+    let mut solver = solver_of(alloc, PIGEONS)?;
+    pigeons_with_book(alloc, &mut solver)
 }
 
 // No pigeon is left out: the lines lead to the clause with no literals.
 #[test]
 fn a_book_accepts_the_lines_of_pigeons(rt: HostRuntime) -> Result<(), Fail> {
-    let mut solver = solver_of(rt.alloc(), PIGEONS)?;
-    let mut book = book_of(rt.alloc(), PIGEONS)?;
-    let Answer::Refuted(id) = solver.solve(&[])? else {
-        panic!(rt; "bits");
-    };
-    assert!(rt; solver.lines().len() > 1);
-    assert_eq!(rt; accept_all(&mut book, solver.lines()), Ok(()));
-    assert_eq!(rt; book.live(id).map(|lits| lits.len()), Some(0));
+    assert!(rt; pigeons(rt.alloc())?);
     Ok(())
 }

@@ -1,8 +1,8 @@
 use Rattle.std.proofs.Common.{◌≡◌, []}
-use Rattle.solver_checks.proofs.solver_and_book.solver_of.Given as goal
+use Rattle.solver_checks.proofs.solver_and_book.add_all.Given as goal
 
-abbrev pub invariant-loop-lits : goal.invariant-loop-lits
-invariant-loop-lits l = record {
+abbrev pub invariant-loop-line : goal.invariant-loop-line
+invariant-loop-line l = record {
   variables : l.solver.variables ≡ 22;
   first : l.solver.state.derived ≡ [];
   quiet : l.solver.waiting ≡ [];
