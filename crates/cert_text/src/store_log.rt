@@ -16,13 +16,13 @@ use outer_store::{Store, StoreFault};
 use std::alloc::Global;
 
 /// The log that prints each line to the end of what a name of a store holds, by one `append` a line.
+///
+/// It owns nothing that has to be dropped: so the store that it borrowed is known to be as the log's last call left it.
 #[derive(Drop)]
 pub struct StoreLog<'a, S: Store> {
     store: &'a mut S,
     name: &'a str,
     alloc: Global,
-    /// The text of the last line. Its room is used again.
-    text: Vec<u8>,
     /// Whether a line was refused.
     refused: bool,
 }
@@ -40,7 +40,6 @@ impl<'a, S: Store> StoreLog<'a, S> {
             store,
             name,
             alloc,
-            text: Vec::new(alloc),
             refused: false,
         }
     }
@@ -51,7 +50,6 @@ fn append_line<S: Store>(
     alloc: Global,
     store: &mut S,
     name: &str,
-    text: &mut Vec<u8>,
     line: &CertLine,
 ) -> Result<(), StoreFault>
     requires { IdsFromOne line.now }
@@ -61,9 +59,9 @@ fn append_line<S: Store>(
     ensures cause { IfFailed result (Rose (S.write_faults store.old name.now) (S.write_faults store.new name.now))
         (NoneMoved (S.read_faults store.old) (S.read_faults store.new) (S.write_faults store.old) (S.write_faults store.new)) }
 {
-    text.clear();
-    put_whole(alloc, text, line)?;
-    store.append(name, text)
+    let mut text = Vec::new(alloc);
+    put_whole(alloc, &mut text, line)?;
+    store.append(name, &text)
 }
 
 impl<'a, S: Store> TreeLog for StoreLog<'a, S> {
@@ -87,7 +85,7 @@ impl<'a, S: Store> TreeLog for StoreLog<'a, S> {
         (S.write_faults (log_store a).now) (S.write_faults (log_store b).now) };
 
     fn put_line(&mut self, line: &CertLine) -> Result<(), StoreFault> {
-        let put = append_line(self.alloc, self.store, self.name, &mut self.text, line);
+        let put = append_line(self.alloc, self.store, self.name, line);
         if put.is_err() {
             self.refused = true;
         }
