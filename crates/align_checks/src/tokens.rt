@@ -10,13 +10,6 @@ const PLAIN: &str = "taxonomy 1\n(A)\ntaxonomy 2\n(B)\n";
 
 const DIGEST: &str = "0e840ad3c362ef009568403e4c4fb237f9a9b4416ef7c8fbc4f86c79753f6d10";
 
-// The token of its position `<`.
-const TOKEN: &str =
-    "token 2 2 1 0e840ad3c362ef009568403e4c4fb237f9a9b4416ef7c8fbc4f86c79753f6d10 <\n";
-
-// The same two where they are said to be equal.
-const EQUAL: &str = "taxonomy 1\n(A)\ntaxonomy 2\n(B)\narticulation\n[1.A equals 2.B]\n";
-
 // Three concepts of three taxonomies. This digest was made by another program too.
 const THREE: &str = "taxonomy 1\n(A)\ntaxonomy 2\n(B)\ntaxonomy 3\n(C)\n";
 
@@ -28,15 +21,13 @@ const SEVEN: &str = "taxonomy 1\n(A B C)\ntaxonomy 2\n(D E F)\narticulation\n[1.
 const SEVEN_LINES: &str =
     "=>><=!<!=>>!>>!\n=>><>x<!<>>!>>!\n=>><<!<x>>>!>>!\n=>><x><<!>>!>>!\n=>><xx<xx>>!>>!\n=>><!=<=!>>!>>!\n=>><!<<>x>>!>>!\n";
 
-// The exit code of a run with these words after `align in=p`, and all that its sink has received. The call
-// of the sink with this number fails; none does where it is 0.
+// The exit code of a run with these words after `align in=p`, and all that its sink has received.
 fn align(
     alloc: Global,
     store: &mut MemoryStore,
     words: &str,
-    failing_put: u64,
 ) -> Result<(u8, Vec<u8>), AllocError> {
-    let mut sink = MemorySink::new(alloc, vec![in alloc; failing_put]?);
+    let mut sink = MemorySink::new(alloc, Vec::new(alloc));
     let mut list = Vec::new(alloc);
     list.push(String::from_str(alloc, "align")?)?;
     list.push(String::from_str(alloc, "in=p")?)?;
@@ -47,91 +38,27 @@ fn align(
     Ok((status.code(), Vec::from_slice(alloc, sink.bytes())?))
 }
 
-// A store that holds a problem as `p`. The call of this number fails; none does where it is 0.
-fn store_of(alloc: Global, text: &str, failing: u64) -> Result<MemoryStore, AllocError> {
-    let mut store = MemoryStore::new(alloc, vec![in alloc; failing]?);
+// A store that holds a problem as `p`.
+fn store_of(alloc: Global, text: &str) -> Result<MemoryStore, AllocError> {
+    let mut store = MemoryStore::new(alloc, Vec::new(alloc));
     store.hold("p", text.as_bytes())?;
     Ok(store)
-}
-
-// The words, what is put, the exit code, and the position in the token; without one, no token is written.
-#[test]
-fn a_listing_is_cut_at_its_budget(rt: HostRuntime) -> Result<(), Fail> {
-    let alloc = rt.alloc();
-    let rows = [
-        ("nodes=1 token=t", "cut 0\n", 5, "="),
-        ("nodes=3 token=t", "=\n>\ncut 2\n", 5, "<"),
-        ("nodes=5 token=t", "=\n>\n<\nx\ncut 4\n", 5, "!"),
-        ("nodes=6 token=t", "=\n>\n<\nx\n!\ncomplete 5\n", 0, ""),
-        ("worlds=4 token=t", "=\n>\n<\nx\ncut 4\n", 5, "!"),
-        ("worlds=5 token=t", "=\n>\n<\nx\n!\ncomplete 5\n", 0, ""),
-        ("worlds=1 nodes=3 token=t", "=\ncut 1\n", 5, ">"),
-        ("worlds=3 nodes=3 token=t", "=\n>\ncut 2\n", 5, "<"),
-        ("token=t", "=\n>\n<\nx\n!\ncomplete 5\n", 0, ""),
-    ];
-    for (words, lines, code, position) in rows {
-        let mut store = store_of(alloc, PLAIN, 0)?;
-        let (end, received) = align(alloc, &mut store, words, 0)?;
-        assert_eq!(rt; received.as_slice(), lines.as_bytes(), "{words}");
-        assert_eq!(rt; end, code, "{words}");
-        let token = format!(in alloc; "token 2 2 1 {DIGEST} {position}\n")?;
-        let wanted = if position.is_empty() {
-            None
-        } else {
-            Some(token.as_bytes())
-        };
-        assert_eq!(rt; store.bytes("t"), wanted, "{words}");
-    }
-    Ok(())
-}
-
-// A problem, the words of a token before its digest, the digest, its position, what is put and the exit code.
-const JUDGED: [(&str, &str, &str, &str, &str, u8); 10] = [
-    (PLAIN, "2 2 1", DIGEST, "<", "<\nx\n!\ncomplete 3\n", 0),
-    (PLAIN, "1", DIGEST, "<", "<\nx\n!\ncomplete 3\n", 0),
-    (PLAIN, "2 2 3", DIGEST, "<", "token OtherProblem\n", 7),
-    (PLAIN, "2 9 1", DIGEST, "<", "token BadToken\n", 7),
-    (PLAIN, "1", DIGEST, "?", "token BadPosition\n", 7),
-    (PLAIN, "1", DIGEST, "<<", "token BadPosition\n", 7),
-    (PLAIN, "2 2 1", THREE_DIGEST, "<", "token OtherProblem\n", 7),
-    (EQUAL, "1", DIGEST, "<", "token OtherProblem\n", 7),
-    (THREE, "1", THREE_DIGEST, "!!!", "token OtherProblem\n", 7),
-    (THREE, "2 3 3", THREE_DIGEST, "!!!", "!!!\ncomplete 1\n", 0),
-];
-
-#[test]
-fn a_token_is_judged(rt: HostRuntime) -> Result<(), Fail> {
-    let alloc = rt.alloc();
-    for (text, head, digest, position, lines, code) in JUDGED {
-        let mut store = store_of(alloc, text, 0)?;
-        let token = format!(in alloc; "token {head} {digest} {position}\n")?;
-        store.hold("r", token.as_bytes())?;
-        let (end, received) = align(alloc, &mut store, "resume=r", 0)?;
-        assert_eq!(rt; received.as_slice(), lines.as_bytes(), "{token}");
-        assert_eq!(rt; end, code, "{token}");
-    }
-    let mut store = store_of(alloc, PLAIN, 0)?;
-    store.hold("r", b"")?;
-    let (end, received) = align(alloc, &mut store, "resume=r", 0)?;
-    assert_eq!(rt; received.as_slice(), b"token BadToken\n".as_slice());
-    assert_eq!(rt; end, 7);
-    Ok(())
 }
 
 #[test]
 fn three_taxonomies_are_listed_in_two_runs(rt: HostRuntime) -> Result<(), Fail> {
     let alloc = rt.alloc();
-    let mut store = store_of(alloc, THREE, 0)?;
-    let (end, first) = align(alloc, &mut store, "nodes=4 token=t", 0)?;
+    let mut store = store_of(alloc, THREE)?;
+    let (end, first) = align(alloc, &mut store, "nodes=4 token=t")?;
     assert_eq!(rt; first.as_slice(), b"===\ncut 1\n".as_slice());
     assert_eq!(rt; end, 5);
     let token = format!(in alloc; "token 2 3 3 {THREE_DIGEST} ==>\n")?;
     assert_eq!(rt; store.bytes("t"), Some(token.as_bytes()));
-    let (end, others) = align(alloc, &mut store, "resume=t", 0)?;
+    let (end, others) = align(alloc, &mut store, "resume=t")?;
     assert_eq!(rt; end, 0);
     let mut listed = worlds_of(alloc, &first, 3)?;
     listed.extend_from_slice(&worlds_of(alloc, &others, 3)?)?;
-    let (end, all) = align(alloc, &mut store, "", 0)?;
+    let (end, all) = align(alloc, &mut store, "")?;
     assert_eq!(rt; end, 0);
     assert_eq!(rt; listed.as_slice(), worlds_of(alloc, &all, 3)?.as_slice());
     assert!(rt; listed.len() > 100);
@@ -148,9 +75,9 @@ fn a_token_that_was_cut_off_is_bad(rt: HostRuntime) -> Result<(), Fail> {
         for size in 0..whole.len() {
             let mut token = Vec::from_slice(alloc, whole.as_bytes())?;
             token.truncate(size);
-            let mut store = store_of(alloc, PLAIN, 0)?;
+            let mut store = store_of(alloc, PLAIN)?;
             store.hold("r", &token)?;
-            let (end, received) = align(alloc, &mut store, "resume=r", 0)?;
+            let (end, received) = align(alloc, &mut store, "resume=r")?;
             assert_eq!(rt;
                 received.as_slice(),
                 b"token BadToken\n".as_slice(),
@@ -158,45 +85,6 @@ fn a_token_that_was_cut_off_is_bad(rt: HostRuntime) -> Result<(), Fail> {
             );
             assert_eq!(rt; end, 7, "{size}");
         }
-    }
-    Ok(())
-}
-
-// The call of the store and that of the sink that fail, what is put, the exit code, and what `t` holds then, where it held `old`.
-#[test]
-fn a_failed_call_ends_a_cut(rt: HostRuntime) -> Result<(), Fail> {
-    let alloc = rt.alloc();
-    let rows = [
-        (0, 1, "", 4, "old"),
-        (0, 2, "=\n", 4, "old"),
-        (0, 3, "=\n>\n", 4, TOKEN),
-        (0, 4, "=\n>\ncut 2\n", 5, TOKEN),
-        (1, 0, "read fault\n", 3, "old"),
-        (2, 0, "read fault\n", 3, "old"),
-        (3, 0, "=\n>\n", 4, "old"),
-        (4, 0, "=\n>\n", 4, ""),
-        (5, 0, "=\n>\ncut 2\n", 5, TOKEN),
-    ];
-    for (failing, failing_put, lines, code, held) in rows {
-        let mut store = store_of(alloc, PLAIN, failing)?;
-        store.hold("t", b"old")?;
-        let (end, received) = align(alloc, &mut store, "nodes=3 token=t", failing_put)?;
-        assert_eq!(rt;
-            received.as_slice(),
-            lines.as_bytes(),
-            "{failing} {failing_put}"
-        );
-        assert_eq!(rt; end, code, "{failing} {failing_put}");
-        assert_eq!(rt;
-            store.bytes("t").unwrap_or(&[]),
-            held.as_bytes(),
-            "{failing} {failing_put}"
-        );
-        assert_eq!(rt;
-            store.bytes("p").unwrap_or(&[]),
-            PLAIN.as_bytes(),
-            "{failing} {failing_put}"
-        );
     }
     Ok(())
 }
@@ -214,14 +102,14 @@ fn with_position(alloc: Global, token: &[u8], position: &str) -> Result<Vec<u8>,
 #[test]
 fn a_listing_goes_on_at_any_position(rt: HostRuntime) -> Result<(), Fail> {
     let alloc = rt.alloc();
-    let mut store = store_of(alloc, SEVEN, 0)?;
-    let (_, _) = align(alloc, &mut store, "nodes=1 token=t", 0)?;
+    let mut store = store_of(alloc, SEVEN)?;
+    let (_, _) = align(alloc, &mut store, "nodes=1 token=t")?;
     let token = Vec::from_slice(alloc, store.bytes("t").unwrap_or(&[]))?;
     let rows = [("=>><x", 48, 4), ("!", 112, 0), ("==", 0, 7), (".", 0, 7)];
     for (position, left_out, count) in rows {
         let resumed = with_position(alloc, &token, position)?;
         store.hold("r", &resumed)?;
-        let (end, received) = align(alloc, &mut store, "resume=r", 0)?;
+        let (end, received) = align(alloc, &mut store, "resume=r")?;
         let mut wanted = Vec::new(alloc);
         for byte in SEVEN_LINES.as_bytes().iter().skip(left_out) {
             wanted.push(*byte)?;
@@ -251,9 +139,9 @@ fn worlds_of(alloc: Global, received: &[u8], letters: usize) -> Result<Vec<u8>, 
 fn runs_in_a_chain_list_each_world_once(rt: HostRuntime) -> Result<(), Fail> {
     let alloc = rt.alloc();
     for budget in ["nodes=1", "nodes=7", "nodes=50", "worlds=1", "worlds=3"] {
-        let mut store = store_of(alloc, SEVEN, 0)?;
+        let mut store = store_of(alloc, SEVEN)?;
         let first = format!(in alloc; "{budget} token=t")?;
-        let (mut end, received) = align(alloc, &mut store, first.as_str(), 0)?;
+        let (mut end, received) = align(alloc, &mut store, first.as_str())?;
         let mut listed = worlds_of(alloc, &received, 15)?;
         for _ in 0..1000 {
             if end != 5 {
@@ -262,7 +150,7 @@ fn runs_in_a_chain_list_each_world_once(rt: HostRuntime) -> Result<(), Fail> {
             let token = Vec::from_slice(alloc, store.bytes("t").unwrap_or(&[]))?;
             store.hold("r", &token)?;
             let words = format!(in alloc; "{budget} token=t resume=r")?;
-            let (next, received) = align(alloc, &mut store, words.as_str(), 0)?;
+            let (next, received) = align(alloc, &mut store, words.as_str())?;
             end = next;
             listed.extend_from_slice(&worlds_of(alloc, &received, 15)?)?;
         }

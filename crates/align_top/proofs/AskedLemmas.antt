@@ -13,15 +13,16 @@ use Rattle.resume_token.specs.declared.TokenFault.{TokenFault}
 use Rattle.resume_token.specs.Contents.{Contents as TokenContents, contents_of}
 use Rattle.resume_token.specs.Token.{token_result, contents_result, are_of, position_for, position_in, kind_of}
 use Rattle.outer_store.specs.Contents.{Contents}
-use Rattle.command_line.specs.declared.Request.TheVariants.{Align}
 use Rattle.run_ends.specs.declared.Status.{Status}
 use Rattle.run_ends.specs.declared.Status.TheVariants as status
 use Rattle.run_ends.specs.Reads.{AreHeld, AreFront, problem_by, problem_in, IsRefused, ComesOf, IsWithout}
 use Rattle.run_ends.specs.Runs.{StoreState, IsQuiet, Answered, ending_of, IsEarlyEnd}
 use Rattle.run_ends.proofs.ReadLemmas.{text_cut}
+use Rattle.align_top.specs.declared.Asking.{Asking}
 use Rattle.align_top.specs.declared.Order.{Order}
-use Rattle.align_top.specs.Output.{start_of, order_from, order_by, ComesTo, names_of, answers_to}
+use Rattle.align_top.specs.Output.{start_of, order_from, order_by, ComesTo, listing_names, IsListingAnswer}
 use Rattle.align_top.specs.Steps.{start_by, start_in, token_end, IsStart, IsWithoutStart, IsAskable}
+use Rattle.align_top.proofs.RequestLemmas.{one_bytes}
 
 -- bytes that are cut behind the longest token are too long still
 token_cut : (p : Problem) (told : List ℕ) → token_result p (take 1048577 told) ≡ token_result p told
@@ -95,10 +96,6 @@ filled-front : {Y : Type 0} (judge : List ℕ → Y) → ((told : List ℕ) → 
 filled-front judge cut None bytes front = refl
 filled-front judge cut (Some all) bytes front = sym (ap judge front ∙ cut all)
 
-one_bytes : (xs : List ℕ) → bytes_eq xs xs ≡ true
-one_bytes [] = refl
-one_bytes (x ∷ xs) = ap (λ b. b && bytes_eq xs xs) (eq-eqb x x refl) ∙ one_bytes xs
-
 filled-input : (held : Contents) (input these those : List ℕ) (switches : Switches) → AreFront held input these
     → text_result (filled held input these those input) switches ≡ text_result these switches
 filled-input held input these those switches front =
@@ -130,67 +127,69 @@ by_problem (Ok p) nodes worlds token = by_start p nodes worlds (start_of p token
 by_problem (Err fault) nodes worlds token = refl
 
 -- a request without a token to be read
-comes_plain : (held : Contents) (input these : List ℕ) (switches : Switches) (nodes worlds : Option ℕ) (outcome : Result Order Status) → AreFront held input these
-    → from_problem (problem_in switches these) nodes worlds (λ p. Ok []) ≡ outcome → ComesTo input switches nodes worlds None held outcome
-comes_plain held input these switches nodes worlds outcome front e = record {
-  bytes = filled held input these [];
-  told = filled-told held input these [];
+comes_plain : (held : Contents) (asking : Asking) (these : List ℕ) (outcome : Result Order Status) → AreFront held asking.input these
+    → from_problem (problem_in asking.switches these) asking.nodes asking.worlds (λ p. Ok []) ≡ outcome → ComesTo (record asking { resume = None }) held outcome
+comes_plain held asking these outcome front e = record {
+  bytes = filled held asking.input these [];
+  told = filled-told held asking.input these [];
   is =
-      ap (λ (r : Result Problem (ℕ × TextKind)). order_by r nodes worlds None) (filled-input held input these [] switches front)
-      ∙ by_problem (text_result these switches) nodes worlds None
+      ap (λ (r : Result Problem (ℕ × TextKind)). order_by r asking.nodes asking.worlds None) (filled-input held asking.input these [] asking.switches front)
+      ∙ by_problem (text_result these asking.switches) asking.nodes asking.worlds None
       ∙ e;
 }
 
 -- and with one
-comes_resumed : (held : Contents) (input these name those : List ℕ) (switches : Switches) (nodes worlds : Option ℕ) (outcome : Result Order Status)
-    → bytes_eq input name ≡ false → AreFront held input these → AreFront held name those
-    → from_problem (problem_in switches these) nodes worlds (λ p. start_in p those) ≡ outcome → ComesTo input switches nodes worlds (Some name) held outcome
-comes_resumed held input these name those switches nodes worlds outcome apart front behind e = record {
-  bytes = filled held input these those;
-  told = filled-told held input these those;
+comes_resumed : (held : Contents) (asking : Asking) (these name those : List ℕ) (outcome : Result Order Status)
+    → bytes_eq asking.input name ≡ false → AreFront held asking.input these → AreFront held name those
+    → from_problem (problem_in asking.switches these) asking.nodes asking.worlds (λ p. start_in p those) ≡ outcome → ComesTo (record asking { resume = Some name }) held outcome
+comes_resumed held asking these name those outcome apart front behind e = record {
+  bytes = filled held asking.input these those;
+  told = filled-told held asking.input these those;
   is =
-      ap (λ (r : Result Problem (ℕ × TextKind)). order_by r nodes worlds (Some (filled held input these those name))) (filled-input held input these those switches front)
-      ∙ by (text_result these switches)
+      ap (λ (r : Result Problem (ℕ × TextKind)). order_by r asking.nodes asking.worlds (Some (filled held asking.input these those name))) (filled-input held asking.input these those asking.switches front)
+      ∙ by (text_result these asking.switches)
       ∙ e;
 }
   where
-    by : (r : Result Problem (ℕ × TextKind)) → order_by r nodes worlds (Some (filled held input these those name)) ≡ from_problem (problem_by r) nodes worlds (λ p. start_in p those)
-    by (Ok p) = ap (order_from p nodes worlds) (filled-token p held input name these those apart behind) ∙ by_start p nodes worlds (token_result p those)
+    by : (r : Result Problem (ℕ × TextKind)) → order_by r asking.nodes asking.worlds (Some (filled held asking.input these those name)) ≡ from_problem (problem_by r) asking.nodes asking.worlds (λ p. start_in p those)
+    by (Ok p) = ap (order_from p asking.nodes asking.worlds) (filled-token p held asking.input name these those apart behind) ∙ by_start p asking.nodes asking.worlds (token_result p those)
     by (Err fault) = refl
 
 -- a request whose problem and start are found
-pub comes_ok : (held : Contents) (input : List ℕ) (switches : Switches) (nodes worlds : Option ℕ) (token resume : Option (List ℕ)) (p : Problem) (start : List Rel)
-    → IsAskable input nodes worlds token resume → ComesOf held input (problem_in switches) (Ok p) → IsStart held p resume start
-    → ComesTo input switches nodes worlds resume held (Ok (record { problem = p; start = start; nodes = nodes; worlds = worlds }))
-comes_ok held input switches nodes worlds token None p start askable problem empty =
-    comes_plain held input problem.bytes switches nodes worlds _ problem.front
-    (ap (λ r. from_problem r nodes worlds (λ p. Ok [])) problem.judged ∙ ap (λ (q : List Rel). from_start p nodes worlds (Ok q)) (sym empty))
-comes_ok held input switches nodes worlds token (Some name) p start askable problem of_token =
-    comes_resumed held input problem.bytes name of_token.bytes switches nodes worlds _ askable.apart problem.front of_token.front
-    (ap (λ r. from_problem r nodes worlds (λ p. start_in p of_token.bytes)) problem.judged ∙ ap (from_start p nodes worlds) of_token.judged)
+pub comes_ok : (held : Contents) (asking : Asking) (p : Problem) (start : List Rel) → IsAskable asking → ComesOf held asking.input (problem_in asking.switches) (Ok p)
+    → IsStart held p asking.resume start → ComesTo asking held (Ok (record { problem = p; start = start; nodes = asking.nodes; worlds = asking.worlds }))
+comes_ok held asking p start askable problem begun = by asking.resume askable.apart begun
+  where
+    by : (resume : Option (List ℕ)) → IfSome resume (λ name. bytes_eq asking.input name ≡ false) → IsStart held p resume start
+        → ComesTo (record asking { resume = resume }) held (Ok (record { problem = p; start = start; nodes = asking.nodes; worlds = asking.worlds }))
+    by None apart empty =
+        comes_plain held asking problem.bytes _ problem.front
+        (ap (λ r. from_problem r asking.nodes asking.worlds (λ p. Ok [])) problem.judged ∙ ap (λ (q : List Rel). from_start p asking.nodes asking.worlds (Ok q)) (sym empty))
+    by (Some name) apart of_token =
+        comes_resumed held asking problem.bytes name of_token.bytes _ apart problem.front of_token.front
+        (ap (λ r. from_problem r asking.nodes asking.worlds (λ p. start_in p of_token.bytes)) problem.judged ∙ ap (from_start p asking.nodes asking.worlds) of_token.judged)
 
 -- one whose text is refused
 first_bytes : (told : Option (List ℕ)) → IfSome told (λ all. take 1048577 (unwrap_or told []) ≡ take 1048577 all)
 first_bytes None = tt
 first_bytes (Some all) = refl
 
-pub comes_refused : (held : Contents) (input : List ℕ) (switches : Switches) (nodes worlds : Option ℕ) (token resume : Option (List ℕ)) (s : Status)
-    → IsAskable input nodes worlds token resume → ComesOf held input (problem_in switches) (Err s)
-    → ComesTo input switches nodes worlds resume held (Err s)
-comes_refused held input switches nodes worlds token None s askable problem =
-    comes_plain held input problem.bytes switches nodes worlds _ problem.front (ap (λ r. from_problem r nodes worlds (λ p. Ok [])) problem.judged)
-comes_refused held input switches nodes worlds token (Some name) s askable problem =
-    let those = take 1048577 (unwrap_or (held name) []) in
-    comes_resumed held input problem.bytes name those switches nodes worlds _ askable.apart problem.front (first_bytes (held name))
-    (ap (λ r. from_problem r nodes worlds (λ p. start_in p those)) problem.judged)
+comes_refused : (held : Contents) (asking : Asking) (s : Status) → IsAskable asking → ComesOf held asking.input (problem_in asking.switches) (Err s) → ComesTo asking held (Err s)
+comes_refused held asking s askable problem = by asking.resume askable.apart
+  where
+    by : (resume : Option (List ℕ)) → IfSome resume (λ name. bytes_eq asking.input name ≡ false) → ComesTo (record asking { resume = resume }) held (Err s)
+    by None apart = comes_plain held asking problem.bytes _ problem.front (ap (λ r. from_problem r asking.nodes asking.worlds (λ p. Ok [])) problem.judged)
+    by (Some name) apart =
+        let those = take 1048577 (unwrap_or (held name) []) in
+        comes_resumed held asking problem.bytes name those _ apart problem.front (first_bytes (held name))
+        (ap (λ r. from_problem r asking.nodes asking.worlds (λ p. start_in p those)) problem.judged)
 
 -- one whose token is refused
-comes_unstarted : (held : Contents) (input name : List ℕ) (switches : Switches) (nodes worlds : Option ℕ) (token : Option (List ℕ)) (p : Problem) (s : Status)
-    → IsAskable input nodes worlds token (Some name) → ComesOf held input (problem_in switches) (Ok p) → ComesOf held name (start_in p) (Err s)
-    → ComesTo input switches nodes worlds (Some name) held (Err s)
-comes_unstarted held input name switches nodes worlds token p s askable problem of_token =
-    comes_resumed held input problem.bytes name of_token.bytes switches nodes worlds _ askable.apart problem.front of_token.front
-    (ap (λ r. from_problem r nodes worlds (λ p. start_in p of_token.bytes)) problem.judged ∙ ap (from_start p nodes worlds) of_token.judged)
+comes_unstarted : (held : Contents) (asking : Asking) (name : List ℕ) (p : Problem) (s : Status) → bytes_eq asking.input name ≡ false
+    → ComesOf held asking.input (problem_in asking.switches) (Ok p) → ComesOf held name (start_in p) (Err s) → ComesTo (record asking { resume = Some name }) held (Err s)
+comes_unstarted held asking name p s apart problem of_token =
+    comes_resumed held asking problem.bytes name of_token.bytes _ apart problem.front of_token.front
+    (ap (λ r. from_problem r asking.nodes asking.worlds (λ p. start_in p of_token.bytes)) problem.judged ∙ ap (from_start p asking.nodes asking.worlds) of_token.judged)
 
 -- a refusal is an answer
 err_same : (a b : Status) (x : Result Order Status) → x ≡ Err a → x ≡ Err b → a ≡ b
@@ -205,39 +204,35 @@ refused_text (Ok p) nodes worlds token s e = refused_start p nodes worlds (start
 refused_text (Err f) nodes worlds token s e = ap ending_of (sym (err_same (status.RefusedText f.0 f.1) s (Err (status.RefusedText f.0 f.1)) refl e))
 
 -- a listing that is refused, whose last line is all that is put
-refused : (input : List ℕ) (switches : Switches) (nodes worlds : Option ℕ) (token resume : Option (List ℕ)) (s : Status) (one other : StoreState)
-    → ComesTo input switches nodes worlds resume one.held (Err s) → IsQuiet one other
-    → IsEarlyEnd (names_of (Ok (Align input switches nodes worlds token resume))) (answers_to (Ok (Align input switches nodes worlds token resume))) s one other
-refused input switches nodes worlds token resume s one other comes quiet = inl (
+refused : (asking : Asking) (s : Status) (one other : StoreState) → ComesTo asking one.held (Err s) → IsQuiet one other → IsEarlyEnd (listing_names asking) (IsListingAnswer asking) s one other
+refused asking s one other comes quiet = inl (
   record { outcome = Err s; comes = comes; answer = (refl, refl, refl) },
-  refused_text (text_result (comes.bytes input) switches) nodes worlds (option_map comes.bytes resume) s comes.is,
+  refused_text (text_result (comes.bytes asking.input) asking.switches) asking.nodes asking.worlds (option_map comes.bytes asking.resume) s comes.is,
   quiet,
 )
 
 -- a listing that ends before its start is read
-pub ends_without_problem : (one other : StoreState) (input : List ℕ) (switches : Switches) (nodes worlds : Option ℕ) (token resume : Option (List ℕ)) (s : Status)
-    → IsAskable input nodes worlds token resume → IsWithout input (problem_in switches) s one other
-    → IsEarlyEnd (names_of (Ok (Align input switches nodes worlds token resume))) (answers_to (Ok (Align input switches nodes worlds token resume))) s one other
-ends_without_problem one other input switches nodes worlds token resume s askable end = ⊎_elim
-    (λ judged. refused input switches nodes worlds token resume s one other (comes_refused one.held input switches nodes worlds token resume s askable judged.0) judged.1)
+pub ends_without_problem : (one other : StoreState) (asking : Asking) (s : Status) → IsAskable asking → IsWithout asking.input (problem_in asking.switches) s one other
+    → IsEarlyEnd (listing_names asking) (IsListingAnswer asking) s one other
+ends_without_problem one other asking s askable end = ⊎_elim
+    (λ judged. refused asking s one other (comes_refused one.held asking s askable judged.0) judged.1)
     (λ unread. ⊎_elim
-    (λ failed. inr (inl (failed.0, record { name = input; named = (0, omega arith, refl); rose = failed.1 })))
+    (λ failed. inr (inl (failed.0, record { name = asking.input; named = (0, omega arith, refl); rose = failed.1 })))
     (λ starved. inr (inr starved))
     unread)
     end
 
 -- and one that ends without its start
-pub ends_without_start : (one mid other : StoreState) (input : List ℕ) (switches : Switches) (nodes worlds : Option ℕ) (token resume : Option (List ℕ)) (p : Problem) (s : Status)
-    → IsAskable input nodes worlds token resume → mid ≡ one → ComesOf one.held input (problem_in switches) (Ok p) → IsWithoutStart p resume s mid other
-    → IsEarlyEnd (names_of (Ok (Align input switches nodes worlds token resume))) (answers_to (Ok (Align input switches nodes worlds token resume))) s one other
-ends_without_start one mid other input switches nodes worlds token resume p s askable same problem end =
-    by resume askable (subst (λ (state : StoreState). IsWithoutStart p resume s state other) same end)
+pub ends_without_start : (one mid other : StoreState) (asking : Asking) (p : Problem) (s : Status) → IsAskable asking → mid ≡ one
+    → ComesOf one.held asking.input (problem_in asking.switches) (Ok p) → IsWithoutStart p asking.resume s mid other → IsEarlyEnd (listing_names asking) (IsListingAnswer asking) s one other
+ends_without_start one mid other asking p s askable same problem end =
+    by asking.resume askable.apart (subst (λ (state : StoreState). IsWithoutStart p asking.resume s state other) same end)
   where
-    by : (resume : Option (List ℕ)) → IsAskable input nodes worlds token resume → IsWithoutStart p resume s one other
-        → IsEarlyEnd (names_of (Ok (Align input switches nodes worlds token resume))) (answers_to (Ok (Align input switches nodes worlds token resume))) s one other
-    by None askable end = absurd end
-    by (Some name) askable end = ⊎_elim
-        (λ judged. refused input switches nodes worlds token (Some name) s one other (comes_unstarted one.held input name switches nodes worlds token p s askable problem judged.0) judged.1)
+    by : (resume : Option (List ℕ)) → IfSome resume (λ name. bytes_eq asking.input name ≡ false) → IsWithoutStart p resume s one other
+        → IsEarlyEnd (listing_names (record asking { resume = resume })) (IsListingAnswer (record asking { resume = resume })) s one other
+    by None apart end = absurd end
+    by (Some name) apart end = ⊎_elim
+        (λ judged. refused (record asking { resume = Some name }) s one other (comes_unstarted one.held asking name p s apart problem judged.0) judged.1)
         (λ unread. ⊎_elim
         (λ failed. inr (inl (failed.0, record { name = name; named = (1, omega arith, refl); rose = failed.1 })))
         (λ starved. inr (inr starved))

@@ -5,5 +5,8 @@ pub mod PlaceLemmas
 pub mod TableLemmas
 pub mod RequestLemmas
 pub mod AskedLemmas
+pub mod WrittenLemmas
 pub mod CarryLemmas
+pub mod LoggedLemmas
+pub mod CertifiedLemmas
 pub mod RunLemmas

@@ -1,7 +1,8 @@
 -- What holds of each request that words make.
-use Rattle.std.proofs.Common.{◌≡◌, ℕ, Bool, true, false, List, [], ◌∷◌, Option, None, Some, Result, Ok, Err, IfSome, IfNone, refl, ap, subst}
+use Rattle.std.proofs.Common.{◌≡◌, ℕ, Bool, true, false, List, [], ◌∷◌, Option, None, Some, Result, Ok, Err, IfSome, IfNone, refl, ap, subst, ◌∙◌}
 use Rattle.std.specs.Prelude.{not, ◌||◌, ◌&&◌, cond, find, option_map, option_and_then, unwrap_or, bytes_eq}
 use Rattle.std.specs.List.{list_any}
+use Rattle.std.proofs.lemmas.Bool.{eq-eqb}
 use Rattle.command_line.specs.declared.Command.{Command}
 use Rattle.command_line.specs.declared.Command.TheVariants as command
 use Rattle.command_line.specs.declared.Key.{Key}
@@ -9,8 +10,8 @@ use Rattle.command_line.specs.declared.Key.TheVariants.{In, Cert, Nodes, Worlds,
 use Rattle.command_line.specs.declared.Operand.{Operand}
 use Rattle.command_line.specs.declared.Request.{Request}
 use Rattle.command_line.specs.declared.UsageKind.{UsageKind}
-use Rattle.command_line.specs.Words.{row_of, number_of, fail_if, need, and_then, command_named, operands_of, same_key, is_given, value_of, limit_of, is_lacking, lacks_token, is_same_value, has_same_name, request_for, request_of}
-use Rattle.align_top.specs.Steps.{IsMade}
+use Rattle.command_line.specs.Words.{row_of, number_of, fail_if, need, and_then, command_named, operands_of, same_key, is_given, value_of, limit_of, is_lacking, lacks_token, is_same_value, share_value, has_same_name, request_for, request_of}
+use Rattle.align_top.specs.Steps.{AreApart, IsMade}
 
 -- a value that comes of some steps comes of each
 need_ok : {X Y : Type 0} (o : Option X) (kind : UsageKind) (further : X → Result Y UsageKind) (y : Y) → need o kind further ≡ Ok y → (x : X) × (further x ≡ Ok y)
@@ -60,6 +61,13 @@ third_false false true c d e f h = cc
 third_false false false true d e f h = cc
 third_false false false false d e f h = refl
 
+fourth_false : (a b c d e f : Bool) → (a || b || c || d || e || f) ≡ false → d ≡ false
+fourth_false true b c d e f h = cc
+fourth_false false true c d e f h = cc
+fourth_false false false true d e f h = cc
+fourth_false false false false true e f h = cc
+fourth_false false false false false e f h = refl
+
 limits_false : (nodes worlds token : Bool) → ((nodes || worlds) && not token) ≡ false → token ≡ false → (nodes ≡ false) × (worlds ≡ false)
 limits_false nodes worlds true h e = cc
 limits_false true worlds false h e = cc
@@ -73,6 +81,15 @@ names_apart input cert token None given same = tt
 names_apart None cert token (Some name) given same = absurd (given refl)
 names_apart (Some input) cert token (Some name) given same =
     third_false (is_same_value (Some input) cert) (is_same_value (Some input) token) (bytes_eq input name) (is_same_value cert token) (is_same_value cert (Some name)) (is_same_value token (Some name)) same
+
+pub one_bytes : (xs : List ℕ) → bytes_eq xs xs ≡ true
+one_bytes [] = refl
+one_bytes (x ∷ xs) = ap (λ b. b && bytes_eq xs xs) (eq-eqb x x refl) ∙ one_bytes xs
+
+two_files : (cert token : Option (List ℕ)) → is_same_value cert token ≡ false → AreApart cert token
+two_files None token same = tt
+two_files (Some name) None same = tt
+two_files (Some name) (Some other) same = λ e. let t = subst (λ (xs : List ℕ). bytes_eq name xs ≡ true) e (one_bytes name) in cc
 
 limited : (operands : List Operand) (token : Option (List ℕ)) → value_of operands Token ≡ token → lacks_token operands ≡ false
     → IfNone token ((limit_of operands Nodes ≡ None) × (limit_of operands Worlds ≡ None))
@@ -92,6 +109,8 @@ made_for : (c : Command) (operands : List Operand) → is_lacking (row_of c) ope
 made_for command.Align operands lacking lacks same = record {
   apart = names_apart (value_of operands In) (value_of operands Cert) (value_of operands Token) (value_of operands Resume) (input_given operands lacking) same;
   limited = limited operands (value_of operands Token) refl lacks;
+  two = two_files (value_of operands Cert) (value_of operands Token)
+      (fourth_false (share_value operands In Cert) (share_value operands In Token) (share_value operands In Resume) (share_value operands Cert Token) (share_value operands Cert Resume) (share_value operands Token Resume) same);
 }
 made_for command.Check operands lacking lacks same = tt
 

@@ -1,30 +1,28 @@
 -- How a run ends that words ask for.
-use Rattle.std.proofs.Common.{◌≡◌, ℕ, List, [], Option, None, Result, Ok, Err, refl, sym, subst, ◌∙◌, inl, inr}
+use Rattle.std.proofs.Common.{◌≡◌, ℕ, List, Result, Ok, Err, refl, sym, subst, inl, inr}
 use Rattle.outer_store.specs.declared.fault.StoreFault.{StoreFault}
-use Rattle.world_model.specs.declared.Switches.{Switches}
 use Rattle.command_line.specs.declared.UsageKind.{UsageKind}
 use Rattle.command_line.specs.declared.Request.{Request}
-use Rattle.command_line.specs.declared.Request.TheVariants.{Align}
 use Rattle.command_line.specs.Words.{request_of}
 use Rattle.run_ends.specs.declared.Status.{Status}
 use Rattle.run_ends.specs.declared.Status.TheVariants as status
 use Rattle.run_ends.specs.Ends.{end_line, IsLastPut}
 use Rattle.run_ends.specs.Runs.{StoreState, SinkState, IsQuiet, IsCarriedOut, IsRunOf}
 use Rattle.run_ends.proofs.EndLemmas.{run_early, carried_as}
+use Rattle.align_top.specs.declared.Asking.{Asking}
 use Rattle.align_top.specs.declared.Order.{Order}
-use Rattle.align_top.specs.Output.{ComesTo, names_of, answers_to, IsRun}
+use Rattle.align_top.specs.Output.{ComesTo, IsListingAnswer, written_names, names_of, answers_to, IsRun}
 use Rattle.align_top.specs.Steps.{order_answers}
 use Rattle.align_top.proofs.RequestLemmas.{made}
 
 -- an order that is carried out is what its words asked for, behind reads that left the store as it was
-pub listing_carried : (input : List ℕ) (switches : Switches) (nodes worlds : Option ℕ) (token resume : Option (List ℕ)) (order : Order) (r : Result Status StoreFault)
-    (one mid other : StoreState) (old new : SinkState) → mid ≡ one → ComesTo input switches nodes worlds resume one.held (Ok order)
-    → IsCarriedOut (order_answers order) r token mid other old new
-    → IsCarriedOut (answers_to (Ok (Align input switches nodes worlds token resume))) r token one other old new
-listing_carried input switches nodes worlds token resume order r one mid other old new same comes carried =
-    carried_as (order_answers order) (answers_to (Ok (Align input switches nodes worlds token resume))) r token one other old new
-    (λ s text file listed. record { outcome = Ok order; comes = comes; answer = listed })
-    (subst (λ (state : StoreState). IsCarriedOut (order_answers order) r token state other old new) same carried)
+pub listing_carried : (asking : Asking) (order : Order) (r : Result Status StoreFault) (one mid other : StoreState) (old new : SinkState) → mid ≡ one → ComesTo asking one.held (Ok order)
+    → IsCarriedOut (order_answers order asking.cert asking.token) r (written_names asking.cert asking.token) mid other old new
+    → IsCarriedOut (IsListingAnswer asking) r (written_names asking.cert asking.token) one other old new
+listing_carried asking order r one mid other old new same comes carried =
+    carried_as (order_answers order asking.cert asking.token) (IsListingAnswer asking) r (written_names asking.cert asking.token) one other old new
+    (λ s text files listed. record { outcome = Ok order; comes = comes; answer = listed })
+    (subst (λ (state : StoreState). IsCarriedOut (order_answers order asking.cert asking.token) r (written_names asking.cert asking.token) state other old new) same carried)
 
 -- words that are a request
 pub words_asked : (words : List (List ℕ)) (r : Request) (s : Status) (one other : StoreState) (old new : SinkState) → request_of words ≡ Ok r

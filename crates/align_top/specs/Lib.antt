@@ -2,3 +2,4 @@ pub mod Output
 pub mod Putting
 pub mod Steps
 pub mod Resuming
+pub mod Logged

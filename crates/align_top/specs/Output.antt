@@ -1,9 +1,8 @@
 -- What a run answers, by its words.
-use Rattle.std.specs.Prelude.{◌≡◌, ℕ, ◌-◌, ◌^◌, min, List, [], ◌∷◌, ◌++◌, length, flat_map, Option, Some, None, option_map, Result, Ok, Err, codes, decimal}
+use Rattle.std.specs.Prelude.{◌≡◌, ◌≤◌, ℕ, ◌-◌, ◌^◌, min, List, [], ◌∷◌, ◌++◌, length, flat_map, Option, Some, None, IfSome, option_map, Result, Ok, Err, codes, decimal}
 use Rattle.std.specs.Option.{option_to_list}
 use Rattle.outer_store.specs.Contents.{Contents}
 use Rattle.rcc5_core.specs.declared.Rel.{Rel}
-use Rattle.world_model.specs.declared.Switches.{Switches}
 use Rattle.world_model.specs.Problem.{Problem}
 use Rattle.world_model.specs.Listing.{IsListing}
 use Rattle.world_model.specs.Node.{IsCut}
@@ -19,8 +18,10 @@ use Rattle.run_ends.specs.declared.Status.{Status}
 use Rattle.run_ends.specs.declared.Status.TheVariants.{Done, RefusedText, Usage, Cut, NoWorld, RefusedToken}
 use Rattle.run_ends.specs.Ends.{line_of, world_line, end_line}
 use Rattle.run_ends.specs.Reads.{AreHeld}
-use Rattle.run_ends.specs.Runs.{StoreState, SinkState, Answers, Names, IsRunOf}
-use Rattle.check_run.specs.Checking.{check_names, IsCheckAnswer}
+use Rattle.run_ends.specs.Runs.{StoreState, SinkState, File, Answers, Names, IsRunOf}
+use Rattle.cert_rules.specs.Files.{Accepts, Listing}
+use Rattle.check_run.specs.Checking.{cert_answer, check_names, IsCheckAnswer}
+use Rattle.align_top.specs.declared.Asking.{Asking}
 use Rattle.align_top.specs.declared.Order.{Order}
 
 -- the last line of a listing of so many worlds
@@ -51,15 +52,32 @@ listing_status [] None [] = NoWorld
 listing_status [] None (world ∷ worlds) = Done
 listing_status (rel ∷ rels) None worlds = Done
 
--- the listing up to the cut is what is put, and the token of the cut is what is written
-pub record IsListed (order : Order) (status : Status) (text : List ℕ) (file : Option (List ℕ)) : Type 0 where
+-- a file under a name, where there is one
+abbrev pub file_under : Option (List ℕ) → Option (List ℕ) → List File
+file_under None bytes = []
+file_under (Some name) bytes = record { name = name; bytes = bytes } ∷ []
+
+-- the token of a cut under its name, told where the name tells its bytes
+abbrev pub token_under : Problem → Option (List ℕ) → Option (List Rel) → Contents → List File
+token_under p None cut held = []
+token_under p (Some name) None held = []
+token_under p (Some name) (Some cut) held = record { name = name; bytes = option_map (λ _. token_text p cut) (held name) } ∷ []
+
+-- bytes that are a certificate of a listing: up to as many as are checked, they are accepted with just these worlds
+abbrev pub IsCertOf : Problem → List Rel → Option (List Rel) → List (List Rel) → List ℕ → Type 0
+IsCertOf p from to worlds bytes = length bytes ≤ 2 ^ 36 → cert_answer p bytes ≡ Accepts (Listing from to worlds)
+
+-- the listing up to the cut is what is put; the token of the cut is what is written, and its certificate, under a name that told its bytes
+pub record IsListed (order : Order) (cert token : Option (List ℕ)) (held : Contents) (status : Status) (text : List ℕ) (files : List File) : Type 0 where
   pub cut : Option (List Rel)
   pub cut_is : IsCut order.problem order.start order.nodes order.worlds cut
   pub worlds : List (List Rel)
   pub exactly : IsListing order.problem order.start cut worlds
   pub put : text ≡ listing_text cut worlds
   pub ended : status ≡ listing_status order.start cut worlds
-  pub written : file ≡ option_map (token_text order.problem) cut
+  pub bytes : Option (List ℕ)
+  pub certified : IfSome cert (λ name. IfSome (held name) (λ _. IfSome bytes (IsCertOf order.problem order.start cut worlds)))
+  pub written : files ≡ file_under cert bytes ++ token_under order.problem token cut held
 
 -- the start of a listing: the position of the token, if one is given, and else the empty one
 abbrev pub start_of : Problem → Option (List ℕ) → Result (List Rel) TokenKind
@@ -77,34 +95,42 @@ order_by (Ok p) nodes worlds token = order_from p nodes worlds (start_of p token
 order_by (Err fault) nodes worlds token = Err (RefusedText fault.0 fault.1)
 
 -- what comes of an order: its listing; and of a refusal: its last line
-abbrev pub IsOrderAnswer : Result Order Status → Status → List ℕ → Option (List ℕ) → Type 0
-IsOrderAnswer (Ok order) status text file = IsListed order status text file
-IsOrderAnswer (Err refusal) status text file = (status ≡ refusal) × (text ≡ end_line refusal) × (file ≡ None)
+abbrev pub IsOrderAnswer : Result Order Status → Option (List ℕ) → Option (List ℕ) → Contents → Status → List ℕ → List File → Type 0
+IsOrderAnswer (Ok order) cert token held status text files = IsListed order cert token held status text files
+IsOrderAnswer (Err refusal) cert token held status text files = (status ≡ refusal) × (text ≡ end_line refusal) × (files ≡ [])
 
--- what a listing comes to that is asked for with these switches and limits: an order, or how the run ends that is refused, where its
--- names hold what the store tells
-pub record ComesTo (input : List ℕ) (switches : Switches) (nodes worlds : Option ℕ) (resume : Option (List ℕ)) (held : Contents) (outcome : Result Order Status) : Type 0 where
+-- what a listing comes to that is asked for: an order, or how the run ends that is refused, where its names hold what the store tells
+pub record ComesTo (asking : Asking) (held : Contents) (outcome : Result Order Status) : Type 0 where
   pub bytes : List ℕ → List ℕ
   pub told : AreHeld bytes held
-  pub is : order_by (text_result (bytes input) switches) nodes worlds (option_map bytes resume) ≡ outcome
+  pub is : order_by (text_result (bytes asking.input) asking.switches) asking.nodes asking.worlds (option_map bytes asking.resume) ≡ outcome
 
 -- the answers to it
-pub record IsListingAnswer (input : List ℕ) (switches : Switches) (nodes worlds : Option ℕ) (resume : Option (List ℕ)) (held : Contents) (status : Status) (text : List ℕ) (file : Option (List ℕ)) : Type 0 where
+pub record IsListingAnswer (asking : Asking) (held : Contents) (status : Status) (text : List ℕ) (files : List File) : Type 0 where
   pub outcome : Result Order Status
-  pub comes : ComesTo input switches nodes worlds resume held outcome
-  pub answer : IsOrderAnswer outcome status text file
+  pub comes : ComesTo asking held outcome
+  pub answer : IsOrderAnswer outcome asking.cert asking.token held status text files
 
--- the names that words let a run read and write: those of the problem, the token and the certificate
+-- the names that a listing reads and writes
+abbrev pub written_names : Option (List ℕ) → Option (List ℕ) → List (List ℕ)
+written_names cert token = option_to_list cert ++ option_to_list token
+
+abbrev pub listing_names : Asking → Names
+listing_names asking = record { read = asking.input ∷ option_to_list asking.resume; written = written_names asking.cert asking.token }
+
+-- the names that words let a run read and write
 abbrev pub names_of : Result Request UsageKind → Names
-names_of (Ok (Align input switches nodes worlds token resume)) = record { read = input ∷ option_to_list resume; written = token }
+names_of (Ok (Align input cert switches nodes worlds token resume)) =
+    listing_names (record { input = input; cert = cert; switches = switches; nodes = nodes; worlds = worlds; token = token; resume = resume })
 names_of (Ok (Check input cert switches)) = check_names input cert
-names_of (Err kind) = record { read = []; written = None }
+names_of (Err kind) = record { read = []; written = [] }
 
 -- the answers to words
 abbrev pub answers_to : Result Request UsageKind → Answers
-answers_to (Ok (Align input switches nodes worlds token resume)) held status text file = IsListingAnswer input switches nodes worlds resume held status text file
-answers_to (Ok (Check input cert switches)) held status text file = IsCheckAnswer input cert switches held status text file
-answers_to (Err kind) held status text file = (status ≡ Usage kind) × (text ≡ end_line (Usage kind)) × (file ≡ None)
+answers_to (Ok (Align input cert switches nodes worlds token resume)) held status text files =
+    IsListingAnswer (record { input = input; cert = cert; switches = switches; nodes = nodes; worlds = worlds; token = token; resume = resume }) held status text files
+answers_to (Ok (Check input cert switches)) held status text files = IsCheckAnswer input cert switches held status text files
+answers_to (Err kind) held status text files = (status ≡ Usage kind) × (text ≡ end_line (Usage kind)) × (files ≡ [])
 
 -- what a run over a store and a sink does that words ask for
 abbrev pub IsRun : List (List ℕ) → Status → StoreState → StoreState → SinkState → SinkState → Type 0

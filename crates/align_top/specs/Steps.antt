@@ -1,5 +1,6 @@
 -- The steps of a listing: an order is read, and then carried out.
-use Rattle.std.specs.Prelude.{◌≡◌, ℕ, ◌==◌, ◌&&◌, if◌then◌else◌, bytes_eq, false, List, [], length, Option, None, Some, option_map, IfSome, IfNone, IfOk, OnErr, Result, Ok, Err, ⊤}
+use Rattle.std.specs.Prelude.{◌≡◌, ◌≢◌, ℕ, ◌==◌, ◌&&◌, if◌then◌else◌, bytes_eq, false, List, [], ◌∷◌, length, Option, None, Some, option_map, IfSome, IfNone, IfOk, OnErr, Result, Ok, Err, ⊤}
+use Rattle.std.specs.Option.{option_to_list}
 use Rattle.outer_store.specs.Bytes.{GrownInPart, added}
 use Rattle.outer_store.specs.Contents.{Contents, OthersKept}
 use Rattle.outer_store.specs.Faults.{IfFailed}
@@ -14,9 +15,10 @@ use Rattle.command_line.specs.declared.Request.TheVariants.{Align, Check}
 use Rattle.run_ends.specs.declared.Status.{Status}
 use Rattle.run_ends.specs.declared.Status.TheVariants.{Done, Cut, NoWorld, RefusedToken, NoMemory}
 use Rattle.run_ends.specs.Reads.{ComesOf, IsWithout}
-use Rattle.run_ends.specs.Runs.{StoreState, SinkState, Answers, IsQuiet, IsWritten, IsWriteCause, IsByCause}
+use Rattle.run_ends.specs.Runs.{StoreState, SinkState, Answers, IsQuiet, AreWritten, IsWriteCause, IsByCause}
+use Rattle.align_top.specs.declared.Asking.{Asking}
 use Rattle.align_top.specs.declared.Order.{Order}
-use Rattle.align_top.specs.Output.{IsListed, cut_line, last_line}
+use Rattle.align_top.specs.Output.{token_under, IsListed, cut_line, last_line}
 use Rattle.align_top.specs.Putting.{IsOrder}
 
 -- a start, or how a run ends whose token is refused
@@ -41,21 +43,31 @@ abbrev pub IsWithoutStart : Problem → Option (List ℕ) → Status → StoreSt
 IsWithoutStart p None status one other = ⊥
 IsWithoutStart p (Some name) status one other = IsWithout name (start_in p) status one other
 
--- a listing that words can ask for: the token that it reads is not its problem, and a limit has a token to be written
-pub record IsAskable (input : List ℕ) (nodes worlds : Option ℕ) (token resume : Option (List ℕ)) : Type 0 where
-  pub apart : IfSome resume (λ name. bytes_eq input name ≡ false)
-  pub limited : IfNone token ((nodes ≡ None) × (worlds ≡ None))
+-- two names, where both are given, are not one
+abbrev pub AreApart : Option (List ℕ) → Option (List ℕ) → Type 0
+AreApart None other = ⊤
+AreApart (Some name) None = ⊤
+AreApart (Some name) (Some other) = name ≢ other
+
+-- a listing that words can ask for: the token that it reads is not its problem, a limit has a token to be written, and the files
+-- that it writes are two
+pub record IsAskable (asking : Asking) : Type 0 where
+  pub apart : IfSome asking.resume (λ name. bytes_eq asking.input name ≡ false)
+  pub limited : IfNone asking.token ((asking.nodes ≡ None) × (asking.worlds ≡ None))
+  pub two : AreApart asking.cert asking.token
 
 -- a request that words can make
 abbrev pub IsMade : Request → Type 0
-IsMade (Align input switches nodes worlds token resume) = IsAskable input nodes worlds token resume
+IsMade (Align input cert switches nodes worlds token resume) =
+    IsAskable (record { input = input; cert = cert; switches = switches; nodes = nodes; worlds = worlds; token = token; resume = resume })
 IsMade (Check input cert switches) = ⊤
 
--- an order that can be carried out, with the name for its token
-pub record IsReady (order : Order) (token : Option (List ℕ)) : Type 0 where
+-- an order that can be carried out, with the names for its certificate and its token
+pub record IsReady (order : Order) (cert token : Option (List ℕ)) : Type 0 where
   pub as_read : IsAsRead order.problem
   pub within : IsOrder order
   pub limited : IfNone token ((order.nodes ≡ None) × (order.worlds ≡ None))
+  pub two : AreApart cert token
 
 -- a good end by the count of worlds
 abbrev pub status_at : List Rel → Option (List Rel) → ℕ → Status
@@ -69,16 +81,16 @@ pub record IsCutEnded (result : Result Status StoreFault) (p : Problem) (cut : L
   pub written : IfOk result (λ _. store'.held name ≡ option_map (λ _. token_text p cut) (store.held name))
   pub others : OthersKept name store.held store'.held
   pub refused : OnErr result (GrownInPart sink.bytes sink'.bytes (cut_line count))
-  pub cause : IfFailed result (IsWriteCause (Some name) store store' sink sink') (IsQuiet store store' × (sink'.faults ≡ sink.faults))
+  pub cause : IfFailed result (IsWriteCause (name ∷ []) store store' sink sink') (IsQuiet store store' × (sink'.faults ≡ sink.faults))
 
 -- the token of the cut is written, if there is one, and the last line put
 pub record IsEnded (result : Result Status StoreFault) (order : Order) (cut : Option (List Rel)) (count : ℕ) (name : Option (List ℕ)) (store store' : StoreState) (sink sink' : SinkState) : Type 0 where
   pub status : IfOk result (λ status. status ≡ status_at order.start cut count)
   pub put : IfOk result (λ _. sink'.bytes ≡ added sink.bytes (last_line cut count))
-  pub written : IfOk result (λ _. IsWritten name (option_map (token_text order.problem) cut) store.held store'.held)
+  pub written : IfOk result (λ _. AreWritten (token_under order.problem name cut store.held) store.held store'.held)
   pub refused : OnErr result (GrownInPart sink.bytes sink'.bytes (last_line cut count))
-  pub by_cause : IsByCause result name store store' sink sink'
+  pub by_cause : IsByCause result (option_to_list name) store store' sink sink'
 
--- the answers of an order, whatever names hold
-abbrev pub order_answers : Order → Answers
-order_answers order held status text file = IsListed order status text file
+-- the answers of an order with these names for its files
+abbrev pub order_answers : Order → Option (List ℕ) → Option (List ℕ) → Answers
+order_answers order cert token held status text files = IsListed order cert token held status text files

@@ -7,11 +7,12 @@ ghost use Rattle.world_model.specs.Problem.{pair_count};
 ghost use Rattle.world_model.specs.Node.{IsCut};
 ghost use Rattle.constraint_set.specs.Facts.{IsAsRead};
 ghost use Rattle.resume_token.specs.Token.{token_text};
-ghost use Rattle.align_top.specs.Output.{complete_line, cut_line};
+ghost use Rattle.align_top.specs.Output.{complete_line, cut_line, written_names};
 ghost use Rattle.run_ends.specs.Runs.{store_state, sink_state, IsQuiet, LeavesPiece, IsCarriedOut};
 ghost use Rattle.align_top.specs.Steps.{status_at, IsReady, IsCutEnded, IsEnded, order_answers};
 
-use crate::{Listed, Order, Word, put_worlds};
+use crate::certified::put_listing;
+use crate::{Listed, Order, Word};
 use constraint_set::Problem;
 use outer_store::{Sink, Store, StoreFault};
 use rcc5_core::Position;
@@ -115,7 +116,8 @@ fn end_listing<S: Store, W: Sink>(
     token: &Option<Word>,
     listed: Listed,
 ) -> Result<Status, StoreFault>
-    requires ready { IsReady order.now token.now }
+    requires limited { IfNone token.now ((order.now.nodes ≡ None) × (order.now.worlds ≡ None)) }
+    requires as_read { IsAsRead order.now.problem }
     requires cut { IsCut order.now.problem order.now.start order.now.nodes order.now.worlds listed.cut }
     ensures { IsEnded result order.now listed.cut listed.count token.now (store_state (S.held store.old) (S.read_faults store.old) (S.write_faults store.old)) (store_state (S.held store.new) (S.read_faults store.new) (S.write_faults store.new)) (sink_state (W.received out.old) (W.faults out.old)) (sink_state (W.received out.new) (W.faults out.new)) }
 {
@@ -134,17 +136,19 @@ fn end_listing<S: Store, W: Sink>(
     }
 }
 
-/// Puts the listing of an order, writes the token of its cut, if there is one, and puts the last line.
+/// Puts the listing of an order and writes its certificate, if one is asked for; then writes the token of its cut, if there is
+/// one, and puts the last line.
 pub(crate) fn carry_out<S: Store, W: Sink>(
     alloc: Global,
     store: &mut S,
     out: &mut W,
     order: &Order,
+    cert: &Option<Word>,
     token: &Option<Word>,
 ) -> Result<Status, StoreFault>
-    requires { IsReady order.now token.now }
-    ensures { IsCarriedOut (order_answers order.now) result token.now (store_state (S.held store.old) (S.read_faults store.old) (S.write_faults store.old)) (store_state (S.held store.new) (S.read_faults store.new) (S.write_faults store.new)) (sink_state (W.received out.old) (W.faults out.old)) (sink_state (W.received out.new) (W.faults out.new)) }
+    requires { IsReady order.now cert.now token.now }
+    ensures { IsCarriedOut (order_answers order.now cert.now token.now) result (written_names cert.now token.now) (store_state (S.held store.old) (S.read_faults store.old) (S.write_faults store.old)) (store_state (S.held store.new) (S.read_faults store.new) (S.write_faults store.new)) (sink_state (W.received out.old) (W.faults out.old)) (sink_state (W.received out.new) (W.faults out.new)) }
 {
-    let listed = put_worlds(alloc, out, order)?;
+    let listed = put_listing(alloc, store, out, order, cert)?;
     end_listing(alloc, store, out, order, token, listed)
 }

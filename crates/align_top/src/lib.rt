@@ -1,10 +1,11 @@
 //! All that the program does.
 #![tactic(auto)]
 
-mod asking;
 mod carry;
+mod certified;
 mod laws;
 mod listing;
+mod reading;
 mod table_listing;
 mod top;
 
@@ -19,6 +20,22 @@ pub use run_ends::{
     text_name, token_name,
 };
 pub use top::run;
+use world_model::Switches;
+
+/// What the words say of a listing.
+#[derive(Drop)]
+pub struct Asking {
+    pub input: Word,
+    /// The file for the certificate.
+    pub cert: Option<Word>,
+    pub switches: Switches,
+    pub nodes: Option<u64>,
+    pub worlds: Option<u64>,
+    /// The file for the token of the cut.
+    pub token: Option<Word>,
+    /// The file whose token says where the listing begins.
+    pub resume: Option<Word>,
+}
 
 /// What is to be listed: the worlds of a problem from a position on, until a limit of nodes or of worlds is reached.
 #[derive(Drop)]

@@ -1,11 +1,11 @@
 //! All that the program does with its words, a store and a sink.
 ghost use Rattle.std.specs.Prelude.{map, string_bytes, Ok};
-ghost use Rattle.command_line.specs.declared.Request.TheVariants.{Align};
 ghost use Rattle.run_ends.specs.Runs.{store_state, sink_state, IsRunOf};
-ghost use Rattle.align_top.specs.Output.{names_of, answers_to, IsRun};
+ghost use Rattle.align_top.specs.Output.{listing_names, IsListingAnswer, names_of, answers_to, IsRun};
 ghost use Rattle.align_top.specs.Steps.{IsAskable, IsMade};
 
-use crate::asking::{Asking, order_of};
+use crate::Asking;
+use crate::reading::order_of;
 use crate::carry::carry_out;
 use check_run::run_check;
 use command_line::{Request, WordsFault, read_words};
@@ -20,14 +20,14 @@ fn run_align<S: Store, W: Sink>(
     out: &mut W,
     asking: &Asking,
 ) -> Status
-    requires { IsAskable asking.now.input asking.now.nodes asking.now.worlds asking.now.token asking.now.resume }
-    ensures { IsRunOf (names_of (Ok (Align asking.now.input asking.now.switches asking.now.nodes asking.now.worlds asking.now.token asking.now.resume))) (answers_to (Ok (Align asking.now.input asking.now.switches asking.now.nodes asking.now.worlds asking.now.token asking.now.resume))) result (store_state (S.held store.old) (S.read_faults store.old) (S.write_faults store.old)) (store_state (S.held store.new) (S.read_faults store.new) (S.write_faults store.new)) (sink_state (W.received out.old) (W.faults out.old)) (sink_state (W.received out.new) (W.faults out.new)) }
+    requires { IsAskable asking.now }
+    ensures { IsRunOf (listing_names asking.now) (IsListingAnswer asking.now) result (store_state (S.held store.old) (S.read_faults store.old) (S.write_faults store.old)) (store_state (S.held store.new) (S.read_faults store.new) (S.write_faults store.new)) (sink_state (W.received out.old) (W.faults out.old)) (sink_state (W.received out.new) (W.faults out.new)) }
 {
     let order = match order_of(alloc, store, asking) {
         Ok(order) => order,
         Err(status) => return put_end(alloc, out, status),
     };
-    match carry_out(alloc, store, out, &order, &asking.token) {
+    match carry_out(alloc, store, out, &order, &asking.cert, &asking.token) {
         Ok(status) => status,
         Err(StoreFault::Failed) => Status::WriteFault,
         Err(StoreFault::NoMemory) => put_end(alloc, out, Status::NoMemory),
@@ -47,6 +47,7 @@ fn run_request<S: Store, W: Sink>(
     match request {
         Request::Align {
             input,
+            cert,
             switches,
             nodes,
             worlds,
@@ -55,6 +56,7 @@ fn run_request<S: Store, W: Sink>(
         } => {
             let asking = Asking {
                 input,
+                cert,
                 switches,
                 nodes,
                 worlds,

@@ -1,5 +1,5 @@
 -- How a check ends, by its parts.
-use Rattle.std.proofs.Common.{◌≡◌, ℕ, List, Option, None, Some, IfSome, IfOk, IfErr, Result, Ok, Err, refl, sym, ap, subst, ◌∙◌, inl, inr, ⊎_elim, arith, take}
+use Rattle.std.proofs.Common.{◌≡◌, ℕ, List, [], Option, None, Some, IfSome, IfOk, IfErr, Result, Ok, Err, refl, sym, ap, subst, ◌∙◌, inl, inr, ⊎_elim, arith, take}
 use Rattle.std.specs.Prelude.{⊤}
 use Rattle.outer_store.specs.Contents.{Contents}
 use Rattle.outer_store.specs.Faults.{Rose}
@@ -21,6 +21,7 @@ use Rattle.run_ends.specs.Ends.{end_line}
 use Rattle.run_ends.specs.Reads.{problem_by, problem_in, ComesOf, IsWithout}
 use Rattle.run_ends.specs.Runs.{StoreState, SinkState, IsQuiet, Answered, ending_of, IsEarlyEnd, IsCarriedOut}
 use Rattle.run_ends.proofs.ReadLemmas.{text_cut}
+use Rattle.run_ends.proofs.EndLemmas.{all_kept, none_written}
 use Rattle.check_run.specs.Checking.{verdict_text, status_by, text_by, IsCertAnswer, IsAnswerBy, IsCheckAnswer, check_names}
 use Rattle.check_run.specs.Steps.{status_of, IsAccepted, IsNotAccepted, IsVerdictOf, IsPutAnswer}
 
@@ -120,7 +121,7 @@ accepted_answer p None v accepted = tt
 accepted_answer p (Some bytes) v accepted = (ap status_by (sym accepted), ap text_by (sym accepted))
 
 verdict_answer : (input cert : List ℕ) (switches : Switches) (held : Contents) (v : Verdict) → IsVerdictOf input cert switches held v
-    → IsCheckAnswer input cert switches held status.Done (verdict_text v) None
+    → IsCheckAnswer input cert switches held status.Done (verdict_text v) []
 verdict_answer input cert switches held v found = record {
   bytes = found.bytes;
   told = found.told;
@@ -130,40 +131,40 @@ verdict_answer input cert switches held v found = record {
 
 pub carried : (input cert : List ℕ) (switches : Switches) (v : Verdict) (r : Result Status StoreFault) (one other : StoreState) (old new : SinkState)
     → IsVerdictOf input cert switches one.held v → other.held ≡ one.held → IsQuiet one other → IsPutAnswer r v old new
-    → IsCarriedOut (IsCheckAnswer input cert switches) r None one other old new
+    → IsCarriedOut (IsCheckAnswer input cert switches) r [] one other old new
 carried input cert switches v (Ok s) one other old new found kept quiet put = record {
   done = record {
     text = verdict_text v;
-    file = None;
-    asked = subst (λ x. IsCheckAnswer input cert switches one.held x (verdict_text v) None) (sym put.ok.0) (verdict_answer input cert switches one.held v found);
+    files = [];
+    asked = subst (λ x. IsCheckAnswer input cert switches one.held x (verdict_text v) []) (sym put.ok.0) (verdict_answer input cert switches one.held v found);
     answered = ap ending_of put.ok.0;
     put = put.ok.1;
-    written = kept;
+    written = none_written one.held other.held kept;
   };
   refused = tt;
-  by_cause = record { cause = (quiet, put.cause); kept = kept };
+  by_cause = record { cause = (quiet, put.cause); kept = all_kept [] one.held other.held kept };
 }
 carried input cert switches v (Err store_fault.Failed) one other old new found kept quiet put = record {
   done = tt;
   refused = record {
     status = status.Done;
     text = verdict_text v;
-    file = None;
+    files = [];
     asked = verdict_answer input cert switches one.held v found;
     part = put.err;
   };
-  by_cause = record { cause = inl (put.cause, quiet); kept = kept };
+  by_cause = record { cause = inl (put.cause, quiet); kept = all_kept [] one.held other.held kept };
 }
 carried input cert switches v (Err store_fault.NoMemory) one other old new found kept quiet put = record {
   done = tt;
   refused = record {
     status = status.Done;
     text = verdict_text v;
-    file = None;
+    files = [];
     asked = verdict_answer input cert switches one.held v found;
     part = put.err;
   };
-  by_cause = record { cause = (quiet, put.cause); kept = kept };
+  by_cause = record { cause = (quiet, put.cause); kept = all_kept [] one.held other.held kept };
 }
 
 -- what a check answers, by what it tells of the bytes

@@ -14,7 +14,7 @@ use Rattle.cert_rules.specs.Files.{Verdict, Listing, ClaimList, Answer, Accepts,
 use Rattle.run_ends.specs.declared.Status.{Status}
 use Rattle.run_ends.specs.declared.Status.TheVariants.{Done, RefusedText, RefusedCert, Rejected}
 use Rattle.run_ends.specs.Ends.{line_of, world_line, end_line}
-use Rattle.run_ends.specs.Runs.{Names}
+use Rattle.run_ends.specs.Runs.{File, Names}
 
 -- the line of a claim: whether it holds, and its subject
 abbrev pub claim_word : Bool → List ℕ
@@ -60,12 +60,12 @@ IsAnswerBy (Ok p) told status text = IsCertAnswer p told status text
 IsAnswerBy (Err fault) told status text = (status ≡ RefusedText fault.0 fault.1) × (text ≡ end_line (RefusedText fault.0 fault.1))
 
 -- the answers to a check of the certificate under one name for the problem under another
-pub record IsCheckAnswer (input cert : List ℕ) (switches : Switches) (held : Contents) (status : Status) (text : List ℕ) (file : Option (List ℕ)) : Type 0 where
+pub record IsCheckAnswer (input cert : List ℕ) (switches : Switches) (held : Contents) (status : Status) (text : List ℕ) (files : List File) : Type 0 where
   pub bytes : List ℕ
   pub told : IfSome (held input) (λ all. bytes ≡ all)
   pub answer : IsAnswerBy (text_result bytes switches) (held cert) status text
-  pub none_written : file ≡ None
+  pub none_written : files ≡ []
 
 -- the names that it reads; it writes none
 abbrev pub check_names : List ℕ → List ℕ → Names
-check_names input cert = record { read = input ∷ cert ∷ []; written = None }
+check_names input cert = record { read = input ∷ cert ∷ []; written = [] }

@@ -38,7 +38,7 @@ usage_help = codes "the words are a command and its keys; keys in brackets may b
 
 -- the file that a request reads its problem from
 abbrev pub input_of : Request → List ℕ
-input_of (Align input switches nodes worlds token resume) = input
+input_of (Align input cert switches nodes worlds token resume) = input
 input_of (Check input cert switches) = input
 
 -- the line within a file; nothing, where the file as a whole is meant

@@ -56,7 +56,7 @@ abbrev pub row_of : Command → Row
 row_of command.Align = record {
   name = codes "align";
   required = In ∷ [];
-  optional = Nonempty ∷ Sibling ∷ Coverage ∷ Nodes ∷ Worlds ∷ Token ∷ Resume ∷ [];
+  optional = Cert ∷ Nonempty ∷ Sibling ∷ Coverage ∷ Nodes ∷ Worlds ∷ Token ∷ Resume ∷ [];
 }
 row_of command.Check = record {
   name = codes "check";
@@ -192,7 +192,7 @@ has_same_name operands =
 -- the request of a command, whose required keys are given
 abbrev pub request_for : Command → List Operand → Request
 request_for command.Align operands =
-    Align (unwrap_or (value_of operands In) []) (switches_of operands) (limit_of operands Nodes) (limit_of operands Worlds)
+    Align (unwrap_or (value_of operands In) []) (value_of operands Cert) (switches_of operands) (limit_of operands Nodes) (limit_of operands Worlds)
     (value_of operands Token) (value_of operands Resume)
 request_for command.Check operands =
     Check (unwrap_or (value_of operands In) []) (unwrap_or (value_of operands Cert) []) (switches_of operands)

@@ -49,10 +49,14 @@ pub enum Request {
     /// List the possible worlds of the problem in a file.
     Align {
         input: Word,
+        /// The file for the certificate.
+        cert: Option<Word>,
         switches: Switches,
         nodes: Option<u64>,
         worlds: Option<u64>,
+        /// The file for the token of the cut.
         token: Option<Word>,
+        /// The file whose token says where the listing begins.
         resume: Option<Word>,
     },
     /// Check a certificate of the problem in a file.

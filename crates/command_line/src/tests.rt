@@ -32,7 +32,9 @@ fn the_first_usage_fault_is_answered(rt: HostRuntime) -> Result<(), Fail> {
         ("align sibling=on", UsageKind::MissingKey),
         ("align in=f f", UsageKind::NotOperand),
         ("align in=f =x", UsageKind::UnknownKey),
-        ("align in=f cert=f", UsageKind::UnknownKey),
+        ("align in=f until=f", UsageKind::UnknownKey),
+        ("align in=f cert=f", UsageKind::SameName),
+        ("align in=f token=c cert=c", UsageKind::SameName),
         ("check in=f", UsageKind::MissingKey),
         ("check in=f cert=f", UsageKind::SameName),
         ("check in=f cert=c nodes=1", UsageKind::UnknownKey),
@@ -81,10 +83,11 @@ fn text_of_name(name: &Option<Word>) -> &str {
 fn a_request_has_what_the_words_give(rt: HostRuntime) -> Result<(), Fail> {
     let words = words_of(
         rt.alloc(),
-        "align nodes=3 sibling=off in=a=b worlds=18446744073709551615 token=t coverage=on resume=r",
+        "align nodes=3 sibling=off in=a=b cert=c worlds=18446744073709551615 token=t coverage=on resume=r",
     )?;
     let Request::Align {
         input,
+        cert,
         switches,
         nodes,
         worlds,
@@ -103,6 +106,7 @@ fn a_request_has_what_the_words_give(rt: HostRuntime) -> Result<(), Fail> {
     assert_eq!(rt; switches, wanted);
     assert_eq!(rt; nodes, Some(3));
     assert_eq!(rt; worlds, Some(u64::MAX));
+    assert_eq!(rt; text_of_name(&cert), "c");
     assert_eq!(rt; text_of_name(&token), "t");
     assert_eq!(rt; text_of_name(&resume), "r");
     Ok(())

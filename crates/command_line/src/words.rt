@@ -13,7 +13,8 @@ static COMMANDS: [Command; 2] = [Command::Align, Command::Check];
 
 static ALIGN_REQUIRED: [Key; 1] = [Key::In];
 
-static ALIGN_OPTIONAL: [Key; 7] = [
+static ALIGN_OPTIONAL: [Key; 8] = [
+    Key::Cert,
     Key::Nonempty,
     Key::Sibling,
     Key::Coverage,
@@ -328,6 +329,7 @@ fn make_request(
     match command {
         Command::Align => Ok(Request::Align {
             input: required_name(alloc, operands, Key::In)?,
+            cert: name_of(alloc, operands, Key::Cert)?,
             switches: switches_of(operands),
             nodes: limit_of(operands, Key::Nodes),
             worlds: limit_of(operands, Key::Worlds),

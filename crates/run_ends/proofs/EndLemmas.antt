@@ -1,5 +1,6 @@
 -- How a run ends, by its parts.
-use Rattle.std.proofs.Common.{◌≡◌, ℕ, List, [], Option, None, Some, Result, Ok, Err, refl, sym, ap, subst, ◌∙◌, inl, inr, ⊎_elim, append-nil}
+use Rattle.std.proofs.Common.{◌≡◌, ℕ, List, [], Option, Result, Ok, Err, refl, sym, ap, subst, ◌∙◌, inl, inr, ⊎_elim, append-nil}
+use Rattle.std.proofs.lemmas.List.Elements.{All-nil}
 use Rattle.outer_store.specs.Bytes.{GrownInPart, added}
 use Rattle.outer_store.specs.Contents.{Contents}
 use Rattle.outer_store.specs.Faults.{Rose}
@@ -9,22 +10,25 @@ use Rattle.outer_store.proofs.BytesLemmas.{GrownInPart-kept, GrownInPart-whole}
 use Rattle.run_ends.specs.declared.Status.{Status}
 use Rattle.run_ends.specs.declared.Status.TheVariants as status
 use Rattle.run_ends.specs.Ends.{end_line, IsLastPut}
-use Rattle.run_ends.specs.Runs.{StoreState, SinkState, Answers, Names, IsKeptBut, IsPutInPart, IsInterrupted, IsRunBy, IsRunOf, IsEarlyEnd, IsPutPart, IsCarriedOut}
+use Rattle.run_ends.specs.Runs.{StoreState, SinkState, File, Answers, Names, IsHeld, AreWritten, AreKeptBut, IsPutInPart, IsInterrupted, IsRunBy, IsRunOf, IsEarlyEnd, IsPutPart, IsCarriedOut}
 
 pub GrownInPart-all : (old new : Option (List ℕ)) (piece : List ℕ) → new ≡ added old piece → GrownInPart old new piece
 GrownInPart-all old new piece e = subst (GrownInPart old new) (append-nil piece) (GrownInPart-whole old new piece [] e)
 
 -- what holds nothing new is kept
-pub all_kept : (name : Option (List ℕ)) (held held' : Contents) → held' ≡ held → IsKeptBut name held held'
-all_kept None held held' e = e
-all_kept (Some name) held held' e = λ other apart. ap (λ (h : Contents). h other) e
+pub all_kept : (names : List (List ℕ)) (held held' : Contents) → held' ≡ held → AreKeptBut names held held'
+all_kept names held held' e = λ other apart. ap (λ (h : Contents). h other) e
+
+-- where nothing is written all is kept
+pub none_written : (held held' : Contents) → held' ≡ held → AreWritten [] held held'
+none_written held held' e = record { each = All-nil (IsHeld held held'); others = all_kept [] held held' e }
 
 -- a first part of a text that is asked for, and then of the line that memory was wanting
-put_in_part : (answers : Answers) (held : Contents) (s : Status) (text : List ℕ) (file : Option (List ℕ)) (old mid new : Option (List ℕ))
-    → answers held s text file → GrownInPart old mid text → GrownInPart mid new (end_line status.NoMemory) → IsPutInPart answers held old new
-put_in_part answers held s text file old mid new asked begun ended = record {
+put_in_part : (answers : Answers) (held : Contents) (s : Status) (text : List ℕ) (files : List File) (old mid new : Option (List ℕ))
+    → answers held s text files → GrownInPart old mid text → GrownInPart mid new (end_line status.NoMemory) → IsPutInPart answers held old new
+put_in_part answers held s text files old mid new asked begun ended = record {
   text = text;
-  of_answer = inl (s, file, asked);
+  of_answer = inl (s, files, asked);
   cut = record { between = mid; begun = begun; ended = ended };
 }
 
@@ -63,16 +67,16 @@ run_early names answers s r one other old new early kept last = ⊎_elim
     (λ refused. ends names answers s r one other old new last
     (λ put same. subst (λ ending. IsRunBy ending names answers s one other old new) (sym refused.1) (record {
       text = end_line s;
-      file = None;
+      files = [];
       asked = refused.0;
       put = put;
-      written = kept;
+      written = none_written one.held other.held kept;
       quiet = refused.2;
       no_put_failed = same;
     }))
     (λ part. inr (
       refused.2,
-      put_in_part answers one.held s (end_line s) None old.bytes new.bytes new.bytes refused.0 part
+      put_in_part answers one.held s (end_line s) [] old.bytes new.bytes new.bytes refused.0 part
           (GrownInPart-kept new.bytes new.bytes (end_line status.NoMemory) refl),
     ))
     kept)
@@ -101,7 +105,7 @@ run_done names answers s one other old new carried =
     let done = carried.done in
     subst (λ ending. IsRunBy ending names answers s one other old new) (sym done.answered) (record {
       text = done.text;
-      file = done.file;
+      files = done.files;
       asked = done.asked;
       put = done.put;
       written = done.written;
@@ -111,7 +115,7 @@ run_done names answers s one other old new carried =
 
 partly : (answers : Answers) (one : StoreState) (old mid : SinkState) (new : Option (List ℕ)) → IsPutPart answers one old mid
     → GrownInPart mid.bytes new (end_line status.NoMemory) → IsPutInPart answers one.held old.bytes new
-partly answers one old mid new part ended = put_in_part answers one.held part.status part.text part.file old.bytes mid.bytes new part.asked part.part ended
+partly answers one old mid new part ended = put_in_part answers one.held part.status part.text part.files old.bytes mid.bytes new part.asked part.part ended
 
 -- one whose put or write is refused
 pub run_refused : (names : Names) (answers : Answers) (one other : StoreState) (old new : SinkState)
@@ -154,14 +158,14 @@ run_starved names answers r one other old mid new carried last =
     last
 
 -- what answers one question answers another
-pub carried_as : (answers others : Answers) (r : Result Status StoreFault) (name : Option (List ℕ)) (one other : StoreState) (old new : SinkState)
-    → ((s : Status) (text : List ℕ) (file : Option (List ℕ)) → answers one.held s text file → others one.held s text file)
-    → IsCarriedOut answers r name one other old new → IsCarriedOut others r name one other old new
-carried_as answers others (Ok s) name one other old new answer carried = record {
+pub carried_as : (answers others : Answers) (r : Result Status StoreFault) (names : List (List ℕ)) (one other : StoreState) (old new : SinkState)
+    → ((s : Status) (text : List ℕ) (files : List File) → answers one.held s text files → others one.held s text files)
+    → IsCarriedOut answers r names one other old new → IsCarriedOut others r names one other old new
+carried_as answers others (Ok s) names one other old new answer carried = record {
   done = record {
     text = carried.done.text;
-    file = carried.done.file;
-    asked = answer s carried.done.text carried.done.file carried.done.asked;
+    files = carried.done.files;
+    asked = answer s carried.done.text carried.done.files carried.done.asked;
     answered = carried.done.answered;
     put = carried.done.put;
     written = carried.done.written;
@@ -169,13 +173,13 @@ carried_as answers others (Ok s) name one other old new answer carried = record 
   refused = tt;
   by_cause = carried.by_cause;
 }
-carried_as answers others (Err f) name one other old new answer carried = record {
+carried_as answers others (Err f) names one other old new answer carried = record {
   done = tt;
   refused = record {
     status = carried.refused.status;
     text = carried.refused.text;
-    file = carried.refused.file;
-    asked = answer carried.refused.status carried.refused.text carried.refused.file carried.refused.asked;
+    files = carried.refused.files;
+    asked = answer carried.refused.status carried.refused.text carried.refused.files carried.refused.asked;
     part = carried.refused.part;
   };
   by_cause = carried.by_cause;

@@ -1,7 +1,7 @@
 -- How a run ends: its status beside what it put on the sink and what failed in it, for a command with any answers.
-use Rattle.std.specs.Prelude.{◌≡◌, ◌≤◌, ℕ, List, [], ◌∷◌, Option, None, Some, IfOk, OnErr, Result, Contains, ◌⊎◌, option_map}
+use Rattle.std.specs.Prelude.{◌≡◌, ◌≤◌, ℕ, List, [], map, Option, is_some, IfSome, IsTrue, IfOk, OnErr, Result, Contains, All, ◌⊎◌}
 use Rattle.outer_store.specs.Bytes.{GrownInPart, added}
-use Rattle.outer_store.specs.Contents.{Contents, OthersKept}
+use Rattle.outer_store.specs.Contents.{Contents}
 use Rattle.outer_store.specs.Faults.{Counts, Rose, IfFailed}
 use Rattle.outer_store.specs.declared.fault.StoreFault.{StoreFault}
 use Rattle.run_ends.specs.declared.Status.{Status}
@@ -61,36 +61,38 @@ LeavesPiece result piece old new = Leaves result (λ _. new.bytes ≡ added old.
 abbrev pub IsQuiet : StoreState → StoreState → Type 0
 IsQuiet old new = (new.reads ≡ old.reads) × (new.writes ≡ old.writes)
 
--- the answers of a command: the status, the text that is put and the bytes that are written, by what is told of what names hold
-abbrev pub Answers : Type 1
-Answers = Contents → Status → List ℕ → Option (List ℕ) → Type 0
+-- a file that is written: its name, and its bytes where they are told
+pub record File : Type 0 where
+  pub name : List ℕ
+  pub bytes : Option (List ℕ)
 
--- a command: the names that it reads, and the one that it may write, if any
+-- the answers of a command: the status, the text that is put and the files that are written, by what is told of what names hold
+abbrev pub Answers : Type 1
+Answers = Contents → Status → List ℕ → List File → Type 0
+
+-- a command: the names that it reads, and those that it may write
 pub record Names : Type 0 where
   pub read : List (List ℕ)
-  pub written : Option (List ℕ)
+  pub written : List (List ℕ)
 
--- the read count of one of some names rose
-pub record HasReadFailed (names : List (List ℕ)) (before now : Counts) : Type 0 where
+-- the count of one of some names rose
+pub record HasFailed (names : List (List ℕ)) (before now : Counts) : Type 0 where
   pub name : List ℕ
   pub named : Contains names name
   pub rose : Rose (before name) (now name)
 
--- the write count of the name that may be written rose
-abbrev pub HasWriteFailed : Option (List ℕ) → Counts → Counts → Type 0
-HasWriteFailed None before now = ⊥
-HasWriteFailed (Some name) before now = Rose (before name) (now name)
+-- names other than these hold what they held
+abbrev pub AreKeptBut : List (List ℕ) → Contents → Contents → Type 0
+AreKeptBut names old new = (name : List ℕ) → (Contains names name → ⊥) → new name ≡ old name
 
--- all but one name, if any, hold what they held
-abbrev pub IsKeptBut : Option (List ℕ) → Contents → Contents → Type 0
-IsKeptBut None old new = new ≡ old
-IsKeptBut (Some name) old new = OthersKept name old new
+-- a name holds the bytes of its file, which are told where it told its bytes before
+abbrev pub IsHeld : Contents → Contents → File → Type 0
+IsHeld old new file = (new file.name ≡ file.bytes) × IfSome (old file.name) (λ _. IsTrue (is_some file.bytes))
 
--- these bytes are written under a name, where there are some; all else is kept
-abbrev pub IsWritten : Option (List ℕ) → Option (List ℕ) → Contents → Contents → Type 0
-IsWritten name None old new = new ≡ old
-IsWritten None (Some bytes) old new = ⊥
-IsWritten (Some name) (Some bytes) old new = (new name ≡ option_map (λ _. bytes) (old name)) × OthersKept name old new
+-- files are written, and all else is kept
+pub record AreWritten (files : List File) (old new : Contents) : Type 0 where
+  pub each : All (IsHeld old new) files
+  pub others : AreKeptBut (map (λ file. file.name) files) old new
 
 -- a first part of a text, and then of the line that says that memory was wanting
 pub record IsCutShort (old new : Option (List ℕ)) (text : List ℕ) : Type 0 where
@@ -100,7 +102,7 @@ pub record IsCutShort (old new : Option (List ℕ)) (text : List ℕ) : Type 0 w
 
 -- the text of an answer, or nothing
 abbrev pub IsAskedText : Answers → Contents → List ℕ → Type 0
-IsAskedText answers held text = ((status : Status) × (file : Option (List ℕ)) × answers held status text file) ⊎ (text ≡ [])
+IsAskedText answers held text = ((status : Status) × (files : List File) × answers held status text files) ⊎ (text ≡ [])
 
 -- an answer's text, or nothing, cut short
 pub record IsPutInPart (answers : Answers) (held : Contents) (old new : Option (List ℕ)) : Type 0 where
@@ -108,19 +110,19 @@ pub record IsPutInPart (answers : Answers) (held : Contents) (old new : Option (
   pub of_answer : IsAskedText answers held text
   pub cut : IsCutShort old new text
 
--- the answer is put whole and what it writes is written, and no call failed
+-- the answer is put whole and its files are written, and no call failed
 pub record IsAnswered (names : Names) (answers : Answers) (status : Status) (store store' : StoreState) (sink sink' : SinkState) : Type 0 where
   pub text : List ℕ
-  pub file : Option (List ℕ)
-  pub asked : answers store.held status text file
+  pub files : List File
+  pub asked : answers store.held status text files
   pub put : sink'.bytes ≡ added sink.bytes text
-  pub written : IsWritten names.written file store.held store'.held
+  pub written : AreWritten files store.held store'.held
   pub quiet : IsQuiet store store'
   pub no_put_failed : sink'.faults ≡ sink.faults
 
 -- a read failed, and the line that says so is all that is put
 pub record IsReadEnd (names : Names) (store store' : StoreState) (sink sink' : SinkState) : Type 0 where
-  pub failed : HasReadFailed names.read store.reads store'.reads
+  pub failed : HasFailed names.read store.reads store'.reads
   pub said : sink'.bytes ≡ added sink.bytes (end_line ReadFault)
   pub kept : store'.held ≡ store.held
   pub no_put_failed : sink'.faults ≡ sink.faults
@@ -128,30 +130,30 @@ pub record IsReadEnd (names : Names) (store store' : StoreState) (sink sink' : S
 -- a read failed, and a first part of the line that says so is put; or no call of the store failed, and the answer is put in part
 abbrev pub IsInterrupted : Names → Answers → StoreState → StoreState → SinkState → SinkState → Type 0
 IsInterrupted names answers store store' sink sink' =
-    (HasReadFailed names.read store.reads store'.reads × GrownInPart sink.bytes sink'.bytes (end_line ReadFault))
+    (HasFailed names.read store.reads store'.reads × GrownInPart sink.bytes sink'.bytes (end_line ReadFault))
     ⊎ (IsQuiet store store' × IsPutInPart answers store.held sink.bytes sink'.bytes)
 
 -- a put failed
 abbrev pub IsPutFailed : Names → Answers → StoreState → StoreState → SinkState → SinkState → Type 0
 IsPutFailed names answers store store' sink sink' = Rose sink.faults sink'.faults × IsInterrupted names answers store store' sink sink'
 
--- a write of the name failed, when the answer was put in part; nothing is told of the counts of reads and of other names then, since a
+-- a write of a name failed, when the answer was put in part; nothing is told of the counts of reads and of other names then, since a
 -- store may have one count for all
 pub record IsFileFailed (names : Names) (answers : Answers) (store store' : StoreState) (sink sink' : SinkState) : Type 0 where
-  pub failed : HasWriteFailed names.written store.writes store'.writes
+  pub failed : HasFailed names.written store.writes store'.writes
   pub put : IsPutInPart answers store.held sink.bytes sink'.bytes
   pub no_put_failed : sink'.faults ≡ sink.faults
 
--- a put failed, or a write of the name
+-- a put failed, or a write of a name
 pub record IsWriteEnd (names : Names) (answers : Answers) (store store' : StoreState) (sink sink' : SinkState) : Type 0 where
   pub cause : IsPutFailed names answers store store' sink sink' ⊎ IsFileFailed names answers store store' sink sink'
-  pub kept : IsKeptBut names.written store.held store'.held
+  pub kept : AreKeptBut names.written store.held store'.held
 
 -- memory was wanting
 pub record IsStarvedEnd (names : Names) (answers : Answers) (store store' : StoreState) (sink sink' : SinkState) : Type 0 where
   pub no_put_failed : sink'.faults ≡ sink.faults
   pub put : IsInterrupted names answers store store' sink sink'
-  pub kept : IsKeptBut names.written store.held store'.held
+  pub kept : AreKeptBut names.written store.held store'.held
 
 -- what a run over a store and a sink does, by the way in which it ends: what it put and wrote, and which calls failed in it
 abbrev pub IsRunBy : Ending → Names → Answers → Status → StoreState → StoreState → SinkState → SinkState → Type 0
@@ -166,38 +168,38 @@ IsRunOf names answers status store store' sink sink' = IsRunBy (ending_of status
 -- why a run ends before anything is put: its answer is a last line alone, a read failed, or memory was wanting
 abbrev pub IsEarlyEnd : Names → Answers → Status → StoreState → StoreState → Type 0
 IsEarlyEnd names answers status one other =
-    (answers one.held status (end_line status) None × (ending_of status ≡ Answered) × IsQuiet one other)
-    ⊎ (((status ≡ ReadFault) × HasReadFailed names.read one.reads other.reads) ⊎ ((status ≡ NoMemory) × IsQuiet one other))
+    (answers one.held status (end_line status) [] × (ending_of status ≡ Answered) × IsQuiet one other)
+    ⊎ (((status ≡ ReadFault) × HasFailed names.read one.reads other.reads) ⊎ ((status ≡ NoMemory) × IsQuiet one other))
 
--- a put failed and no call of the store; or a write of the name and no put
-abbrev pub IsWriteCause : Option (List ℕ) → StoreState → StoreState → SinkState → SinkState → Type 0
-IsWriteCause name store store' sink sink' =
-    (Rose sink.faults sink'.faults × IsQuiet store store') ⊎ (HasWriteFailed name store.writes store'.writes × (sink'.faults ≡ sink.faults))
+-- a put failed and no call of the store; or a write of a name and no put
+abbrev pub IsWriteCause : List (List ℕ) → StoreState → StoreState → SinkState → SinkState → Type 0
+IsWriteCause names store store' sink sink' =
+    (Rose sink.faults sink'.faults × IsQuiet store store') ⊎ (HasFailed names store.writes store'.writes × (sink'.faults ≡ sink.faults))
 
 -- which calls failed where an answer is put and written, and what is kept
-pub record IsByCause (result : Result Status StoreFault) (name : Option (List ℕ)) (store store' : StoreState) (sink sink' : SinkState) : Type 0 where
-  pub cause : IfFailed result (IsWriteCause name store store' sink sink') (IsQuiet store store' × (sink'.faults ≡ sink.faults))
-  pub kept : IsKeptBut name store.held store'.held
+pub record IsByCause (result : Result Status StoreFault) (names : List (List ℕ)) (store store' : StoreState) (sink sink' : SinkState) : Type 0 where
+  pub cause : IfFailed result (IsWriteCause names store store' sink sink') (IsQuiet store store' × (sink'.faults ≡ sink.faults))
+  pub kept : AreKeptBut names store.held store'.held
 
--- an answer is put and what it writes is written
-pub record IsPutWhole (answers : Answers) (status : Status) (name : Option (List ℕ)) (store store' : StoreState) (sink sink' : SinkState) : Type 0 where
+-- an answer is put and its files are written
+pub record IsPutWhole (answers : Answers) (status : Status) (store store' : StoreState) (sink sink' : SinkState) : Type 0 where
   pub text : List ℕ
-  pub file : Option (List ℕ)
-  pub asked : answers store.held status text file
+  pub files : List File
+  pub asked : answers store.held status text files
   pub answered : ending_of status ≡ Answered
   pub put : sink'.bytes ≡ added sink.bytes text
-  pub written : IsWritten name file store.held store'.held
+  pub written : AreWritten files store.held store'.held
 
 -- a first part of an answer's text is put
 pub record IsPutPart (answers : Answers) (store : StoreState) (sink sink' : SinkState) : Type 0 where
   pub status : Status
   pub text : List ℕ
-  pub file : Option (List ℕ)
-  pub asked : answers store.held status text file
+  pub files : List File
+  pub asked : answers store.held status text files
   pub part : GrownInPart sink.bytes sink'.bytes text
 
 -- an answer is put and written, or a first part of its text is put
-pub record IsCarriedOut (answers : Answers) (result : Result Status StoreFault) (name : Option (List ℕ)) (store store' : StoreState) (sink sink' : SinkState) : Type 0 where
-  pub done : IfOk result (λ status. IsPutWhole answers status name store store' sink sink')
+pub record IsCarriedOut (answers : Answers) (result : Result Status StoreFault) (names : List (List ℕ)) (store store' : StoreState) (sink sink' : SinkState) : Type 0 where
+  pub done : IfOk result (λ status. IsPutWhole answers status store store' sink sink')
   pub refused : OnErr result (IsPutPart answers store sink sink')
-  pub by_cause : IsByCause result name store store' sink sink'
+  pub by_cause : IsByCause result names store store' sink sink'

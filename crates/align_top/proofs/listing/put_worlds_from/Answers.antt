@@ -1,11 +1,12 @@
-use Rattle.std.proofs.Common.{rules}
-use Rattle.align_top.proofs.ListingLemmas.{partly_nothing, if_refused}
+use Rattle.std.proofs.Common.{refl}
+use Rattle.run_ends.specs.Runs.{sink_state}
+use Rattle.align_top.proofs.ListingLemmas.{partly_nothing}
+use Rattle.align_top.proofs.LoggedLemmas.{log_rests, starved}
 use Rattle.align_top.proofs.listing.put_worlds_from.Goals as goal
 
 pub returns-in_err-search : goal.returns-in_err-search
-returns-in_err-search g c = record {
-  ok = search rules;
-  err = if_refused c.from_residual.result _ (partly_nothing c.args.order.now c.taxonomy_count-built.ensures.built.valid (g.W.Sink.received c.args.out.now));
-  cause = search rules;
-  later = search rules;
-}
+returns-in_err-search g c =
+    starved _ (tt {0}) c.from_residual.result c.args.order.now
+    (sink_state (g.W.Sink.received c.args.out.now) (g.W.Sink.faults c.args.out.now)) (sink_state (g.W.Sink.received c.args.out.now) (g.W.Sink.faults c.args.out.now)) c.args.log.now c.args.log.now
+    c.from_residual.ensures.1 (partly_nothing c.args.order.now c.taxonomy_count-built.ensures.built.valid (g.W.Sink.received c.args.out.now)) refl
+    (log_rests (tt {0}) c.args.log.now (g.met.L.TreeLog.steady_stays c.args.log.now) (g.met.L.TreeLog.quiet_stays c.args.log.now))

@@ -1,15 +1,14 @@
 use Rattle.std.proofs.Common.{rules, Ok}
-use Rattle.command_line.specs.declared.Request.TheVariants.{Align}
 use Rattle.run_ends.specs.Runs.{store_state, sink_state}
 use Rattle.run_ends.proofs.ReadLemmas.{one_state}
 use Rattle.run_ends.proofs.EndLemmas.{run_early, run_done, run_refused, run_starved}
-use Rattle.align_top.specs.Output.{names_of, answers_to}
+use Rattle.align_top.specs.Output.{listing_names, IsListingAnswer}
 use Rattle.align_top.proofs.RunLemmas.{listing_carried}
 use Rattle.align_top.proofs.top.run_align.Goals as goal
 
 pub returns-in-Err : goal.returns-in-Err
 returns-in-Err g c =
-    run_early (names_of (Ok (Align c.args.asking.now.input c.args.asking.now.switches c.args.asking.now.nodes c.args.asking.now.worlds c.args.asking.now.token c.args.asking.now.resume))) (answers_to (Ok (Align c.args.asking.now.input c.args.asking.now.switches c.args.asking.now.nodes c.args.asking.now.worlds c.args.asking.now.token c.args.asking.now.resume))) c.in-Err.status c.put_end.result
+    run_early (listing_names c.args.asking.now) (IsListingAnswer c.args.asking.now) c.in-Err.status c.put_end.result
     (store_state (g.S.Store.held c.args.store.now) (g.S.Store.read_faults c.args.store.now) (g.S.Store.write_faults c.args.store.now))
     (store_state (g.S.Store.held c.order_of.new.store) (g.S.Store.read_faults c.order_of.new.store) (g.S.Store.write_faults c.order_of.new.store))
     (sink_state (g.W.Sink.received c.args.out.now) (g.W.Sink.faults c.args.out.now)) (sink_state (g.W.Sink.received c.put_end.new.out) (g.W.Sink.faults c.put_end.new.out))
@@ -17,11 +16,11 @@ returns-in-Err g c =
 
 pub returns-in-Ok-carry_out : goal.returns-in-Ok-carry_out
 returns-in-Ok-carry_out g c =
-    run_done (names_of (Ok (Align c.args.asking.now.input c.args.asking.now.switches c.args.asking.now.nodes c.args.asking.now.worlds c.args.asking.now.token c.args.asking.now.resume))) (answers_to (Ok (Align c.args.asking.now.input c.args.asking.now.switches c.args.asking.now.nodes c.args.asking.now.worlds c.args.asking.now.token c.args.asking.now.resume))) c.in-Ok-carry_out.status
+    run_done (listing_names c.args.asking.now) (IsListingAnswer c.args.asking.now) c.in-Ok-carry_out.status
     (store_state (g.S.Store.held c.args.store.now) (g.S.Store.read_faults c.args.store.now) (g.S.Store.write_faults c.args.store.now))
     (store_state (g.S.Store.held c.carry_out.new.store) (g.S.Store.read_faults c.carry_out.new.store) (g.S.Store.write_faults c.carry_out.new.store))
     (sink_state (g.W.Sink.received c.args.out.now) (g.W.Sink.faults c.args.out.now)) (sink_state (g.W.Sink.received c.carry_out.new.out) (g.W.Sink.faults c.carry_out.new.out))
-    (listing_carried c.args.asking.now.input c.args.asking.now.switches c.args.asking.now.nodes c.args.asking.now.worlds c.args.asking.now.token c.args.asking.now.resume c.in-Ok.order (Ok c.in-Ok-carry_out.status)
+    (listing_carried c.args.asking.now c.in-Ok.order (Ok c.in-Ok-carry_out.status)
     (store_state (g.S.Store.held c.args.store.now) (g.S.Store.read_faults c.args.store.now) (g.S.Store.write_faults c.args.store.now))
     (store_state (g.S.Store.held c.order_of.new.store) (g.S.Store.read_faults c.order_of.new.store) (g.S.Store.write_faults c.order_of.new.store))
     (store_state (g.S.Store.held c.carry_out.new.store) (g.S.Store.read_faults c.carry_out.new.store) (g.S.Store.write_faults c.carry_out.new.store))
@@ -32,11 +31,11 @@ returns-in-Ok-carry_out g c =
 
 pub returns-in-Err-Failed : goal.returns-in-Err-Failed
 returns-in-Err-Failed g c =
-    run_refused (names_of (Ok (Align c.args.asking.now.input c.args.asking.now.switches c.args.asking.now.nodes c.args.asking.now.worlds c.args.asking.now.token c.args.asking.now.resume))) (answers_to (Ok (Align c.args.asking.now.input c.args.asking.now.switches c.args.asking.now.nodes c.args.asking.now.worlds c.args.asking.now.token c.args.asking.now.resume)))
+    run_refused (listing_names c.args.asking.now) (IsListingAnswer c.args.asking.now)
     (store_state (g.S.Store.held c.args.store.now) (g.S.Store.read_faults c.args.store.now) (g.S.Store.write_faults c.args.store.now))
     (store_state (g.S.Store.held c.carry_out.new.store) (g.S.Store.read_faults c.carry_out.new.store) (g.S.Store.write_faults c.carry_out.new.store))
     (sink_state (g.W.Sink.received c.args.out.now) (g.W.Sink.faults c.args.out.now)) (sink_state (g.W.Sink.received c.carry_out.new.out) (g.W.Sink.faults c.carry_out.new.out))
-    (listing_carried c.args.asking.now.input c.args.asking.now.switches c.args.asking.now.nodes c.args.asking.now.worlds c.args.asking.now.token c.args.asking.now.resume c.in-Ok.order _
+    (listing_carried c.args.asking.now c.in-Ok.order _
     (store_state (g.S.Store.held c.args.store.now) (g.S.Store.read_faults c.args.store.now) (g.S.Store.write_faults c.args.store.now))
     (store_state (g.S.Store.held c.order_of.new.store) (g.S.Store.read_faults c.order_of.new.store) (g.S.Store.write_faults c.order_of.new.store))
     (store_state (g.S.Store.held c.carry_out.new.store) (g.S.Store.read_faults c.carry_out.new.store) (g.S.Store.write_faults c.carry_out.new.store))
@@ -47,11 +46,11 @@ returns-in-Err-Failed g c =
 
 pub returns : goal.returns
 returns g c =
-    run_starved (names_of (Ok (Align c.args.asking.now.input c.args.asking.now.switches c.args.asking.now.nodes c.args.asking.now.worlds c.args.asking.now.token c.args.asking.now.resume))) (answers_to (Ok (Align c.args.asking.now.input c.args.asking.now.switches c.args.asking.now.nodes c.args.asking.now.worlds c.args.asking.now.token c.args.asking.now.resume))) c.put_end-in-Err-NoMemory.result
+    run_starved (listing_names c.args.asking.now) (IsListingAnswer c.args.asking.now) c.put_end-in-Err-NoMemory.result
     (store_state (g.S.Store.held c.args.store.now) (g.S.Store.read_faults c.args.store.now) (g.S.Store.write_faults c.args.store.now))
     (store_state (g.S.Store.held c.carry_out.new.store) (g.S.Store.read_faults c.carry_out.new.store) (g.S.Store.write_faults c.carry_out.new.store))
     (sink_state (g.W.Sink.received c.args.out.now) (g.W.Sink.faults c.args.out.now)) (sink_state (g.W.Sink.received c.carry_out.new.out) (g.W.Sink.faults c.carry_out.new.out)) (sink_state (g.W.Sink.received c.put_end-in-Err-NoMemory.new.out) (g.W.Sink.faults c.put_end-in-Err-NoMemory.new.out))
-    (listing_carried c.args.asking.now.input c.args.asking.now.switches c.args.asking.now.nodes c.args.asking.now.worlds c.args.asking.now.token c.args.asking.now.resume c.in-Ok.order _
+    (listing_carried c.args.asking.now c.in-Ok.order _
     (store_state (g.S.Store.held c.args.store.now) (g.S.Store.read_faults c.args.store.now) (g.S.Store.write_faults c.args.store.now))
     (store_state (g.S.Store.held c.order_of.new.store) (g.S.Store.read_faults c.order_of.new.store) (g.S.Store.write_faults c.order_of.new.store))
     (store_state (g.S.Store.held c.carry_out.new.store) (g.S.Store.read_faults c.carry_out.new.store) (g.S.Store.write_faults c.carry_out.new.store))

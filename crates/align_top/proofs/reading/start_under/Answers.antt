@@ -2,7 +2,7 @@ use Rattle.std.proofs.Common.{rules, Ok}
 use Rattle.run_ends.specs.Runs.{store_state}
 use Rattle.align_top.specs.Steps.{start_in}
 use Rattle.run_ends.proofs.ReadLemmas.{comes_of, without}
-use Rattle.align_top.proofs.asking.start_under.Goals as goal
+use Rattle.align_top.proofs.reading.start_under.Goals as goal
 
 pub returns-in-Ok-clause-start : goal.returns-in-Ok-clause-start
 returns-in-Ok-clause-start g c =

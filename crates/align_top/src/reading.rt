@@ -2,33 +2,18 @@
 ghost use Rattle.std.specs.Prelude.{◌≡◌, Ok, IfOk, IfErr, OnOk};
 ghost use Rattle.constraint_set.specs.Facts.{IsAsRead};
 ghost use Rattle.resume_token.specs.Token.{token_result, kind_of};
-ghost use Rattle.command_line.specs.declared.Request.TheVariants.{Align};
 ghost use Rattle.run_ends.specs.Runs.{store_state, IsQuiet, IsEarlyEnd};
 ghost use Rattle.run_ends.specs.Reads.{IsRefused, ComesOf, IsWithout};
-ghost use Rattle.align_top.specs.Output.{ComesTo, names_of, answers_to};
+ghost use Rattle.align_top.specs.Output.{ComesTo, listing_names, IsListingAnswer};
 ghost use Rattle.align_top.specs.Steps.{start_in, token_end, IsStart, IsWithoutStart, IsAskable, IsReady};
 
-use crate::{Order, Word};
+use crate::{Asking, Order, Word};
 use constraint_set::Problem;
 use outer_store::Store;
 use rcc5_core::Position;
 use resume_token::{TokenFault, read_token};
 use run_ends::{Status, bytes_under, problem_under};
 use std::alloc::Global;
-use world_model::Switches;
-
-/// What the words say of a listing.
-#[derive(Drop)]
-pub(crate) struct Asking {
-    pub(crate) input: Word,
-    pub(crate) switches: Switches,
-    pub(crate) nodes: Option<u64>,
-    pub(crate) worlds: Option<u64>,
-    /// The file for the token of the cut.
-    pub(crate) token: Option<Word>,
-    /// The file whose token says where the listing begins.
-    pub(crate) resume: Option<Word>,
-}
 
 // How a run ends whose token is refused.
 fn token_end(fault: TokenFault) -> Status
@@ -99,11 +84,11 @@ pub(crate) fn order_of<S: Store>(
     store: &mut S,
     asking: &Asking,
 ) -> Result<Order, Status>
-    requires { IsAskable asking.now.input asking.now.nodes asking.now.worlds asking.now.token asking.now.resume }
-    ensures order { IfOk result (λ order. ComesTo asking.now.input asking.now.switches asking.now.nodes asking.now.worlds asking.now.resume (S.held store.old) (Ok order)) }
-    ensures ready { IfOk result (λ order. IsReady order asking.now.token) }
+    requires { IsAskable asking.now }
+    ensures order { IfOk result (λ order. ComesTo asking.now (S.held store.old) (Ok order)) }
+    ensures ready { IfOk result (λ order. IsReady order asking.now.cert asking.now.token) }
     ensures quiet { OnOk result (IsQuiet (store_state (S.held store.old) (S.read_faults store.old) (S.write_faults store.old)) (store_state (S.held store.new) (S.read_faults store.new) (S.write_faults store.new))) }
-    ensures ended { IfErr result (λ status. IsEarlyEnd (names_of (Ok (Align asking.now.input asking.now.switches asking.now.nodes asking.now.worlds asking.now.token asking.now.resume))) (answers_to (Ok (Align asking.now.input asking.now.switches asking.now.nodes asking.now.worlds asking.now.token asking.now.resume))) status (store_state (S.held store.old) (S.read_faults store.old) (S.write_faults store.old)) (store_state (S.held store.new) (S.read_faults store.new) (S.write_faults store.new))) }
+    ensures ended { IfErr result (λ status. IsEarlyEnd (listing_names asking.now) (IsListingAnswer asking.now) status (store_state (S.held store.old) (S.read_faults store.old) (S.write_faults store.old)) (store_state (S.held store.new) (S.read_faults store.new) (S.write_faults store.new))) }
     ensures kept { S.held store.new ≡ S.held store.old }
 {
     let problem = problem_under(alloc, store, asking.input.text(), asking.switches)?;

@@ -2,12 +2,12 @@ use Rattle.std.proofs.Common.{rules}
 use Rattle.run_ends.specs.Runs.{store_state}
 use Rattle.run_ends.proofs.ReadLemmas.{one_state}
 use Rattle.align_top.proofs.AskedLemmas.{if_err, start_from, comes_ok, ends_without_problem, ends_without_start, named_without, named_comes}
-use Rattle.align_top.proofs.asking.order_of.Goals as goal
+use Rattle.align_top.proofs.reading.order_of.Goals as goal
 
 pub returns-in_err-problem-clause-ended : goal.returns-in_err-problem-clause-ended
 returns-in_err-problem-clause-ended g c =
     if_err c.from_residual.result _ _
-    (ends_without_problem (store_state (g.S.Store.held c.args.store.now) (g.S.Store.read_faults c.args.store.now) (g.S.Store.write_faults c.args.store.now)) (store_state (g.S.Store.held c.problem_under.new.store) (g.S.Store.read_faults c.problem_under.new.store) (g.S.Store.write_faults c.problem_under.new.store)) c.args.asking.now.input c.args.asking.now.switches c.args.asking.now.nodes c.args.asking.now.worlds c.args.asking.now.token c.args.asking.now.resume _ c.requires
+    (ends_without_problem (store_state (g.S.Store.held c.args.store.now) (g.S.Store.read_faults c.args.store.now) (g.S.Store.write_faults c.args.store.now)) (store_state (g.S.Store.held c.problem_under.new.store) (g.S.Store.read_faults c.problem_under.new.store) (g.S.Store.write_faults c.problem_under.new.store)) c.args.asking.now _ c.requires
     (named_without c.text.result.now c.args.asking.now.input c.args.asking.now.switches _ (store_state (g.S.Store.held c.args.store.now) (g.S.Store.read_faults c.args.store.now) (g.S.Store.write_faults c.args.store.now)) (store_state (g.S.Store.held c.problem_under.new.store) (g.S.Store.read_faults c.problem_under.new.store) (g.S.Store.write_faults c.problem_under.new.store)) (search rules) c.in_err-problem.ensures.ended))
     (search rules)
 
@@ -16,13 +16,13 @@ returns-in_err-start-clause-ended g c =
     let same = one_state (g.S.Store.held c.args.store.now) (g.S.Store.held c.problem_under.new.store) (g.S.Store.read_faults c.args.store.now) (g.S.Store.read_faults c.problem_under.new.store)
     (g.S.Store.write_faults c.args.store.now) (g.S.Store.write_faults c.problem_under.new.store) c.in_ok-problem.ensures.kept c.in_ok-problem.ensures.quiet.0 c.in_ok-problem.ensures.quiet.1 in
     if_err c.from_residual-in_err-start.result _ _
-    (ends_without_start (store_state (g.S.Store.held c.args.store.now) (g.S.Store.read_faults c.args.store.now) (g.S.Store.write_faults c.args.store.now)) (store_state (g.S.Store.held c.problem_under.new.store) (g.S.Store.read_faults c.problem_under.new.store) (g.S.Store.write_faults c.problem_under.new.store)) (store_state (g.S.Store.held c.start_of.new.store) (g.S.Store.read_faults c.start_of.new.store) (g.S.Store.write_faults c.start_of.new.store)) c.args.asking.now.input c.args.asking.now.switches c.args.asking.now.nodes c.args.asking.now.worlds c.args.asking.now.token c.args.asking.now.resume c.in_ok-problem.problem _ c.requires same
+    (ends_without_start (store_state (g.S.Store.held c.args.store.now) (g.S.Store.read_faults c.args.store.now) (g.S.Store.write_faults c.args.store.now)) (store_state (g.S.Store.held c.problem_under.new.store) (g.S.Store.read_faults c.problem_under.new.store) (g.S.Store.write_faults c.problem_under.new.store)) (store_state (g.S.Store.held c.start_of.new.store) (g.S.Store.read_faults c.start_of.new.store) (g.S.Store.write_faults c.start_of.new.store)) c.args.asking.now c.in_ok-problem.problem _ c.requires same
     (named_comes c.text.result.now c.args.asking.now.input c.args.asking.now.switches c.in_ok-problem.problem (g.S.Store.held c.args.store.now) (search rules) c.in_ok-problem.ensures.problem)
     c.in_err-start.ensures.ended)
     (search rules)
 
 pub returns-clause-order : goal.returns-clause-order
 returns-clause-order g c =
-    comes_ok (g.S.Store.held c.args.store.now) c.args.asking.now.input c.args.asking.now.switches c.args.asking.now.nodes c.args.asking.now.worlds c.args.asking.now.token c.args.asking.now.resume c.in_ok-problem.problem c.in_ok-start.start c.requires
+    comes_ok (g.S.Store.held c.args.store.now) c.args.asking.now c.in_ok-problem.problem c.in_ok-start.start c.requires
     (named_comes c.text.result.now c.args.asking.now.input c.args.asking.now.switches c.in_ok-problem.problem (g.S.Store.held c.args.store.now) (search rules) c.in_ok-problem.ensures.problem)
     (start_from (g.S.Store.held c.args.store.now) (g.S.Store.held c.problem_under.new.store) c.in_ok-problem.problem c.args.asking.now.resume c.in_ok-start.start c.in_ok-problem.ensures.kept c.in_ok-start.ensures.start)

@@ -1,6 +1,6 @@
 use Rattle.run_ends.specs.Runs.{store_state}
 use Rattle.align_top.proofs.AskedLemmas.{started, unstarted}
-use Rattle.align_top.proofs.asking.start_of.Goals as goal
+use Rattle.align_top.proofs.reading.start_of.Goals as goal
 
 pub returns-in-Some-clause-start : goal.returns-in-Some-clause-start
 returns-in-Some-clause-start g c =

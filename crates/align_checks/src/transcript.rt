@@ -1,0 +1,125 @@
+//! Whole runs as transcripts: files, words, what is put, and how each run ends. A transcript is played again, and must come out as it is.
+
+use align_top::run;
+use outer_store::{MemorySink, MemoryStore};
+use std::alloc::{AllocError, Global};
+
+/// What has been played of a transcript, and the store over which it runs.
+///
+/// A line `@ NAME` begins a file, whose lines follow. `$ WORDS` is a run, `? CODE` its exit code, and what
+/// it puts stands between. `= NAME` shows what a name holds then. `% N M` takes a new store, in which
+/// the file `p` alone is held again; its call N fails, and in the next run the sink's call M. No call fails where the number is 0.
+#[derive(Drop)]
+struct Scene {
+    alloc: Global,
+    store: MemoryStore,
+    failing_put: u64,
+    /// The name of the file whose lines follow, and these lines.
+    name: Option<String>,
+    body: String,
+    out: String,
+}
+
+impl Scene {
+    fn new(alloc: Global) -> Scene {
+        Scene {
+            alloc,
+            store: MemoryStore::new(alloc, Vec::new(alloc)),
+            failing_put: 0,
+            name: None,
+            body: String::new(alloc),
+            out: String::new(alloc),
+        }
+    }
+
+    fn put_line(&mut self, line: &str) -> Result<(), AllocError> {
+        self.out.push_str(line)?;
+        self.out.push_str("\n")
+    }
+
+    fn put_bytes(&mut self, bytes: &[u8]) -> Result<(), AllocError> {
+        match std::str::from_utf8(bytes) {
+            Ok(text) => self.out.push_str(text),
+            Err(_) => self.put_line("not UTF-8"),
+        }
+    }
+
+    /// Holds the file whose lines have been played.
+    fn end_file(&mut self) -> Result<(), AllocError> {
+        if let Some(name) = &self.name {
+            self.store.hold(name.as_str(), self.body.as_bytes())?;
+            self.name = None;
+            self.body.clear();
+        }
+        Ok(())
+    }
+
+    fn run(&mut self, text: &str) -> Result<(), AllocError> {
+        let mut words = Vec::new(self.alloc);
+        for word in text.split_whitespace() {
+            words.push(String::from_str(self.alloc, word)?)?;
+        }
+        let mut sink = MemorySink::new(self.alloc, vec![in self.alloc; self.failing_put]?);
+        let status = run(self.alloc, &words, &mut self.store, &mut sink);
+        self.put_bytes(sink.bytes())?;
+        let end = format!(in self.alloc; "? {}", status.code())?;
+        self.put_line(end.as_str())
+    }
+
+    /// Shows what a name holds.
+    fn show(&mut self, name: &str) -> Result<(), AllocError> {
+        let held = Vec::from_slice(self.alloc, self.store.bytes(name).unwrap_or(&[]))?;
+        self.put_bytes(&held)
+    }
+
+    /// Takes a new store, in which the problem is held again.
+    fn renew(&mut self, numbers: &str) -> Result<(), AllocError> {
+        let mut found = [0; 2];
+        for (place, word) in found.iter_mut().zip(numbers.split_whitespace()) {
+            *place = word.parse::<u64>().unwrap_or(0);
+        }
+        let problem = Vec::from_slice(self.alloc, self.store.bytes("p").unwrap_or(&[]))?;
+        self.store = MemoryStore::new(self.alloc, vec![in self.alloc; found[0]]?);
+        self.failing_put = found[1];
+        self.store.hold("p", &problem)
+    }
+
+    /// A line that begins with a sign.
+    fn play_sign(&mut self, line: &str, sign: &str, rest: &str) -> Result<(), AllocError> {
+        self.end_file()?;
+        self.put_line(line)?;
+        match sign {
+            "@" => {
+                self.name = Some(String::from_str(self.alloc, rest)?);
+                Ok(())
+            }
+            "$" => self.run(rest),
+            "=" => self.show(rest),
+            _ => self.renew(rest),
+        }
+    }
+
+    /// A line of a file; what a run should put is left out, since the run puts it.
+    fn play_other(&mut self, line: &str) -> Result<(), AllocError> {
+        if self.name.is_none() {
+            return Ok(());
+        }
+        self.body.push_str(line)?;
+        self.body.push_str("\n")?;
+        self.put_line(line)
+    }
+}
+
+/// A transcript played again. It comes out as it went in where the program does what it says.
+pub(crate) fn played(alloc: Global, text: &str) -> Result<String, AllocError> {
+    let mut scene = Scene::new(alloc);
+    for line in text.lines() {
+        match line.split_once(' ') {
+            Some((sign, rest)) if matches!(sign, "@" | "$" | "=" | "%") => {
+                scene.play_sign(line, sign, rest)?;
+            }
+            _ => scene.play_other(line)?,
+        }
+    }
+    Ok(scene.out)
+}

@@ -1,0 +1,201 @@
+-- A listing whose certificate a store holds.
+use Rattle.std.proofs.Common.{◌≡◌, ℕ, ◌≤◌, ◌^◌, Bool, true, false, List, [], ◌∷◌, ◌++◌, Option, None, Some, IfSome, IfOk, OnErr, Result, Ok, Err, IsTrue, length, refl, sym, ap, subst, ◌∙◌, inl, inr, ⊎_elim, arith}
+use Rattle.std.specs.Prelude.{⊤, ◌⊎◌, Contains}
+use Rattle.std.specs.Result.{IsErrAnd}
+use Rattle.outer_store.specs.Contents.{Contents, OthersKept, emptied}
+use Rattle.outer_store.specs.Faults.{Counts, Rose, IfFailed}
+use Rattle.outer_store.specs.Reader.{NoneMoved}
+use Rattle.outer_store.specs.declared.fault.StoreFault.{StoreFault}
+use Rattle.outer_store.specs.declared.fault.StoreFault.TheVariants.{Failed, NoMemory}
+use Rattle.rcc5_core.specs.declared.Rel.{Rel}
+use Rattle.world_model.specs.Problem.{Problem}
+use Rattle.constraint_set.specs.Facts.{IsBuilt}
+use Rattle.world_model.specs.Listing.{IsListing}
+use Rattle.world_model.proofs.OrderListings.{one_listing_law}
+use Rattle.cert_text.specs.declared.line.CertLine.{CertLine}
+use Rattle.cert_text.specs.declared.line.CertLine.TheVariants.{End}
+use Rattle.cert_text.specs.Logs.{Told, lines_in, lines_held}
+use Rattle.std.specs.Borrow.{Bor}
+use Rattle.cert_text.specs.declared.store_log.StoreLog.{StoreLog}
+use Rattle.cert_text.specs.StoreLogs.{log_store, log_name, is_refused, OnlyWritten}
+use Rattle.cert_rules.specs.Files.{Answer, Accepts, Listing}
+use Rattle.cert_reader.specs.declared.fault.CertTextKind.{CertTextKind}
+use Rattle.check_run.specs.Checking.{cert_answer}
+use Rattle.run_ends.specs.Runs.{StoreState, SinkState, store_state, HasFailed, AreKeptBut, IsQuiet, IsWriteCause}
+use Rattle.align_top.specs.declared.listing.Listed.{Listed}
+use Rattle.align_top.specs.declared.Order.{Order}
+use Rattle.align_top.specs.Output.{IsCertOf}
+use Rattle.align_top.specs.Putting.{IsOrder, IsPutToCut, IsPutPartly}
+use Rattle.align_top.specs.Logged.{IsToldWhole, IsListedIn, IsCertLeft, IsListedWith}
+use Rattle.align_top.proofs.WrittenLemmas.{is_first}
+use Rattle.cert_check.proofs.WrittenLemmas.{written_is_accepted_law}
+
+kept_but_one : (name : List ℕ) (old new : Contents) → OthersKept name old new → AreKeptBut (name ∷ []) old new
+kept_but_one name old new others other apart = others other (λ e. apart (subst (Contains (name ∷ [])) (sym e) (is_first name [])))
+
+others_twice : (name : List ℕ) (old mid new : Contents) → OthersKept name old mid → OthersKept name mid new → OthersKept name old new
+others_twice name old mid new a b other apart = b other apart ∙ a other apart
+
+write_failed : (name : List ℕ) (before now : Counts) → Rose (before name) (now name) → HasFailed (name ∷ []) before now
+write_failed name before now rose = record { name = name; named = is_first name []; rose = rose }
+
+-- a certificate's name that can't be made empty
+create_refused_by : (T : Type 0) (e : StoreFault) (order : Order) (name : List ℕ) (store store' : StoreState) (sink : SinkState)
+    → IfFailed {T = T} (Err e) (Rose (store.writes name) (store'.writes name)) ((store'.reads ≡ store.reads) × (store'.writes ≡ store.writes))
+    → OthersKept name store.held store'.held → IsPutPartly order sink.bytes sink.bytes → IsListedWith order (Some name) (Err e) store store' sink sink
+create_refused_by T Failed order name store store' sink cause others part = record {
+  ok = tt;
+  err = part;
+  left = tt;
+  kept = kept_but_one name store.held store'.held others;
+  cause = inr (write_failed name store.writes store'.writes cause, refl);
+}
+create_refused_by T NoMemory order name store store' sink cause others part = record {
+  ok = tt;
+  err = part;
+  left = tt;
+  kept = kept_but_one name store.held store'.held others;
+  cause = (cause, refl);
+}
+
+pub create_refused : (T : Type 0) (e : StoreFault) (r : Result Listed StoreFault) (order : Order) (name : List ℕ) (store store' : StoreState) (sink : SinkState) → IsErrAnd r (λ f. f ≡ e)
+    → IfFailed {T = T} (Err e) (Rose (store.writes name) (store'.writes name)) ((store'.reads ≡ store.reads) × (store'.writes ≡ store.writes))
+    → OthersKept name store.held store'.held → IsPutPartly order sink.bytes sink.bytes → IsListedWith order (Some name) r store store' sink sink
+create_refused T e (Ok x) order name store store' sink is cause others part = absurd is
+create_refused T e (Err f) order name store store' sink is cause others part =
+    subst (λ f. IsListedWith order (Some name) (Err f) store store' sink sink) (sym is) (create_refused_by T e order name store store' sink cause others part)
+
+-- what a name holds whose lines are told
+told_bytes : (refused : Bool) (held : Option (List ℕ)) (lines : List CertLine) → lines_held refused held ≡ Some lines → (bytes : List ℕ) × (held ≡ Some bytes) × (lines_in bytes ≡ Some lines)
+told_bytes true held lines e = absurd (cc)
+told_bytes false None lines e = absurd (cc)
+told_bytes false (Some bytes) lines e = (bytes, refl, e)
+
+accepted_same : (p : Problem) (from : List Rel) (to : Option (List Rel)) (these those : List (List Rel)) (bytes : List ℕ) → IsListing p from to these → IsListing p from to those
+    → cert_answer p bytes ≡ Accepts (Listing from to these) → cert_answer p bytes ≡ Accepts (Listing from to those)
+accepted_same p from to these those bytes one other accepted =
+    subst (λ (ws : List (List Rel)). cert_answer p bytes ≡ Accepts (Listing from to ws)) (one_listing_law.worlds p from to these those one other) accepted
+
+-- a name that was made empty and then holds a certificate's lines
+cert_left : (order : Order) (to : Option (List Rel)) (name : List ℕ) (refused : Bool) (held mid held' : Contents) → IsBuilt order.problem → IsOrder order
+    → mid name ≡ emptied (held name) → IsToldWhole order.problem order.start (lines_held false (mid name)) to (lines_held refused (held' name))
+    → IsCertLeft order.problem order.start to (Some name) held held'
+cert_left order to name refused held mid held' valid within made told = by (held name) made
+  where
+    p : Problem
+    p = order.problem
+
+    by : (before : Option (List ℕ)) → mid name ≡ emptied before
+        → IfSome before (λ _. (bytes : List ℕ) × (held' name ≡ Some bytes) × ((worlds : List (List Rel)) → IsListing p order.start to worlds → IsCertOf p order.start to worlds bytes))
+    by None made = tt
+    by (Some before) made =
+        let whole = told (ap (lines_held false) made) in
+        let bytes = told_bytes refused (held' name) (whole.0 ++ End to ∷ []) whole.2 in
+        (bytes.0, bytes.1, λ worlds exactly small.
+            let accepted = written_is_accepted_law.accepted p order.start whole.0 whole.1 to bytes.0 valid within whole.3 bytes.2 small in
+            accepted_same p order.start to accepted.0 worlds bytes.0 accepted.1 exactly accepted.2)
+
+if_ok_left : (r : Result Listed StoreFault) (order : Order) (name : List ℕ) (refused : Bool) (held mid held' : Contents) → IsBuilt order.problem → IsOrder order
+    → mid name ≡ emptied (held name) → IfOk r (λ listed. IsToldWhole order.problem order.start (lines_held false (mid name)) listed.cut (lines_held refused (held' name)))
+    → IfOk r (λ listed. IsCertLeft order.problem order.start listed.cut (Some name) held held')
+if_ok_left (Ok listed) order name refused held mid held' valid within made told = cert_left order listed.cut name refused held mid held' valid within made told
+if_ok_left (Err e) order name refused held mid held' valid within made told = tt
+
+-- the cause of a refusal behind a call that made the name empty
+store_cause : (r : Result Listed StoreFault) (name : List ℕ) (store mid store' : StoreState) (sink sink' : SinkState) → IsQuiet store mid
+    → IfFailed r ((Rose sink.faults sink'.faults × NoneMoved mid.reads store'.reads mid.writes store'.writes) ⊎ (Rose (mid.writes name) (store'.writes name) × (sink'.faults ≡ sink.faults)))
+        ((sink'.faults ≡ sink.faults) × (store'.writes name ≡ mid.writes name) × NoneMoved mid.reads store'.reads mid.writes store'.writes)
+    → IfFailed r (IsWriteCause (name ∷ []) store store' sink sink') (IsQuiet store store' × (sink'.faults ≡ sink.faults))
+store_cause (Ok listed) name store mid store' sink sink' quiet cause = ((cause.2.reads ∙ quiet.0, cause.2.writes ∙ quiet.1), cause.0)
+store_cause (Err Failed) name store mid store' sink sink' quiet cause = ⊎_elim
+    (λ put. inl (put.0, (put.1.reads ∙ quiet.0, put.1.writes ∙ quiet.1)))
+    (λ write. inr (write_failed name store.writes store'.writes (subst (λ (counts : Counts). Rose (counts name) (store'.writes name)) quiet.1 write.0), write.1))
+    cause
+store_cause (Err NoMemory) name store mid store' sink sink' quiet cause = ((cause.2.reads ∙ quiet.0, cause.2.writes ∙ quiet.1), cause.0)
+
+-- what a listing leaves in the store in which its log stands
+pub listed_in_store : (r : Result Listed StoreFault) (order : Order) (name : List ℕ) (refused : Bool) (store mid store' : StoreState) (sink sink' : SinkState)
+    → IsBuilt order.problem → IsOrder order → mid.held name ≡ emptied (store.held name) → OthersKept name store.held mid.held → IsQuiet store mid
+    → IfOk r (λ listed. IsPutToCut order sink.bytes sink'.bytes listed.cut listed.count) → OnErr r (IsPutPartly order sink.bytes sink'.bytes)
+    → IfOk r (λ listed. IsToldWhole order.problem order.start (lines_held false (mid.held name)) listed.cut (lines_held refused (store'.held name)))
+    → IfFailed r ((Rose sink.faults sink'.faults × NoneMoved mid.reads store'.reads mid.writes store'.writes) ⊎ (Rose (mid.writes name) (store'.writes name) × (sink'.faults ≡ sink.faults)))
+        ((sink'.faults ≡ sink.faults) × (store'.writes name ≡ mid.writes name) × NoneMoved mid.reads store'.reads mid.writes store'.writes)
+    → OnlyWritten name mid.held store'.held mid.reads store'.reads mid.writes store'.writes
+    → IsListedWith order (Some name) r store store' sink sink'
+listed_in_store r order name refused store mid store' sink sink' valid within made others quiet ok err told cause comes = record {
+  ok = ok;
+  err = err;
+  left = if_ok_left r order name refused store.held mid.held store'.held valid within made told;
+  kept = kept_but_one name store.held store'.held (others_twice name store.held mid.held store'.held others comes.others);
+  cause = store_cause r name store mid store' sink sink' quiet cause;
+}
+
+-- a listing without a certificate leaves the store
+unwritten_cause : (r : Result Listed StoreFault) (store : StoreState) (sink sink' : SinkState) → IfFailed r (Rose sink.faults sink'.faults) (sink'.faults ≡ sink.faults)
+    → IfFailed r (IsWriteCause [] store store sink sink') (IsQuiet store store × (sink'.faults ≡ sink.faults))
+unwritten_cause (Ok listed) store sink sink' cause = ((refl, refl), cause)
+unwritten_cause (Err Failed) store sink sink' cause = inl (cause, (refl, refl))
+unwritten_cause (Err NoMemory) store sink sink' cause = ((refl, refl), cause)
+
+none_left : (r : Result Listed StoreFault) (order : Order) (held : Contents) → IfOk r (λ listed. IsCertLeft order.problem order.start listed.cut None held held)
+none_left (Ok listed) order held = tt
+none_left (Err e) order held = tt
+
+pub listed_alone : (r : Result Listed StoreFault) (order : Order) (store : StoreState) (sink sink' : SinkState)
+    → IfOk r (λ listed. IsPutToCut order sink.bytes sink'.bytes listed.cut listed.count) → OnErr r (IsPutPartly order sink.bytes sink'.bytes)
+    → IfFailed r (Rose sink.faults sink'.faults) (sink'.faults ≡ sink.faults) → IsListedWith order None r store store sink sink'
+listed_alone r order store sink sink' ok err cause = record {
+  ok = ok;
+  err = err;
+  left = none_left r order store.held;
+  kept = λ name apart. refl;
+  cause = unwritten_cause r store sink sink' cause;
+}
+
+-- the same by the log's own words
+module _ {S : Type 0} (held : S → Contents) (reads writes : S → Counts) where
+  abbrev state : S → StoreState
+  state s = store_state (held s) (reads s) (writes s)
+
+  abbrev lines_of : StoreLog S → Told
+  lines_of l = lines_held (is_refused l) (held (log_store l).now (log_name l).now)
+
+  abbrev faults_of : StoreLog S → ℕ
+  faults_of l = writes (log_store l).now (log_name l).now
+
+  abbrev steady_of : StoreLog S → StoreLog S → Type 0
+  steady_of a b = (log_name b ≡ log_name a) × ((log_store b).ghost_name ≡ (log_store a).ghost_name) ×
+      OnlyWritten (log_name a).now (held (log_store a).now) (held (log_store b).now) (reads (log_store a).now) (reads (log_store b).now) (writes (log_store a).now) (writes (log_store b).now)
+
+  abbrev quiet_of : StoreLog S → StoreLog S → Type 0
+  quiet_of a b = NoneMoved (reads (log_store a).now) (reads (log_store b).now) (writes (log_store a).now) (writes (log_store b).now)
+
+  listed_over : (r : Result Listed StoreFault) (order : Order) (store : S) (a b : StoreLog S) (sink sink' : SinkState) → IsBuilt order.problem → IsOrder order → is_refused a ≡ false
+      → held (log_store a).now (log_name a).now ≡ emptied (held store (log_name a).now) → OthersKept (log_name a).now (held store) (held (log_store a).now)
+      → IsQuiet (state store) (state (log_store a).now)
+      → IsListedIn lines_of faults_of steady_of quiet_of (IsToldWhole order.problem order.start (lines_of a)) order r sink sink' a b
+      → IsListedWith order (Some (log_name a).now) r (state store) (state (log_store b).now) sink sink'
+  listed_over r order store a b sink sink' built within fresh made others quiet listed =
+      let name = (log_name a).now in
+      let named : log_name b ≡ log_name a = listed.comes.0 in
+      listed_in_store r order name (is_refused b) (state store) (state (log_store a).now) (state (log_store b).now) sink sink' built within made others quiet listed.ok listed.err
+      (subst (λ (n : Bor (List ℕ)). IfOk r (λ l. IsToldWhole order.problem order.start (lines_held false (held (log_store a).now name)) l.cut (lines_held (is_refused b) (held (log_store b).now n.now)))) named
+      (subst (λ (refused : Bool). IfOk r (λ l. IsToldWhole order.problem order.start (lines_held refused (held (log_store a).now name)) l.cut (lines_of b))) fresh listed.told))
+      (subst (λ (n : Bor (List ℕ)). IfFailed r ((Rose sink.faults sink'.faults × quiet_of a b) ⊎ (Rose (writes (log_store a).now name) (writes (log_store b).now n.now) × (sink'.faults ≡ sink.faults)))
+      ((sink'.faults ≡ sink.faults) × (writes (log_store b).now n.now ≡ writes (log_store a).now name) × quiet_of a b)) named listed.cause)
+      listed.comes.2
+
+  -- where the log's store is what is left of the store that it borrowed
+  pub listed_over_as : (r : Result Listed StoreFault) (order : Order) (name : List ℕ) (store mid left : S) (a b : StoreLog S) (sink sink' : SinkState) → IsBuilt order.problem → IsOrder order
+      → (log_store b).now ≡ left → (log_store a).now ≡ mid → (log_name a).now ≡ name → is_refused a ≡ false
+      → held mid name ≡ emptied (held store name) → OthersKept name (held store) (held mid) → IsQuiet (state store) (state mid)
+      → IsListedIn lines_of faults_of steady_of quiet_of (IsToldWhole order.problem order.start (lines_of a)) order r sink sink' a b
+      → IsListedWith order (Some name) r (state store) (state left) sink sink'
+  listed_over_as r order name store mid left a b sink sink' built within is_left is_mid named fresh made others quiet listed =
+      subst (λ (s : S). IsListedWith order (Some name) r (state store) (state s) sink sink') is_left
+      (subst (λ (n : List ℕ). IsListedWith order (Some n) r (state store) (state (log_store b).now) sink sink') named
+      (listed_over r order store a b sink sink' built within fresh
+      (subst (λ (n : List ℕ). held (log_store a).now n ≡ emptied (held store n)) (sym named) (subst (λ (s : S). held s name ≡ emptied (held store name)) (sym is_mid) made))
+      (subst (λ (n : List ℕ). OthersKept n (held store) (held (log_store a).now)) (sym named) (subst (λ (s : S). OthersKept name (held store) (held s)) (sym is_mid) others))
+      (subst (λ (s : S). IsQuiet (state store) (state s)) (sym is_mid) quiet)
+      listed))
