@@ -19,7 +19,6 @@ use sample_problems::{
 };
 use std::alloc::{AllocError, Global};
 use std::cmp::Ordering;
-use std::process::Abort;
 use std::test::Fail;
 use world_model::Switches;
 use world_search::{Nodes, Search, Step, StepFault};
@@ -31,7 +30,7 @@ fn tell(text: &mut String, word: &str, position: &Position) -> Result<(), AllocE
 }
 
 /// What one call of a search comes to.
-#[derive(Clone, Copy, Debug, PartialEq, Eq)]
+#[derive(Clone, Copy, PartialEq, Eq)]
 enum Came {
     World,
     Spent,
@@ -111,7 +110,7 @@ fn end_of(
 }
 
 /// By what a search knows which nodes are alive.
-#[derive(Clone, Copy, Debug)]
+#[derive(Clone, Copy)]
 enum Way {
     Table,
     Asker,
@@ -135,48 +134,169 @@ fn search_by(
     }
 }
 
+fn tell_times(
+    text: &mut String,
+    problem: &Problem,
+    asker: &mut Asker,
+    search: &mut Search,
+    left: Option<u64>,
+    times: usize,
+) -> Result<(), AllocError>
+    requires problem { search.old.problem ≡ problem.now }
+    requires shape { asker.old.shape ≡ shape_of problem.now }
+{
+    for _time in 0..times {
+        if tell_next(text, problem, asker, search, left)? {
+            return Ok(());
+        }
+    }
+    Ok(())
+}
+
+/// How a search goes: in which way, with how many nodes left, and up to how many times.
+#[derive(Clone, Copy)]
+struct Going {
+    way: Way,
+    left: Option<u64>,
+    times: usize,
+}
+
+// Here and below no `?` comes after an asker, a search or a problem is made: each would be one more place that lets it go, and
+// proving those is dear.
+fn tell_from(
+    text: &mut String,
+    alloc: Global,
+    problem: &Problem,
+    asker: &mut Asker,
+    going: Going,
+    from: Position,
+    to: Option<Position>,
+) -> Result<(), AllocError>
+    requires shape { asker.old.shape ≡ shape_of problem.now }
+    requires from { length from ≤ pair_count problem.now }
+    requires to { IfSome to (λ end. length end ≤ pair_count problem.now) }
+{
+    let mut search = search_by(alloc, problem, going.way, from, to)?;
+    tell_times(text, problem, asker, &mut search, going.left, going.times)
+}
+
+fn tell_span(
+    text: &mut String,
+    alloc: Global,
+    problem: &Problem,
+    asker: &mut Asker,
+    going: Going,
+    span: (&str, Option<&str>),
+) -> Result<(), AllocError>
+    requires { asker.old.shape ≡ shape_of problem.now }
+{
+    let start = position_of(alloc, problem, span.0)?;
+    let end = end_of(alloc, problem, span.1)?;
+    tell_from(text, alloc, problem, asker, going, start, end)
+}
+
 /// What a search of a problem meets with so many nodes left, and again with so many, up to a number of times.
+fn tell_met(
+    text: &mut String,
+    alloc: Global,
+    problem: &Problem,
+    going: Going,
+    span: (&str, Option<&str>),
+) -> Result<(), AllocError> {
+    let mut asker = Asker::new(alloc, problem)?;
+    tell_span(text, alloc, problem, &mut asker, going, span)
+}
+
 fn met(
     alloc: Global,
     problem: &Problem,
-    way: Way,
+    going: Going,
     span: (&str, Option<&str>),
-    left: Option<u64>,
-    times: usize,
 ) -> Result<String, AllocError> {
-    let start = position_of(alloc, problem, span.0)?;
-    let end = end_of(alloc, problem, span.1)?;
-    let mut asker = Asker::new(alloc, problem)?;
-    let mut search = search_by(alloc, problem, way, start, end)?;
     let mut text = String::new(alloc);
-    for _time in 0..times {
-        if tell_next(&mut text, problem, &mut asker, &mut search, left)? {
-            return Ok(text);
+    tell_met(&mut text, alloc, problem, going, span)?;
+    Ok(text)
+}
+
+/// Adds what a search meets up to the next world, and then with no node left. Whether it came to its end before.
+fn tell_behind(
+    text: &mut String,
+    problem: &Problem,
+    asker: &mut Asker,
+    search: &mut Search,
+) -> Result<bool, AllocError>
+    requires problem { search.old.problem ≡ problem.now }
+    requires shape { asker.old.shape ≡ shape_of problem.now }
+    ensures problem { search.new.problem ≡ search.old.problem }
+    ensures shape { asker.new.shape ≡ asker.old.shape }
+{
+    let mut free = Nodes { left: None };
+    if tell_step(text, problem, asker, search, &mut free)? == Came::Ended {
+        return Ok(true);
+    }
+    let mut none = Nodes { left: Some(0) };
+    tell_step(text, problem, asker, search, &mut none)?;
+    Ok(false)
+}
+
+fn tell_all_behind(
+    text: &mut String,
+    problem: &Problem,
+    asker: &mut Asker,
+    search: &mut Search,
+) -> Result<(), AllocError>
+    requires problem { search.old.problem ≡ problem.now }
+    requires shape { asker.old.shape ≡ shape_of problem.now }
+{
+    for _world in 0..1000 {
+        if tell_behind(text, problem, asker, search)? {
+            return Ok(());
         }
     }
-    Ok(text)
+    Err(AllocError)
+}
+
+fn tell_behind_by(
+    text: &mut String,
+    alloc: Global,
+    problem: &Problem,
+    asker: &mut Asker,
+    way: Way,
+) -> Result<(), AllocError>
+    requires { asker.old.shape ≡ shape_of problem.now }
+{
+    let mut search = search_by(alloc, problem, way, Position::new(alloc), None)?;
+    tell_all_behind(text, problem, asker, &mut search)
+}
+
+fn tell_met_behind(
+    text: &mut String,
+    alloc: Global,
+    problem: &Problem,
+    way: Way,
+) -> Result<(), AllocError> {
+    let mut asker = Asker::new(alloc, problem)?;
+    tell_behind_by(text, alloc, problem, &mut asker, way)
 }
 
 /// What a search meets that has no node left right behind each world, and then goes on to the next world.
 fn met_behind(alloc: Global, problem: &Problem, way: Way) -> Result<String, AllocError> {
-    let mut asker = Asker::new(alloc, problem)?;
-    let mut search = search_by(alloc, problem, way, Position::new(alloc), None)?;
     let mut text = String::new(alloc);
-    for _world in 0..1000 {
-        let mut free = Nodes { left: None };
-        if tell_step(&mut text, problem, &mut asker, &mut search, &mut free)? == Came::Ended {
-            return Ok(text);
-        }
-        let mut none = Nodes { left: Some(0) };
-        tell_step(&mut text, problem, &mut asker, &mut search, &mut none)?;
-    }
-    Err(AllocError)
+    tell_met_behind(&mut text, alloc, problem, way)?;
+    Ok(text)
 }
 
 fn is_among(worlds: &[Position], node: &Position) -> bool {
     worlds
         .iter()
         .any(|world| world.compare(node) == Ordering::Equal)
+}
+
+fn one_less(left: Option<u64>) -> Option<u64> {
+    match left {
+        Some(left) => Some(left.saturating_sub(1)),
+        None => None,
+    }
 }
 
 /// What `met` is to be by the lists of all nodes and worlds.
@@ -202,7 +322,7 @@ fn wanted(
         if is_among(worlds, node) {
             tell(&mut text, "", node)?;
         }
-        left = left.map(|left| left.saturating_sub(1));
+        left = one_less(left);
     }
     text.push_str("end -")?;
     Ok(text)
@@ -232,155 +352,322 @@ fn wanted_behind(
     Ok(text)
 }
 
-/// What a search meets in one of the ways is what the lists say: at once, node by node, and right behind each world.
-fn compare_by(
-    rt: &impl Abort,
+/// All nodes and worlds of a problem, by the plain program.
+#[derive(Clone, Copy)]
+struct Lists<'a> {
+    nodes: &'a [Position],
+    worlds: &'a [Position],
+}
+
+/// Whether a search meets what the lists say.
+fn is_met(
+    alloc: Global,
+    problem: &Problem,
+    going: Going,
+    lists: Lists<'_>,
+) -> Result<bool, AllocError> {
+    let found = met(alloc, problem, going, ("", None))?;
+    let listed = wanted(alloc, lists.nodes, lists.worlds, going.left, going.times)?;
+    Ok(found == listed)
+}
+
+/// The same right behind each world.
+fn is_met_behind(
     alloc: Global,
     problem: &Problem,
     way: Way,
-    nodes: &[Position],
-    worlds: &[Position],
-) -> Result<(), AllocError> {
-    for left in [None, Some(1), Some(2), Some(7)] {
-        let found = met(alloc, problem, way, ("", None), left, 1000)?;
-        let listed = wanted(alloc, nodes, worlds, left, 1000)?;
-        assert_eq!(rt; found.as_str(), listed.as_str(), "{way:?} {left:?}");
-    }
+    lists: Lists<'_>,
+) -> Result<bool, AllocError> {
     let found = met_behind(alloc, problem, way)?;
-    let listed = wanted_behind(alloc, nodes, worlds)?;
-    assert_eq!(rt;
-        found.as_str(),
-        listed.as_str(),
-        "{way:?} behind each world"
-    );
-    Ok(())
+    let listed = wanted_behind(alloc, lists.nodes, lists.worlds)?;
+    Ok(found == listed)
 }
 
-/// The same in both ways. How many nodes there are.
-fn compare(
-    rt: &impl Abort,
+fn sign(holds: bool) -> char {
+    if holds { '+' } else { '-' }
+}
+
+fn put_met(
+    out: &mut String,
+    alloc: Global,
+    problem: &Problem,
+    way: Way,
+    left: Option<u64>,
+    lists: Lists<'_>,
+) -> Result<(), AllocError> {
+    let going = Going {
+        way,
+        left,
+        times: 1000,
+    };
+    out.push(sign(is_met(alloc, problem, going, lists)?))
+}
+
+/// Puts whether a search in one of the ways meets what the lists say: at once, node by node, by twos and sevens, and right behind
+/// each world.
+fn put_way(
+    out: &mut String,
+    alloc: Global,
+    problem: &Problem,
+    way: Way,
+    lists: Lists<'_>,
+) -> Result<(), AllocError> {
+    put_met(out, alloc, problem, way, None, lists)?;
+    put_met(out, alloc, problem, way, Some(1), lists)?;
+    put_met(out, alloc, problem, way, Some(2), lists)?;
+    put_met(out, alloc, problem, way, Some(7), lists)?;
+    out.push(sign(is_met_behind(alloc, problem, way, lists)?))
+}
+
+/// Puts the same of both ways.
+fn put_both_ways(
+    out: &mut String,
+    alloc: Global,
+    problem: &Problem,
+    lists: Lists<'_>,
+) -> Result<(), AllocError> {
+    put_way(out, alloc, problem, Way::Table, lists)?;
+    put_way(out, alloc, problem, Way::Asker, lists)?;
+    out.push(';')
+}
+
+/// Puts whether a search stops where the lists say, at each count of nodes, and how many nodes there are.
+fn put_stops(
+    out: &mut String,
+    alloc: Global,
+    problem: &Problem,
+    lists: Lists<'_>,
+) -> Result<(), AllocError> {
+    for left in 0..=lists.nodes.len() as u64 {
+        let going = Going {
+            way: Way::Table,
+            left: Some(left),
+            times: 1,
+        };
+        out.push(sign(is_met(alloc, problem, going, lists)?))?;
+    }
+    out.push(';')
+}
+
+/// What is put of a problem: both ways, or where a search stops.
+#[derive(Clone, Copy)]
+enum What {
+    BothWays,
+    Stops,
+}
+
+fn put_with(
+    out: &mut String,
+    alloc: Global,
+    problem: &Problem,
+    nodes: &[Position],
+    what: What,
+) -> Result<(), AllocError> {
+    let worlds = worlds_between(alloc, problem, &Position::new(alloc), None)?;
+    let lists = Lists {
+        nodes,
+        worlds: &worlds,
+    };
+    match what {
+        What::BothWays => put_both_ways(out, alloc, problem, lists),
+        What::Stops => put_stops(out, alloc, problem, lists),
+    }
+}
+
+fn put_over(
+    out: &mut String,
+    alloc: Global,
+    problem: &Problem,
+    what: What,
+) -> Result<(), AllocError> {
+    let nodes = nodes_between(alloc, problem, &Position::new(alloc), None)?;
+    put_with(out, alloc, problem, &nodes, what)
+}
+
+fn put(
+    out: &mut String,
     alloc: Global,
     text: &str,
     switches: Switches,
-) -> Result<usize, AllocError> {
+    what: What,
+) -> Result<(), AllocError> {
     let problem = problem_of(alloc, text, switches)?;
-    let start = Position::new(alloc);
-    let nodes = nodes_between(alloc, &problem, &start, None)?;
-    let worlds = worlds_between(alloc, &problem, &start, None)?;
-    for way in [Way::Table, Way::Asker] {
-        compare_by(rt, alloc, &problem, way, &nodes, &worlds)?;
-    }
-    Ok(nodes.len())
+    put_over(out, alloc, &problem, what)
 }
 
-/// Problems of several families: alone, flat, with a sum, with three taxonomies, with sets that are not whole, with no possible
-/// world, and with each switch off.
-const FAMILIES: [(&str, Switches); 12] = [
-    (TWO_ALONE, ALL),
-    (TWO_ALONE, EMPTY),
-    (TWO_PARTINGS, ALL),
-    (PARTS_EQUAL, UNCOVERED),
-    (ONE_CHILD, ALL),
-    (ONE_CHILD, UNCOVERED),
-    (TWO_EQUAL, EMPTY),
-    (TWO_EQUAL, SHARED),
-    (THREE_CHILDREN, ALL),
-    (THREE_TAXONOMIES, ALL),
-    (ONE_SUM, ALL),
-    (NO_SUM, ALL),
-];
+/// Problems of several families: alone, flat, and with one child.
+fn compared_small(alloc: Global) -> Result<String, AllocError> {
+    let mut out = String::new(alloc);
+    put(&mut out, alloc, TWO_ALONE, ALL, What::BothWays)?;
+    put(&mut out, alloc, TWO_ALONE, EMPTY, What::BothWays)?;
+    put(&mut out, alloc, TWO_PARTINGS, ALL, What::BothWays)?;
+    put(&mut out, alloc, PARTS_EQUAL, UNCOVERED, What::BothWays)?;
+    put(&mut out, alloc, ONE_CHILD, ALL, What::BothWays)?;
+    put(&mut out, alloc, ONE_CHILD, UNCOVERED, What::BothWays)?;
+    Ok(out)
+}
+
+/// With sets that are not whole, with three taxonomies, with a sum, and with no possible world.
+fn compared_large(alloc: Global) -> Result<String, AllocError> {
+    let mut out = String::new(alloc);
+    put(&mut out, alloc, TWO_EQUAL, EMPTY, What::BothWays)?;
+    put(&mut out, alloc, TWO_EQUAL, SHARED, What::BothWays)?;
+    put(&mut out, alloc, THREE_CHILDREN, ALL, What::BothWays)?;
+    put(&mut out, alloc, THREE_TAXONOMIES, ALL, What::BothWays)?;
+    put(&mut out, alloc, ONE_SUM, ALL, What::BothWays)?;
+    put(&mut out, alloc, NO_SUM, ALL, What::BothWays)?;
+    Ok(out)
+}
+
+const SIX_ALIKE: &str = "++++++++++;++++++++++;++++++++++;++++++++++;++++++++++;++++++++++;";
 
 #[test]
 fn a_search_meets_what_the_plain_program_lists(rt: HostRuntime) -> Result<(), Fail> {
-    for (text, switches) in FAMILIES {
-        compare(&rt, rt.alloc(), text, switches)?;
-    }
+    let out = compared_small(rt.alloc())?;
+    assert_eq!(rt; out.as_str(), SIX_ALIKE);
     Ok(())
+}
+
+#[test]
+fn a_search_of_more_meets_what_the_plain_program_lists(rt: HostRuntime) -> Result<(), Fail> {
+    let out = compared_large(rt.alloc())?;
+    assert_eq!(rt; out.as_str(), SIX_ALIKE);
+    Ok(())
+}
+
+fn node_by_node(alloc: Global, problem: &Problem, way: Way) -> Result<String, AllocError> {
+    let going = Going {
+        way,
+        left: Some(1),
+        times: 10000,
+    };
+    met(alloc, problem, going, ("", None))
+}
+
+fn are_alike(alloc: Global, problem: &Problem) -> Result<bool, AllocError> {
+    let by_table = node_by_node(alloc, problem, Way::Table)?;
+    let by_asker = node_by_node(alloc, problem, Way::Asker)?;
+    Ok(by_table == by_asker && by_table.as_str().ends_with("end -"))
+}
+
+fn both_meet_the_same(alloc: Global) -> Result<bool, AllocError> {
+    let problem = problem_of(alloc, LOOSE_BLOCK, ALL)?;
+    are_alike(alloc, &problem)
 }
 
 // Node by node, where the plain program would take long.
 #[test]
 fn both_ways_meet_the_same(rt: HostRuntime) -> Result<(), Fail> {
-    let alloc = rt.alloc();
-    let problem = problem_of(alloc, LOOSE_BLOCK, ALL)?;
-    let by_table = met(alloc, &problem, Way::Table, ("", None), Some(1), 10000)?;
-    let by_asker = met(alloc, &problem, Way::Asker, ("", None), Some(1), 10000)?;
-    assert_eq!(rt; by_table.as_str(), by_asker.as_str());
-    assert!(rt; by_table.as_str().ends_with("end -"));
+    assert!(rt; both_meet_the_same(rt.alloc())?);
     Ok(())
 }
 
-// The numbers of nodes were counted by hand. Where a parent has one child, dead nodes stand right behind a world.
+fn stops(alloc: Global) -> Result<String, AllocError> {
+    let mut out = String::new(alloc);
+    put(&mut out, alloc, TWO_ALONE, ALL, What::Stops)?;
+    put(&mut out, alloc, ONE_CHILD, ALL, What::Stops)?;
+    put(&mut out, alloc, ONE_CHILD, UNCOVERED, What::Stops)?;
+    Ok(out)
+}
+
+// The numbers of nodes were counted by hand: 6, 12 and 17, and a search is stopped at each count from 0 on. Where a parent has one
+// child, dead nodes stand right behind a world.
 #[test]
 fn a_search_stops_at_each_count_of_nodes(rt: HostRuntime) -> Result<(), Fail> {
-    let alloc = rt.alloc();
-    for (text, switches, count) in [
-        (TWO_ALONE, ALL, 6),
-        (ONE_CHILD, ALL, 12),
-        (ONE_CHILD, UNCOVERED, 17),
-    ] {
-        let problem = problem_of(alloc, text, switches)?;
-        let start = Position::new(alloc);
-        let nodes = nodes_between(alloc, &problem, &start, None)?;
-        let worlds = worlds_between(alloc, &problem, &start, None)?;
-        assert_eq!(rt; nodes.len(), count);
-        for left in 0..=count as u64 {
-            let found = met(alloc, &problem, Way::Table, ("", None), Some(left), 1)?;
-            let listed = wanted(alloc, &nodes, &worlds, Some(left), 1)?;
-            assert_eq!(rt; found.as_str(), listed.as_str(), "{left}");
-        }
-    }
+    let out = stops(rt.alloc())?;
+    assert_eq!(rt; out.as_str(), "+++++++;+++++++++++++;++++++++++++++++++;");
     Ok(())
+}
+
+/// Puts what a search meets from a position on and below another, if there is one.
+fn put_span(
+    out: &mut String,
+    alloc: Global,
+    problem: &Problem,
+    from: &str,
+    to: Option<&str>,
+) -> Result<(), AllocError> {
+    let going = Going {
+        way: Way::Table,
+        left: None,
+        times: 1,
+    };
+    tell_met(out, alloc, problem, going, (from, to))?;
+    out.push(';')
+}
+
+fn spans_of_two(alloc: Global, problem: &Problem) -> Result<String, AllocError> {
+    let mut out = String::new(alloc);
+    put_span(&mut out, alloc, problem, "", None)?;
+    put_span(&mut out, alloc, problem, ">", Some("x"))?;
+    put_span(&mut out, alloc, problem, "!", None)?;
+    put_span(&mut out, alloc, problem, "", Some(""))?;
+    put_span(&mut out, alloc, problem, "", Some("="))?;
+    put_span(&mut out, alloc, problem, "<", Some("<"))?;
+    put_span(&mut out, alloc, problem, "x", Some(">"))?;
+    Ok(out)
+}
+
+fn two_alone(alloc: Global) -> Result<String, AllocError> {
+    let problem = problem_of(alloc, TWO_ALONE, ALL)?;
+    spans_of_two(alloc, &problem)
 }
 
 // Where a search of two concepts alone begins and ends, and what it meets.
 #[test]
 fn a_search_begins_and_ends_at_positions(rt: HostRuntime) -> Result<(), Fail> {
-    let alloc = rt.alloc();
-    let problem = problem_of(alloc, TWO_ALONE, ALL)?;
-    let rows = [
-        ("", None, "= > < x ! end -"),
-        (">", Some("x"), "> < end x "),
-        ("!", None, "! end -"),
-        ("", Some(""), "end . "),
-        ("", Some("="), "end = "),
-        ("<", Some("<"), "end < "),
-        ("x", Some(">"), "end x "),
-    ];
-    for (from, to, listed) in rows {
-        let found = met(alloc, &problem, Way::Table, (from, to), None, 1)?;
-        assert_eq!(rt; found.as_str(), listed, "{from} {to:?}");
-    }
+    let out = two_alone(rt.alloc())?;
+    assert_eq!(rt;
+        out.as_str(),
+        "= > < x ! end -;> < end x ;! end -;end . ;end = ;end < ;end x ;"
+    );
     Ok(())
 }
+
+fn spans_of_partings(alloc: Global, problem: &Problem) -> Result<String, AllocError> {
+    let mut out = String::new(alloc);
+    put_span(&mut out, alloc, problem, "==", None)?;
+    put_span(&mut out, alloc, problem, "=>><x", None)?;
+    put_span(&mut out, alloc, problem, "!", None)?;
+    put_span(&mut out, alloc, problem, "", Some("==="))?;
+    put_span(&mut out, alloc, problem, "=>><x", Some("=>><xx"))?;
+    put_span(&mut out, alloc, problem, "=>><!<<>x>>!>>!", Some(">"))?;
+    Ok(out)
+}
+
+fn two_partings(alloc: Global) -> Result<String, AllocError> {
+    let problem = problem_of(alloc, TWO_PARTINGS, ALL)?;
+    spans_of_partings(alloc, &problem)
+}
+
+const PARTINGS_MET: &str =
+    "=>><=!<!=>>!>>! =>><>x<!<>>!>>! =>><<!<x>>>!>>! =>><x><<!>>!>>! =>><xx<xx>>!>>! =>><!=<=!>>!>>! =>><!<<>x>>!>>! end -;\
+    =>><x><<!>>!>>! =>><xx<xx>>!>>! =>><!=<=!>>!>>! =>><!<<>x>>!>>! end -;end -;end => ;\
+    =>><x><<!>>!>>! end =>><xx ;=>><!<<>x>>!>>! end -;";
 
 // A start that is dead, one behind all nodes, and ends that are no nodes.
 #[test]
 fn a_start_and_an_end_need_not_be_nodes(rt: HostRuntime) -> Result<(), Fail> {
-    let alloc = rt.alloc();
-    let problem = problem_of(alloc, TWO_PARTINGS, ALL)?;
-    let last_four = "=>><x><<!>>!>>! =>><xx<xx>>!>>! =>><!=<=!>>!>>! =>><!<<>x>>!>>! end -";
-    let all = format!(in alloc; "=>><=!<!=>>!>>! =>><>x<!<>>!>>! =>><<!<x>>>!>>! {last_four}")?;
-    let rows = [
-        ("==", None, all.as_str()),
-        ("=>><x", None, last_four),
-        ("!", None, "end -"),
-        ("", Some("==="), "end => "),
-        ("=>><x", Some("=>><xx"), "=>><x><<!>>!>>! end =>><xx "),
-        ("=>><!<<>x>>!>>!", Some(">"), "=>><!<<>x>>!>>! end -"),
-    ];
-    for (from, to, listed) in rows {
-        let found = met(alloc, &problem, Way::Table, (from, to), None, 1)?;
-        assert_eq!(rt; found.as_str(), listed, "{from} {to:?}");
-    }
-    let sum = problem_of(alloc, ONE_SUM, ALL)?;
-    let rows = [
-        ("", None, "=== =>> >=< >>x >>! end -"),
-        (">=", Some(">>x"), ">=< end >>x "),
-    ];
-    for (from, to, listed) in rows {
-        let found = met(alloc, &sum, Way::Table, (from, to), None, 1)?;
-        assert_eq!(rt; found.as_str(), listed, "{from} {to:?}");
-    }
+    let out = two_partings(rt.alloc())?;
+    assert_eq!(rt; out.as_str(), PARTINGS_MET);
+    Ok(())
+}
+
+fn spans_of_a_sum(alloc: Global, problem: &Problem) -> Result<String, AllocError> {
+    let mut out = String::new(alloc);
+    put_span(&mut out, alloc, problem, "", None)?;
+    put_span(&mut out, alloc, problem, ">=", Some(">>x"))?;
+    Ok(out)
+}
+
+fn one_sum(alloc: Global) -> Result<String, AllocError> {
+    let problem = problem_of(alloc, ONE_SUM, ALL)?;
+    spans_of_a_sum(alloc, &problem)
+}
+
+#[test]
+fn a_search_of_a_sum_begins_and_ends_at_positions(rt: HostRuntime) -> Result<(), Fail> {
+    let out = one_sum(rt.alloc())?;
+    assert_eq!(rt; out.as_str(), "=== =>> >=< >>x >>! end -;>=< end >>x ;");
     Ok(())
 }

@@ -1,6 +1,6 @@
 use Rattle.std.proofs.Common.{◌≡◌}
 use Rattle.constraint_set.specs.Shape.{shape_of}
-use Rattle.checks.proofs.searches.met.Given as goal
+use Rattle.checks.proofs.searches.tell_times.Given as goal
 
 -- the search and the asker are those of the problem
 abbrev pub invariant-loop-time : goal.invariant-loop-time

@@ -1,6 +1,6 @@
 use Rattle.std.proofs.Common.{◌≡◌}
 use Rattle.constraint_set.specs.Shape.{shape_of}
-use Rattle.checks.proofs.searches.met_behind.Given as goal
+use Rattle.checks.proofs.searches.tell_all_behind.Given as goal
 
 -- the search and the asker are those of the problem
 abbrev pub invariant-loop-world : goal.invariant-loop-world
