@@ -93,7 +93,8 @@ fn listed(alloc: Global, text: &[u8], words: &str) -> Result<Vec<u8>, AllocError
 #[test]
 fn bytes_and_words_have_these_ends(rt: HostRuntime) -> Result<(), Fail> {
     let alloc = rt.alloc();
-    let marked = "\u{FEFF}# note\r\ntaxonomy 1 old list\r\n(A B)\r\n(A C) # again\r\n\r\ntaxonomy 2\r\n(D E F)\r\narticulations both\r\n[2.D == 1.A]\r\n[1.B {equals overlaps} 2.E]\r\n[1.B == 2.E]\r\n";
+    let marked =
+        "\u{FEFF}# note\r\ntaxonomy 1 old list\r\n(A B)\r\n(A C) # again\r\n\r\ntaxonomy 2\r\n(D E F)\r\narticulations both\r\n[2.D == 1.A]\r\n[1.B {equals overlaps} 2.E]\r\n[1.B == 2.E]\r\n";
     let put = listed(alloc, marked.as_bytes(), "align in=p")?;
     assert_eq!(rt; put.as_slice(), b"=>><=!<!=>>!>>!\ncomplete 1\n".as_slice());
     let put = listed(alloc, b"oops\n\n\n\n\n\n\n\n\xFF\n", "align in=p")?;

@@ -22,11 +22,7 @@ const SEVEN_LINES: &str =
     "=>><=!<!=>>!>>!\n=>><>x<!<>>!>>!\n=>><<!<x>>>!>>!\n=>><x><<!>>!>>!\n=>><xx<xx>>!>>!\n=>><!=<=!>>!>>!\n=>><!<<>x>>!>>!\n";
 
 // The exit code of a run with these words after `align in=p`, and all that its sink has received.
-fn align(
-    alloc: Global,
-    store: &mut MemoryStore,
-    words: &str,
-) -> Result<(u8, Vec<u8>), AllocError> {
+fn align(alloc: Global, store: &mut MemoryStore, words: &str) -> Result<(u8, Vec<u8>), AllocError> {
     let mut sink = MemorySink::new(alloc, Vec::new(alloc));
     let mut list = Vec::new(alloc);
     list.push(String::from_str(alloc, "align")?)?;

@@ -90,10 +90,13 @@ cert_left order to name refused held mid held' valid within made told = by (held
     by None made = tt
     by (Some before) made =
         let whole = told (ap (lines_held false) made) in
-        let bytes = told_bytes refused (held' name) (whole.0 ++ End to ∷ []) whole.2 in
-        (bytes.0, bytes.1, λ worlds exactly small.
-            let accepted = written_is_accepted_law.accepted p order.start whole.0 whole.1 to bytes.0 valid within whole.3 bytes.2 small in
-            accepted_same p order.start to accepted.0 worlds bytes.0 accepted.1 exactly accepted.2)
+        let bytes = told_bytes refused (held' name) (whole.0 ++ End to ∷ []) whole.2 in (
+          bytes.0,
+          bytes.1,
+          λ worlds exactly small.
+              let accepted = written_is_accepted_law.accepted p order.start whole.0 whole.1 to bytes.0 valid within whole.3 bytes.2 small in
+              accepted_same p order.start to accepted.0 worlds bytes.0 accepted.1 exactly accepted.2,
+        )
 
 if_ok_left : (r : Result Listed StoreFault) (order : Order) (name : List ℕ) (refused : Bool) (held mid held' : Contents) → IsBuilt order.problem → IsOrder order
     → mid name ≡ emptied (held name) → IfOk r (λ listed. IsToldWhole order.problem order.start (lines_held false (mid name)) listed.cut (lines_held refused (held' name)))
@@ -104,7 +107,7 @@ if_ok_left (Err e) order name refused held mid held' valid within made told = tt
 -- the cause of a refusal behind a call that made the name empty
 store_cause : (r : Result Listed StoreFault) (name : List ℕ) (store mid store' : StoreState) (sink sink' : SinkState) → IsQuiet store mid
     → IfFailed r ((Rose sink.faults sink'.faults × NoneMoved mid.reads store'.reads mid.writes store'.writes) ⊎ (Rose (mid.writes name) (store'.writes name) × (sink'.faults ≡ sink.faults)))
-        ((sink'.faults ≡ sink.faults) × (store'.writes name ≡ mid.writes name) × NoneMoved mid.reads store'.reads mid.writes store'.writes)
+    ((sink'.faults ≡ sink.faults) × (store'.writes name ≡ mid.writes name) × NoneMoved mid.reads store'.reads mid.writes store'.writes)
     → IfFailed r (IsWriteCause (name ∷ []) store store' sink sink') (IsQuiet store store' × (sink'.faults ≡ sink.faults))
 store_cause (Ok listed) name store mid store' sink sink' quiet cause = ((cause.2.reads ∙ quiet.0, cause.2.writes ∙ quiet.1), cause.0)
 store_cause (Err Failed) name store mid store' sink sink' quiet cause = ⊎_elim
@@ -119,7 +122,7 @@ pub listed_in_store : (r : Result Listed StoreFault) (order : Order) (name : Lis
     → IfOk r (λ listed. IsPutToCut order sink.bytes sink'.bytes listed.cut listed.count) → OnErr r (IsPutPartly order sink.bytes sink'.bytes)
     → IfOk r (λ listed. IsToldWhole order.problem order.start (lines_held false (mid.held name)) listed.cut (lines_held refused (store'.held name)))
     → IfFailed r ((Rose sink.faults sink'.faults × NoneMoved mid.reads store'.reads mid.writes store'.writes) ⊎ (Rose (mid.writes name) (store'.writes name) × (sink'.faults ≡ sink.faults)))
-        ((sink'.faults ≡ sink.faults) × (store'.writes name ≡ mid.writes name) × NoneMoved mid.reads store'.reads mid.writes store'.writes)
+    ((sink'.faults ≡ sink.faults) × (store'.writes name ≡ mid.writes name) × NoneMoved mid.reads store'.reads mid.writes store'.writes)
     → OnlyWritten name mid.held store'.held mid.reads store'.reads mid.writes store'.writes
     → IsListedWith order (Some name) r store store' sink sink'
 listed_in_store r order name refused store mid store' sink sink' valid within made others quiet ok err told cause comes = record {

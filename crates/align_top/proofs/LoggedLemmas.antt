@@ -27,9 +27,12 @@ use Rattle.align_top.specs.Logged.{IsHeaded, IsKeptIn, IsToldTo, IsToldWhole, Lo
 
 -- the first line alone keeps up with a new asker
 pub begun_kept : (p : Problem) (from : List Rel) (told : Told) (asker : AskerState) → IsNewAsker p asker → IsKeptIn p from told told asker (Some [])
-begun_kept p from told asker new headed = (Certificate p.switches from ∷ [], headed,
-    subst (λ (waiting : List Line). BeginsAndKeepsUp p from waiting asker.solver.state (Some []) (Certificate p.switches from ∷ [])) (sym new.none_waits)
-    (told_stays_up_law.begins p from asker.solver.state new.first))
+begun_kept p from told asker new headed = (
+  Certificate p.switches from ∷ [],
+  headed,
+  subst (λ (waiting : List Line). BeginsAndKeepsUp p from waiting asker.solver.state (Some []) (Certificate p.switches from ∷ [])) (sym new.none_waits)
+      (told_stays_up_law.begins p from asker.solver.state new.first),
+)
 
 -- what kept up keeps up after a step
 pub kept_on : (p : Problem) (from : List Rel) (first mid new : Told) (one other : AskerState) (at next : Option (List Rel)) → IsKeptIn p from first mid one at → AddsLines mid new
@@ -45,10 +48,13 @@ pub told_to : (p : Problem) (from : List Rel) (first mid new : Told) (one other 
     → KeepsOn p from mid new one other at next → other.solver.waiting ≡ [] → IfSome mid (λ _. next ≡ cut) → IsToldTo p from first cut new
 told_to p from first mid new one other at next cut kept adds keeps none stands headed =
     let later = kept_on p from first mid new one other at next kept adds keeps headed in
-    let is : next ≡ cut = subst (λ told. IfSome told (λ _. next ≡ cut)) (kept headed).1 stands in
-    (later.0, other.solver.state, later.1,
-    subst (λ (waiting : List Line). BeginsAndKeepsUp p from waiting other.solver.state cut later.0) none
-    (subst (λ at. BeginsAndKeepsUp p from other.solver.waiting other.solver.state at later.0) is later.2))
+    let is : next ≡ cut = subst (λ told. IfSome told (λ _. next ≡ cut)) (kept headed).1 stands in (
+      later.0,
+      other.solver.state,
+      later.1,
+      subst (λ (waiting : List Line). BeginsAndKeepsUp p from waiting other.solver.state cut later.0) none
+          (subst (λ at. BeginsAndKeepsUp p from other.solver.waiting other.solver.state at later.0) is later.2),
+    )
 
 -- a whole certificate: the first line, what is told of the walk, and the end line
 pub told_whole : (p : Problem) (from : List Rel) (cut : Option (List Rel)) (one two three four : Told) → IsToldWith one (Certificate p.switches from) two → IsToldTo p from two cut three

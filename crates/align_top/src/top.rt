@@ -5,8 +5,8 @@ ghost use Rattle.align_top.specs.Output.{listing_names, IsListingAnswer, names_o
 ghost use Rattle.align_top.specs.Steps.{IsAskable, IsMade};
 
 use crate::Asking;
-use crate::reading::order_of;
 use crate::carry::carry_out;
+use crate::reading::order_of;
 use check_run::run_check;
 use command_line::{Request, WordsFault, read_words};
 use outer_store::{Sink, Store, StoreFault};

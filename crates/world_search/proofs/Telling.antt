@@ -136,8 +136,14 @@ module _ {L : Type 0} {drops : L → Bool} {lines : L → Told} {faults : L → 
   pub log_memory : {T : Type 0} (r : Result T StepFault) (a : L) → steady a a → quiet a a → IsErrAnd r (λ f. f ≡ NoMemory) → LogGoes {T = T} drops lines faults steady quiet r a a
   log_memory {T} (Ok v) a stays still h = absurd h
   log_memory {T} (Err f) a stays still h =
-      record { told = tt; fault = fault_memory T f (Rose (faults a) (faults a)) (faults a ≡ faults a) h refl; later = omega arith; comes = stays;
-        still = fault_memory T f ⊤ (quiet a a) h still; as_before = refl }
+      record {
+        told = tt;
+        fault = fault_memory T f (Rose (faults a) (faults a)) (faults a ≡ faults a) h refl;
+        later = omega arith;
+        comes = stays;
+        still = fault_memory T f ⊤ (quiet a a) h still;
+        as_before = refl;
+      }
 
   pub log_joins : {S T : Type 0} (v : S) (r : Result T StepFault) (a b c : L) → (steady a b → steady b c → steady a c) → (quiet a b → quiet b c → quiet a c) →
       LogGoes {T = S} drops lines faults steady quiet (Ok v) a b → LogGoes {T = T} drops lines faults steady quiet r b c → LogGoes {T = T} drops lines faults steady quiet r a c
