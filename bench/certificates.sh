@@ -1,0 +1,27 @@
+#!/usr/bin/env bash
+# Lists the worlds of the furniture example, of generated problems and of flat ones with a certificate, and checks it: prints how
+# many worlds there are, the lines and bytes of the certificate, how many lines are tree lines and how many the derivation's,
+# and the processor time and peak memory of the listing and of the check (by Debian's time).
+# Words choose among them as in listing.sh; without any, all but 256 and 4x5 are written, which take minutes.
+set -eu
+cd "$(git rev-parse --show-toplevel)/crates/euler_align"
+[ -x out/euler_align ] || rt run -- align in=data/p.txt >/dev/null
+folder=$(mktemp -d)
+trap 'rm -r "$folder"' EXIT
+[ $# -gt 0 ] || set -- furniture 14 24 48 96 2x3 3x4 3x5
+for one in "$@"; do
+  case $one in
+    furniture) name=furniture; cp ../../examples/furniture.txt "$folder/p.txt" ;;
+    *x*) name=flat_$one; python3 ../../bench/problems.py flat "${one%x*}" "${one#*x}" > "$folder/p.txt" ;;
+    *) name=generated_$one; python3 ../../bench/problems.py generated 7 "$one" > "$folder/p.txt" ;;
+  esac
+  last=$(/usr/bin/time -f "%U %S %M" -o "$folder/used" out/euler_align align "in=$folder/p.txt" "cert=$folder/c" | tail -n 1)
+  accepted=$(/usr/bin/time -f "%U %S %M" -o "$folder/checked" out/euler_align check "in=$folder/p.txt" "cert=$folder/c" | tail -n 1)
+  trees=$(grep -c '^[bxew] ' "$folder/c" || true)
+  proofs=$(grep -c '^[dk] ' "$folder/c" || true)
+  bytes=$(wc -c < "$folder/c")
+  awk -v name="$name" -v last="$last" -v accepted="$accepted" -v trees="$trees" -v proofs="$proofs" -v bytes="$bytes" \
+    'NR == FNR { wrote = sprintf("%.2f s, %.1f MiB", $1 + $2, $3 / 1024); next }
+     { printf "%s: %s, %s; %d tree lines, %d derivation lines, %d bytes; written in %s; checked in %.2f s, %.1f MiB\n", name, last, accepted, trees, proofs, bytes, wrote, $1 + $2, $3 / 1024 }' \
+    "$folder/used" "$folder/checked"
+done
