@@ -10,21 +10,9 @@ use Rattle.command_line.specs.declared.Key.TheVariants.{In, Cert, Nodes, Worlds,
 use Rattle.command_line.specs.declared.Operand.{Operand}
 use Rattle.command_line.specs.declared.Request.{Request}
 use Rattle.command_line.specs.declared.UsageKind.{UsageKind}
-use Rattle.command_line.specs.Words.{row_of, number_of, fail_if, need, and_then, command_named, operands_of, same_key, is_given, value_of, limit_of, is_lacking, lacks_token, is_same_value, share_value, has_same_name, request_for, request_of}
+use Rattle.command_line.proofs.ValueLemmas.{need_ok, and_ok, fail_ok, IsValued, AreValued, operands_valued, kinds_valued, size_valued}
+use Rattle.command_line.specs.Words.{row_of, number_of, command_named, operands_of, same_key, is_given, value_of, limit_of, is_lacking, lacks_token, is_same_value, share_value, has_same_name, request_for, request_of}
 use Rattle.align_top.specs.Steps.{AreApart, IsMade}
-
--- a value that comes of some steps comes of each
-need_ok : {X Y : Type 0} (o : Option X) (kind : UsageKind) (further : X → Result Y UsageKind) (y : Y) → need o kind further ≡ Ok y → (x : X) × (further x ≡ Ok y)
-need_ok None kind further y e = cc
-need_ok (Some x) kind further y e = (x, e)
-
-and_ok : {X Y : Type 0} (r : Result X UsageKind) (further : X → Result Y UsageKind) (y : Y) → and_then r further ≡ Ok y → (x : X) × (further x ≡ Ok y)
-and_ok (Ok x) further y e = (x, e)
-and_ok (Err kind) further y e = cc
-
-fail_ok : {Y : Type 0} (test : Bool) (kind : UsageKind) (rest : Result Y UsageKind) (y : Y) → fail_if test kind rest ≡ Ok y → (test ≡ false) × (rest ≡ Ok y)
-fail_ok true kind rest y e = cc
-fail_ok false kind rest y e = (refl, e)
 
 -- what is found is there, and what is there is found
 find_none : (f : Operand → Bool) (operands : List Operand) → find f operands ≡ None → list_any f operands ≡ false
@@ -105,25 +93,28 @@ input_given operands lacking none = by (is_given operands In) (not_given operand
     by true e h = cc
     by false e h = cc
 
-made_for : (c : Command) (operands : List Operand) → is_lacking (row_of c) operands ≡ false → lacks_token operands ≡ false → has_same_name operands ≡ false → IsMade (request_for c operands)
-made_for command.Align operands lacking lacks same = record {
+made_for : (watchers : List Watched) (c : Command) (operands : List Operand) → AreValued (map (λ w. w.name) watchers) operands → is_lacking (row_of c) operands ≡ false → lacks_token operands ≡ false → has_same_name operands ≡ false → IsMade watchers (request_for c operands)
+made_for watchers command.Align operands valued lacking lacks same = record {
   apart = names_apart (value_of operands In) (value_of operands Cert) (value_of operands Token) (value_of operands Resume) (input_given operands lacking) same;
   limited = limited operands (value_of operands Token) refl lacks;
   two = two_files (value_of operands Cert) (value_of operands Token)
       (fourth_false (share_value operands In Cert) (share_value operands In Token) (share_value operands In Resume) (share_value operands Cert Token) (share_value operands Cert Resume) (share_value operands Token Resume) same);
 }
-made_for command.Check operands lacking lacks same = tt
+made_for watchers command.Check operands valued lacking lacks same = tt
+made_for watchers command.Report operands valued lacking lacks same = are_kinds watchers (kinds_of operands) (kinds_valued (map (λ w. w.name) watchers) operands valued (second_given operands lacking))
+made_for watchers command.Trial operands valued lacking lacks same = size_valued (map (λ w. w.name) watchers) operands valued (size_given operands lacking)
 
 ok_same : (a b : Request) (x y : Result Request UsageKind) → x ≡ Ok a → y ≡ Ok b → x ≡ y → a ≡ b
 ok_same a b x y p q e = cc
 
--- the names that words give are apart, and a limit has a token
-pub made : (words : List (List ℕ)) (r : Request) → request_of words ≡ Ok r → IsMade r
-made [] r e = cc
-made (word ∷ words) r e =
+-- the names that words give are apart, a limit has a token, kinds are names of watchers, and a size is one
+pub made : (watchers : List Watched) (words : List (List ℕ)) (r : Request) → request_by watchers words ≡ Ok r → IsMade watchers r
+made watchers [] r e = cc
+made watchers (word ∷ words) r e =
     let named = need_ok (command_named word) _ _ r e in
-    let operands = and_ok (operands_of (row_of named.0) [] words) _ r named.1 in
-    let lacking = fail_ok (is_lacking (row_of named.0) operands.0) _ _ r operands.1 in
+    let operands = and_ok (operands_of (map (λ w. w.name) watchers) (row_of named.0) [] words) _ r named.1 in
+    let valued = operands_valued (map (λ w. w.name) watchers) (row_of named.0) [] words operands.0 tt operands.1 in
+    let lacking = fail_ok (is_lacking (row_of named.0) operands.0) _ _ r operands.2 in
     let lacks = fail_ok (lacks_token operands.0) _ _ r lacking.1 in
     let same = fail_ok (has_same_name operands.0) _ _ r lacks.1 in
-    subst IsMade (ok_same (request_for named.0 operands.0) r (Ok (request_for named.0 operands.0)) (Ok r) refl refl same.1) (made_for named.0 operands.0 lacking.0 lacks.0 same.0)
+    subst (IsMade watchers) (ok_same (request_for named.0 operands.0) r (Ok (request_for named.0 operands.0)) (Ok r) refl refl same.1) (made_for watchers named.0 operands.0 valued lacking.0 lacks.0 same.0)

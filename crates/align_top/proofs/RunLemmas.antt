@@ -1,9 +1,10 @@
 -- How a run ends that words ask for.
-use Rattle.std.proofs.Common.{◌≡◌, ℕ, List, Result, Ok, Err, refl, sym, subst, inl, inr}
+use Rattle.std.proofs.Common.{◌≡◌, ℕ, List, [], ◌∷◌, map, Result, Ok, Err, refl, sym, ap, subst, inl, inr}
 use Rattle.outer_store.specs.declared.fault.StoreFault.{StoreFault}
 use Rattle.command_line.specs.declared.UsageKind.{UsageKind}
 use Rattle.command_line.specs.declared.Request.{Request}
-use Rattle.command_line.specs.Words.{request_of}
+use Rattle.world_watch.specs.Steps.{Texts}
+use Rattle.report_run.specs.Reporting.{Watched, watched}
 use Rattle.run_ends.specs.declared.Status.{Status}
 use Rattle.run_ends.specs.declared.Status.TheVariants as status
 use Rattle.run_ends.specs.Ends.{end_line, IsLastPut}
@@ -11,7 +12,7 @@ use Rattle.run_ends.specs.Runs.{StoreState, SinkState, IsQuiet, IsCarriedOut, Is
 use Rattle.run_ends.proofs.EndLemmas.{run_early, carried_as}
 use Rattle.align_top.specs.declared.Asking.{Asking}
 use Rattle.align_top.specs.declared.Order.{Order}
-use Rattle.align_top.specs.Output.{ComesTo, IsListingAnswer, written_names, names_of, answers_to, IsRun}
+use Rattle.align_top.specs.Output.{ComesTo, IsListingAnswer, written_names, names_of, answers_to, request_by, IsRun}
 use Rattle.align_top.specs.Steps.{order_answers}
 use Rattle.align_top.proofs.RequestLemmas.{made}
 
@@ -25,21 +26,26 @@ listing_carried asking order r one mid other old new same comes carried =
     (subst (λ (state : StoreState). IsCarriedOut (order_answers order asking.cert asking.token) r (written_names asking.cert asking.token) state other old new) same carried)
 
 -- words that are a request
-pub words_asked : (words : List (List ℕ)) (r : Request) (s : Status) (one other : StoreState) (old new : SinkState) → request_of words ≡ Ok r
-    → IsRunOf (names_of (Ok r)) (answers_to (Ok r)) s one other old new → IsRun words s one other old new
-words_asked words r s one other old new e run = subst (λ asked. IsRunOf (names_of asked) (answers_to asked) s one other old new) (sym e) run
+pub words_asked : (watchers : List Watched) (words : List (List ℕ)) (r : Request) (s : Status) (one other : StoreState) (old new : SinkState) → request_by watchers words ≡ Ok r
+    → IsRunOf (names_of (Ok r)) (answers_to watchers (Ok r)) s one other old new → IsRun watchers words s one other old new
+words_asked watchers words r s one other old new e run = subst (λ asked. IsRunOf (names_of asked) (answers_to watchers asked) s one other old new) (sym e) run
 
 -- words that are none
-pub words_refused : (words : List (List ℕ)) (kind : UsageKind) (r : Status) (one : StoreState) (old new : SinkState) → request_of words ≡ Err kind
-    → IsLastPut (status.Usage kind) r (end_line (status.Usage kind)) old.bytes new.bytes old.faults new.faults → IsRun words r one one old new
-words_refused words kind r one old new e last =
-    subst (λ asked. IsRunOf (names_of asked) (answers_to asked) r one one old new) (sym e)
-    (run_early (names_of (Err kind)) (answers_to (Err kind)) (status.Usage kind) r one one old new (inl ((refl, refl, refl), refl, (refl, refl))) refl last)
+pub words_refused : (watchers : List Watched) (words : List (List ℕ)) (kind : UsageKind) (r : Status) (one : StoreState) (old new : SinkState) → request_by watchers words ≡ Err kind
+    → IsLastPut (status.Usage kind) r (end_line (status.Usage kind)) old.bytes new.bytes old.faults new.faults → IsRun watchers words r one one old new
+words_refused watchers words kind r one old new e last =
+    subst (λ asked. IsRunOf (names_of asked) (answers_to watchers asked) r one one old new) (sym e)
+    (run_early (names_of (Err kind)) (answers_to watchers (Err kind)) (status.Usage kind) r one one old new (inl ((refl, refl, refl), refl, (refl, refl))) refl last)
 
 -- and want of memory before they are read
-pub words_starved : (words : List (List ℕ)) (r : Status) (one : StoreState) (old new : SinkState)
-    → IsLastPut status.NoMemory r (end_line status.NoMemory) old.bytes new.bytes old.faults new.faults → IsRun words r one one old new
-words_starved words r one old new last =
-    run_early (names_of (request_of words)) (answers_to (request_of words)) status.NoMemory r one one old new (inr (inr (refl, (refl, refl)))) refl last
+pub words_starved : (watchers : List Watched) (words : List (List ℕ)) (r : Status) (one : StoreState) (old new : SinkState)
+    → IsLastPut status.NoMemory r (end_line status.NoMemory) old.bytes new.bytes old.faults new.faults → IsRun watchers words r one one old new
+words_starved watchers words r one old new last =
+    run_early (names_of (request_by watchers words)) (answers_to watchers (request_by watchers words)) status.NoMemory r one one old new (inr (inr (refl, (refl, refl)))) refl last
 
-pub ruleset words_rules = (made, words_asked, words_refused, words_starved)
+-- the names of watchers as they are seen
+pub watched_names : {W : Type 0} (name : W → List ℕ) (text : W → Texts) (ws : List W) → map (λ w. w.name) (watched name text ws) ≡ map name ws
+watched_names name text [] = refl
+watched_names name text (w ∷ ws) = ap (λ names. name w ∷ names) (watched_names name text ws)
+
+pub ruleset words_rules = (made, words_asked, words_refused, words_starved, watched_names)

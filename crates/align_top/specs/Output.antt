@@ -1,5 +1,5 @@
 -- What a run answers, by its words.
-use Rattle.std.specs.Prelude.{◌≡◌, ◌≤◌, ℕ, ◌-◌, ◌^◌, min, List, [], ◌∷◌, ◌++◌, length, flat_map, Option, Some, None, IfSome, option_map, Result, Ok, Err, codes, decimal}
+use Rattle.std.specs.Prelude.{◌≡◌, ◌≤◌, ℕ, ◌-◌, ◌^◌, min, List, [], ◌∷◌, ◌++◌, length, flat_map, map, Option, Some, None, IfSome, option_map, Result, Ok, Err, codes, decimal}
 use Rattle.std.specs.Option.{option_to_list}
 use Rattle.outer_store.specs.Contents.{Contents}
 use Rattle.rcc5_core.specs.declared.Rel.{Rel}
@@ -12,7 +12,7 @@ use Rattle.resume_token.specs.declared.TokenKind.{TokenKind}
 use Rattle.resume_token.specs.Token.{token_text, token_result}
 use Rattle.command_line.specs.declared.UsageKind.{UsageKind}
 use Rattle.command_line.specs.declared.Request.{Request}
-use Rattle.command_line.specs.declared.Request.TheVariants.{Align, Check}
+use Rattle.command_line.specs.declared.Request.TheVariants.{Align, Check, Report, Trial}
 use Rattle.command_line.specs.Words.{request_of}
 use Rattle.run_ends.specs.declared.Status.{Status}
 use Rattle.run_ends.specs.declared.Status.TheVariants.{Done, RefusedText, Usage, Cut, NoWorld, RefusedToken}
@@ -21,6 +21,8 @@ use Rattle.run_ends.specs.Reads.{AreHeld}
 use Rattle.run_ends.specs.Runs.{StoreState, SinkState, File, Answers, Names, IsRunOf}
 use Rattle.cert_rules.specs.Files.{Accepts, Listing}
 use Rattle.check_run.specs.Checking.{cert_answer, check_names, IsCheckAnswer}
+use Rattle.report_run.specs.Reporting.{Watched, report_names, IsReportAnswer}
+use Rattle.trial_run.specs.Trying.{trial_names, IsTrialAnswer}
 use Rattle.align_top.specs.declared.Asking.{Asking}
 use Rattle.align_top.specs.declared.Order.{Order}
 
@@ -123,15 +125,24 @@ abbrev pub names_of : Result Request UsageKind → Names
 names_of (Ok (Align input cert switches nodes worlds token resume)) =
     listing_names (record { input = input; cert = cert; switches = switches; nodes = nodes; worlds = worlds; token = token; resume = resume })
 names_of (Ok (Check input cert switches)) = check_names input cert
+names_of (Ok (Report input kinds switches)) = report_names input
+names_of (Ok (Trial seed size)) = trial_names
 names_of (Err kind) = record { read = []; written = [] }
 
--- the answers to words
-abbrev pub answers_to : Result Request UsageKind → Answers
-answers_to (Ok (Align input cert switches nodes worlds token resume)) held status text files =
+-- the answers to words, with these watchers
+abbrev pub answers_to : List Watched → Result Request UsageKind → Answers
+answers_to watchers (Ok (Align input cert switches nodes worlds token resume)) held status text files =
     IsListingAnswer (record { input = input; cert = cert; switches = switches; nodes = nodes; worlds = worlds; token = token; resume = resume }) held status text files
-answers_to (Ok (Check input cert switches)) held status text files = IsCheckAnswer input cert switches held status text files
-answers_to (Err kind) held status text files = (status ≡ Usage kind) × (text ≡ end_line (Usage kind)) × (files ≡ [])
+answers_to watchers (Ok (Check input cert switches)) held status text files = IsCheckAnswer input cert switches held status text files
+answers_to watchers (Ok (Report input kinds switches)) held status text files = IsReportAnswer input kinds switches watchers held status text files
+answers_to watchers (Ok (Trial seed size)) held status text files = IsTrialAnswer seed size held status text files
+answers_to watchers (Err kind) held status text files = (status ≡ Usage kind) × (text ≡ end_line (Usage kind)) × (files ≡ [])
+
+-- what words ask for, by the names of the watchers
+abbrev pub request_by : List Watched → List (List ℕ) → Result Request UsageKind
+request_by watchers words = request_of (map (λ w. w.name) watchers) words
 
 -- what a run over a store and a sink does that words ask for
-abbrev pub IsRun : List (List ℕ) → Status → StoreState → StoreState → SinkState → SinkState → Type 0
-IsRun words status store store' sink sink' = IsRunOf (names_of (request_of words)) (answers_to (request_of words)) status store store' sink sink'
+abbrev pub IsRun : List Watched → List (List ℕ) → Status → StoreState → StoreState → SinkState → SinkState → Type 0
+IsRun watchers words status store store' sink sink' =
+    IsRunOf (names_of (request_by watchers words)) (answers_to watchers (request_by watchers words)) status store store' sink sink'

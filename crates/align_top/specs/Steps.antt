@@ -11,7 +11,9 @@ use Rattle.constraint_set.specs.Facts.{IsAsRead}
 use Rattle.resume_token.specs.declared.TokenKind.{TokenKind}
 use Rattle.resume_token.specs.Token.{token_text, token_result}
 use Rattle.command_line.specs.declared.Request.{Request}
-use Rattle.command_line.specs.declared.Request.TheVariants.{Align, Check}
+use Rattle.command_line.specs.declared.Request.TheVariants.{Align, Check, Report, Trial}
+use Rattle.report_run.specs.Reporting.{Watched, AreKinds}
+use Rattle.trial_run.specs.Trying.{IsSize}
 use Rattle.run_ends.specs.declared.Status.{Status}
 use Rattle.run_ends.specs.declared.Status.TheVariants.{Done, Cut, NoWorld, RefusedToken, NoMemory}
 use Rattle.run_ends.specs.Reads.{ComesOf, IsWithout}
@@ -56,11 +58,13 @@ pub record IsAskable (asking : Asking) : Type 0 where
   pub limited : IfNone asking.token ((asking.nodes ≡ None) × (asking.worlds ≡ None))
   pub two : AreApart asking.cert asking.token
 
--- a request that words can make
-abbrev pub IsMade : Request → Type 0
-IsMade (Align input cert switches nodes worlds token resume) =
+-- a request that words can make, by the watchers that there are
+abbrev pub IsMade : List Watched → Request → Type 0
+IsMade watchers (Align input cert switches nodes worlds token resume) =
     IsAskable (record { input = input; cert = cert; switches = switches; nodes = nodes; worlds = worlds; token = token; resume = resume })
-IsMade (Check input cert switches) = ⊤
+IsMade watchers (Check input cert switches) = ⊤
+IsMade watchers (Report input kinds switches) = AreKinds watchers kinds
+IsMade watchers (Trial seed size) = IsSize size
 
 -- an order that can be carried out, with the names for its certificate and its token
 pub record IsReady (order : Order) (cert token : Option (List ℕ)) : Type 0 where

@@ -1,6 +1,7 @@
 //! All that the program does with its words, a store and a sink.
 ghost use Rattle.std.specs.Prelude.{map, string_bytes, Ok};
 ghost use Rattle.run_ends.specs.Runs.{store_state, sink_state, IsRunOf};
+ghost use Rattle.report_run.specs.Reporting.{watched};
 ghost use Rattle.align_top.specs.Output.{listing_names, IsListingAnswer, names_of, answers_to, IsRun};
 ghost use Rattle.align_top.specs.Steps.{IsAskable, IsMade};
 
@@ -10,8 +11,11 @@ use crate::reading::order_of;
 use check_run::run_check;
 use command_line::{Request, WordsFault, read_words};
 use outer_store::{Sink, Store, StoreFault};
+use report_run::run_report;
 use run_ends::{Status, put_end};
 use std::alloc::Global;
+use trial_run::run_trial;
+use world_watch::WorldWatcher;
 
 // Lists what is asked for.
 fn run_align<S: Store, W: Sink>(
@@ -34,15 +38,16 @@ fn run_align<S: Store, W: Sink>(
     }
 }
 
-// Does what a request asks for.
+// Does what a request asks for. Where no report is asked for, the watchers go first.
 fn run_request<S: Store, W: Sink>(
     alloc: Global,
     store: &mut S,
     out: &mut W,
     request: Request,
+    watchers: Vec<Box<dyn WorldWatcher>>,
 ) -> Status
-    requires { IsMade request }
-    ensures { IsRunOf (names_of (Ok request)) (answers_to (Ok request)) result (store_state (S.held store.old) (S.read_faults store.old) (S.write_faults store.old)) (store_state (S.held store.new) (S.read_faults store.new) (S.write_faults store.new)) (sink_state (W.received out.old) (W.faults out.old)) (sink_state (W.received out.new) (W.faults out.new)) }
+    requires { IsMade (watched name text watchers.items) request }
+    ensures { IsRunOf (names_of (Ok request)) (answers_to (watched name text watchers.items) (Ok request)) result (store_state (S.held store.old) (S.read_faults store.old) (S.write_faults store.old)) (store_state (S.held store.new) (S.read_faults store.new) (S.write_faults store.new)) (sink_state (W.received out.old) (W.faults out.old)) (sink_state (W.received out.new) (W.faults out.new)) }
 {
     match request {
         Request::Align {
@@ -54,6 +59,7 @@ fn run_request<S: Store, W: Sink>(
             token,
             resume,
         } => {
+            drop(watchers);
             let asking = Asking {
                 input,
                 cert,
@@ -69,17 +75,35 @@ fn run_request<S: Store, W: Sink>(
             input,
             cert,
             switches,
-        } => run_check(alloc, store, out, input.text(), cert.text(), switches),
+        } => {
+            drop(watchers);
+            run_check(alloc, store, out, input.text(), cert.text(), switches)
+        }
+        Request::Report {
+            input,
+            kinds,
+            switches,
+        } => run_report(alloc, store, out, input.text(), kinds.list(), switches, watchers),
+        Request::Trial { seed, size } => {
+            drop(watchers);
+            run_trial(alloc, out, seed, size)
+        }
     }
 }
 
-/// Does what the words ask for, and answers how the run ended.
+/// Does what the words ask for, and answers how the run ended. The watchers are those that a report may ask for.
 #[tactic(auto, using(crate::proofs::RunLemmas::words_rules))]
-pub fn run<S: Store, W: Sink>(alloc: Global, words: &[String], store: &mut S, out: &mut W) -> Status
-    ensures { IsRun (map string_bytes words.now) result (store_state (S.held store.old) (S.read_faults store.old) (S.write_faults store.old)) (store_state (S.held store.new) (S.read_faults store.new) (S.write_faults store.new)) (sink_state (W.received out.old) (W.faults out.old)) (sink_state (W.received out.new) (W.faults out.new)) }
+pub fn run<S: Store, W: Sink>(
+    alloc: Global,
+    words: &[String],
+    store: &mut S,
+    out: &mut W,
+    watchers: Vec<Box<dyn WorldWatcher>>,
+) -> Status
+    ensures { IsRun (watched name text watchers.items) (map string_bytes words.now) result (store_state (S.held store.old) (S.read_faults store.old) (S.write_faults store.old)) (store_state (S.held store.new) (S.read_faults store.new) (S.write_faults store.new)) (sink_state (W.received out.old) (W.faults out.old)) (sink_state (W.received out.new) (W.faults out.new)) }
 {
-    match read_words(alloc, words) {
-        Ok(request) => run_request(alloc, store, out, request),
+    match read_words(alloc, words, &watchers) {
+        Ok(request) => run_request(alloc, store, out, request, watchers),
         Err(WordsFault::Usage(kind)) => put_end(alloc, out, Status::Usage(kind)),
         Err(WordsFault::NoMemory) => put_end(alloc, out, Status::NoMemory),
     }

@@ -3,9 +3,7 @@ use Rattle.std.specs.Prelude.{ℕ, ◌==◌, if◌then◌else◌, List, [], ◌�
 use Rattle.command_line.specs.declared.Command.{Command}
 use Rattle.command_line.specs.declared.Key.{Key}
 use Rattle.command_line.specs.declared.KeyKind.{KeyKind}
-use Rattle.command_line.specs.declared.KeyKind.TheVariants.{FileName, OnOff, Limit}
-use Rattle.command_line.specs.declared.Request.{Request}
-use Rattle.command_line.specs.declared.Request.TheVariants.{Align, Check}
+use Rattle.command_line.specs.declared.KeyKind.TheVariants.{FileName, OnOff, Limit, WatcherNames, Number, EvenSize}
 use Rattle.command_line.specs.Words.{Row, row_of, all_commands, key_name, kind_of}
 
 -- how a value is shown
@@ -13,6 +11,9 @@ abbrev pub value_form : KeyKind → List ℕ
 value_form FileName = codes "FILE"
 value_form OnOff = codes "on|off"
 value_form Limit = codes "NUMBER"
+value_form WatcherNames = codes "KIND,.."
+value_form Number = codes "NUMBER"
+value_form EvenSize = codes "NUMBER"
 
 -- how a key is shown, with its value
 abbrev pub key_form : Key → List ℕ
@@ -35,11 +36,6 @@ command_form command = row_form (row_of command)
 -- the help: a line for each command of the table
 abbrev pub usage_help : List ℕ
 usage_help = codes "the words are a command and its keys; keys in brackets may be left out:\n" ++ flat_map command_form all_commands
-
--- the file that a request reads its problem from
-abbrev pub input_of : Request → List ℕ
-input_of (Align input cert switches nodes worlds token resume) = input
-input_of (Check input cert switches) = input
 
 -- the line within a file; nothing, where the file as a whole is meant
 abbrev pub line_form : ℕ → List ℕ

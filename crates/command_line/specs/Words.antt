@@ -1,19 +1,20 @@
 -- The words of the command line: a request, or the first usage fault.
-use Rattle.std.specs.Prelude.{ℕ, ◌==◌, Bool, true, false, not, ◌||◌, ◌&&◌, ◌-◌, ◌^◌, List, [], ◌∷◌, ◌++◌, length, find, Option, Some, None, option_map, option_and_then, unwrap_or, Result, Ok, Err, if◌then◌else◌, bytes_eq, codes, ⊤}
-use Rattle.std.specs.List.{list_any, before_first, after_first}
+use Rattle.std.specs.Prelude.{ℕ, ◌==◌, ◌%◌, Bool, true, false, not, ◌||◌, ◌&&◌, ◌-◌, ◌^◌, List, [], ◌∷◌, ◌++◌, length, find, Option, Some, None, option_map, option_and_then, unwrap_or, Result, Ok, Err, if◌then◌else◌, bytes_eq, codes, ⊤}
+use Rattle.std.specs.List.{list_any, list_all, before_first, after_first}
 use Rattle.proof_text.specs.Numbers.{number_in}
+use Rattle.proof_text.specs.Words.{words_of}
 use Rattle.world_model.specs.declared.Switches.{Switches}
 use Rattle.command_line.specs.declared.Key.{Key}
-use Rattle.command_line.specs.declared.Key.TheVariants.{In, Cert, Nonempty, Sibling, Coverage, Nodes, Worlds, Token, Resume}
+use Rattle.command_line.specs.declared.Key.TheVariants.{In, Cert, Nonempty, Sibling, Coverage, Nodes, Worlds, Token, Resume, Kinds, Seed, Size}
 use Rattle.command_line.specs.declared.KeyKind.{KeyKind}
-use Rattle.command_line.specs.declared.KeyKind.TheVariants.{FileName, OnOff, Limit}
+use Rattle.command_line.specs.declared.KeyKind.TheVariants.{FileName, OnOff, Limit, WatcherNames, Number, EvenSize}
 use Rattle.command_line.specs.declared.Command.{Command}
 use Rattle.command_line.specs.declared.Command.TheVariants as command
 use Rattle.command_line.specs.declared.Operand.{Operand}
 use Rattle.command_line.specs.declared.UsageKind.{UsageKind}
-use Rattle.command_line.specs.declared.UsageKind.TheVariants.{NoCommand, UnknownCommand, NotOperand, UnknownKey, KeyTwice, BadSwitch, BadNumber, ZeroBudget, EmptyName, MissingKey, BudgetWithoutToken, SameName}
+use Rattle.command_line.specs.declared.UsageKind.TheVariants.{NoCommand, UnknownCommand, NotOperand, UnknownKey, KeyTwice, BadSwitch, BadNumber, ZeroBudget, EmptyName, UnknownKind, KindTwice, MissingKey, BudgetWithoutToken, SameName}
 use Rattle.command_line.specs.declared.Request.{Request}
-use Rattle.command_line.specs.declared.Request.TheVariants.{Align, Check}
+use Rattle.command_line.specs.declared.Request.TheVariants.{Align, Check, Mir, Report, Trial}
 use Rattle.command_line.specs.declared.WordsFault.{WordsFault}
 use Rattle.command_line.specs.declared.WordsFault.TheVariants.{Usage, NoMemory}
 
@@ -28,6 +29,9 @@ key_name Nodes = codes "nodes"
 key_name Worlds = codes "worlds"
 key_name Token = codes "token"
 key_name Resume = codes "resume"
+key_name Kinds = codes "kinds"
+key_name Seed = codes "seed"
+key_name Size = codes "size"
 
 -- what a key's value is
 abbrev pub kind_of : Key → KeyKind
@@ -40,6 +44,9 @@ kind_of Nodes = Limit
 kind_of Worlds = Limit
 kind_of Token = FileName
 kind_of Resume = FileName
+kind_of Kinds = WatcherNames
+kind_of Seed = Number
+kind_of Size = EvenSize
 
 -- whether two keys are one
 abbrev pub same_key : Key → Key → Bool
@@ -63,10 +70,25 @@ row_of command.Check = record {
   required = In ∷ Cert ∷ [];
   optional = Nonempty ∷ Sibling ∷ Coverage ∷ [];
 }
+row_of command.Mir = record {
+  name = codes "mir";
+  required = In ∷ [];
+  optional = Cert ∷ Nonempty ∷ Sibling ∷ Coverage ∷ [];
+}
+row_of command.Report = record {
+  name = codes "report";
+  required = In ∷ Kinds ∷ [];
+  optional = Nonempty ∷ Sibling ∷ Coverage ∷ [];
+}
+row_of command.Trial = record {
+  name = codes "trial";
+  required = Seed ∷ Size ∷ [];
+  optional = [];
+}
 
 -- the commands, in the order of the table
 abbrev pub all_commands : List Command
-all_commands = command.Align ∷ command.Check ∷ []
+all_commands = command.Align ∷ command.Check ∷ command.Mir ∷ command.Report ∷ command.Trial ∷ []
 
 -- the command with this name
 abbrev pub command_named : List ℕ → Option Command
@@ -120,30 +142,68 @@ abbrev pub limit_fault : Option ℕ → Option UsageKind
 limit_fault None = Some BadNumber
 limit_fault (Some number) = if number == 0 then Some ZeroBudget else None
 
--- what is wrong with a key's value
-abbrev pub value_fault : KeyKind → List ℕ → Option UsageKind
-value_fault Limit value = limit_fault (number_of value)
-value_fault OnOff value = if is_switch value then None else Some BadSwitch
-value_fault FileName value = if length value == 0 then Some EmptyName else None
+-- what is wrong with a number
+abbrev pub number_fault : Option ℕ → Option UsageKind
+number_fault None = Some BadNumber
+number_fault (Some number) = None
+
+-- the size that a word is, which must be even
+abbrev pub size_of : List ℕ → Option ℕ
+size_of word = number_in 14 256 word
+
+abbrev pub size_fault : Option ℕ → Option UsageKind
+size_fault None = Some BadNumber
+size_fault (Some size) = if size % 2 == 0 then None else Some BadNumber
+
+-- whether a byte is a comma
+abbrev pub is_comma : ℕ → Bool
+is_comma b = b == 44
+
+-- the names that a value has, with commas between them
+abbrev pub names_in : List ℕ → List (List ℕ)
+names_in value = words_of 44 value
+
+-- whether a name is one of some names
+abbrev pub is_among : List (List ℕ) → List ℕ → Bool
+is_among names word = list_any (λ name. bytes_eq word name) names
+
+-- whether a name stands twice
+abbrev pub has_twice : List (List ℕ) → Bool
+has_twice [] = false
+has_twice (name ∷ names) = is_among names name || has_twice names
+
+-- what is wrong with the names of watchers, by those that there are
+abbrev pub names_fault : List (List ℕ) → List (List ℕ) → Option UsageKind
+names_fault watchers names =
+    if not (list_all (is_among watchers) names) then Some UnknownKind else (if has_twice names then Some KindTwice else None)
+
+-- what is wrong with a key's value, by the names of the watchers
+abbrev pub value_fault : List (List ℕ) → KeyKind → List ℕ → Option UsageKind
+value_fault watchers Limit value = limit_fault (number_of value)
+value_fault watchers OnOff value = if is_switch value then None else Some BadSwitch
+value_fault watchers FileName value = if length value == 0 then Some EmptyName else None
+value_fault watchers WatcherNames value = names_fault watchers (names_in value)
+value_fault watchers Number value = number_fault (number_of value)
+value_fault watchers EvenSize value = size_fault (size_of value)
 
 -- whether a key is given
 abbrev pub is_given : List Operand → Key → Bool
 is_given operands key = list_any (λ operand. same_key operand.key key) operands
 
 -- a further word after some operands
-abbrev pub operand_of : Row → List Operand → List ℕ → Result Operand UsageKind
-operand_of row earlier word =
+abbrev pub operand_of : List (List ℕ) → Row → List Operand → List ℕ → Result Operand UsageKind
+operand_of watchers row earlier word =
     need (cut_word word) NotOperand (λ cut.
     need (key_in row cut.0) UnknownKey (λ key.
     fail_if (is_given earlier key) KeyTwice (
-    unless (value_fault (kind_of key) cut.1) (
+    unless (value_fault watchers (kind_of key) cut.1) (
     Ok (record { key = key; value = cut.1 })))))
 
 -- the further words, from the left
-abbrev pub operands_of : Row → List Operand → List (List ℕ) → Result (List Operand) UsageKind
-operands_of row earlier [] = Ok earlier
-operands_of row earlier (word ∷ words) =
-    and_then (operand_of row earlier word) (λ operand. operands_of row (earlier ++ operand ∷ []) words)
+abbrev pub operands_of : List (List ℕ) → Row → List Operand → List (List ℕ) → Result (List Operand) UsageKind
+operands_of watchers row earlier [] = Ok earlier
+operands_of watchers row earlier (word ∷ words) =
+    and_then (operand_of watchers row earlier word) (λ operand. operands_of watchers row (earlier ++ operand ∷ []) words)
 
 -- the value of a key, if it is given
 abbrev pub value_of : List Operand → Key → Option (List ℕ)
@@ -189,6 +249,16 @@ has_same_name operands =
     share_value operands In Cert || share_value operands In Token || share_value operands In Resume ||
     share_value operands Cert Token || share_value operands Cert Resume || share_value operands Token Resume
 
+-- the names of watchers, the seed and the size that are given
+abbrev pub kinds_of : List Operand → List (List ℕ)
+kinds_of operands = names_in (unwrap_or (value_of operands Kinds) [])
+
+abbrev pub seed_in : List Operand → ℕ
+seed_in operands = unwrap_or (limit_of operands Seed) 0
+
+abbrev pub size_in : List Operand → ℕ
+size_in operands = unwrap_or (option_and_then size_of (value_of operands Size)) 0
+
 -- the request of a command, whose required keys are given
 abbrev pub request_for : Command → List Operand → Request
 request_for command.Align operands =
@@ -196,13 +266,16 @@ request_for command.Align operands =
     (value_of operands Token) (value_of operands Resume)
 request_for command.Check operands =
     Check (unwrap_or (value_of operands In) []) (unwrap_or (value_of operands Cert) []) (switches_of operands)
+request_for command.Mir operands = Mir (unwrap_or (value_of operands In) []) (value_of operands Cert) (switches_of operands)
+request_for command.Report operands = Report (unwrap_or (value_of operands In) []) (kinds_of operands) (switches_of operands)
+request_for command.Trial operands = Trial (seed_in operands) (size_in operands)
 
--- what words ask for, or their first fault
-abbrev pub request_of : List (List ℕ) → Result Request UsageKind
-request_of [] = Err NoCommand
-request_of (word ∷ words) =
+-- what words ask for, or their first fault, by the names of the watchers
+abbrev pub request_of : List (List ℕ) → List (List ℕ) → Result Request UsageKind
+request_of watchers [] = Err NoCommand
+request_of watchers (word ∷ words) =
     need (command_named word) UnknownCommand (λ c.
-    and_then (operands_of (row_of c) [] words) (λ operands.
+    and_then (operands_of watchers (row_of c) [] words) (λ operands.
     fail_if (is_lacking (row_of c) operands) MissingKey (
     fail_if (lacks_token operands) BudgetWithoutToken (
     fail_if (has_same_name operands) SameName (
@@ -225,6 +298,8 @@ usage_name BadSwitch = codes "BadSwitch"
 usage_name BadNumber = codes "BadNumber"
 usage_name ZeroBudget = codes "ZeroBudget"
 usage_name EmptyName = codes "EmptyName"
+usage_name UnknownKind = codes "UnknownKind"
+usage_name KindTwice = codes "KindTwice"
 usage_name MissingKey = codes "MissingKey"
 usage_name BudgetWithoutToken = codes "BudgetWithoutToken"
 usage_name SameName = codes "SameName"

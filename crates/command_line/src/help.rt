@@ -1,8 +1,8 @@
 //! What people are told of the words that there are, and of the place of a fault.
 ghost use Rattle.std.specs.Prelude.{◌≡◌, ◌++◌, flat_map, string_bytes, IfOk, OnOk};
-ghost use Rattle.command_line.specs.Help.{value_form, key_form, required_form, optional_form, command_form, usage_help, input_of, line_form, fault_place};
+ghost use Rattle.command_line.specs.Help.{value_form, key_form, required_form, optional_form, command_form, usage_help, line_form, fault_place};
 
-use crate::{Command, Key, KeyKind, Request};
+use crate::{Command, Key, KeyKind};
 use std::alloc::{AllocError, Global};
 
 impl KeyKind {
@@ -14,18 +14,9 @@ impl KeyKind {
             KeyKind::FileName => "FILE",
             KeyKind::OnOff => "on|off",
             KeyKind::Limit => "NUMBER",
-        }
-    }
-}
-
-impl Request {
-    /// The file that the problem is read from.
-    pub fn input(&self) -> &str
-        ensures { result.now ≡ input_of self.now }
-    {
-        match self {
-            Request::Align { input, .. } => input.text(),
-            Request::Check { input, .. } => input.text(),
+            KeyKind::WatcherNames => "KIND,..",
+            KeyKind::Number => "NUMBER",
+            KeyKind::EvenSize => "NUMBER",
         }
     }
 }

@@ -6,6 +6,8 @@ ghost use Rattle.command_line.specs.declared.WordsFault.TheVariants.{NoMemory};
 ghost use Rattle.command_line.specs.Words.{usage_name};
 
 mod help;
+mod kinds;
+mod table;
 mod words;
 
 pub use help::{fault_place, usage_help};
@@ -43,6 +45,34 @@ impl Word {
     }
 }
 
+/// A list of words, seen as the list of their bytes.
+#[derive(Debug, Drop)]
+pub struct WordList {
+    list: Vec<Word>,
+}
+
+impl Model for WordList {
+    ghost use Rattle.std.specs.Prelude.{ℕ, List};
+
+    ghost Value = { List (List ℕ) };
+
+    ghost view = { λ words. words.list.items };
+}
+
+impl WordList {
+    pub fn new(list: Vec<Word>) -> WordList
+        ensures { result ≡ list.items }
+    {
+        WordList { list }
+    }
+
+    pub fn list(&self) -> &[Word]
+        ensures { result.now ≡ self.now }
+    {
+        &self.list
+    }
+}
+
 /// What the words ask for.
 #[derive(Debug, Drop)]
 pub enum Request {
@@ -65,6 +95,25 @@ pub enum Request {
         cert: Word,
         switches: Switches,
     },
+    /// Tell, for each pair of concepts of two taxonomies, which relations are possible.
+    Mir {
+        input: Word,
+        /// The file for the certificate.
+        cert: Option<Word>,
+        switches: Switches,
+    },
+    /// List the possible worlds, and let watchers report of them.
+    Report {
+        input: Word,
+        /// The names of the watchers.
+        kinds: WordList,
+        switches: Switches,
+    },
+    /// Make a problem, list its worlds, and check the certificate of the listing.
+    Trial {
+        seed: u64,
+        size: u32,
+    },
 }
 
 /// What is wrong with the words.
@@ -82,12 +131,16 @@ pub enum UsageKind {
     KeyTwice,
     #[error("a switch is neither on nor off")]
     BadSwitch,
-    #[error("a limit is no number, or one of more than 64 bits")]
+    #[error("a number is none, or has more than 64 bits, or a size is not even or not from 14 to 256")]
     BadNumber,
     #[error("a limit is 0")]
     ZeroBudget,
     #[error("a file name is empty")]
     EmptyName,
+    #[error("there is no report of this kind")]
+    UnknownKind,
+    #[error("a kind of report is given twice")]
+    KindTwice,
     #[error("a required key is missing")]
     MissingKey,
     #[error("a limit is given, but no file for the token")]
@@ -111,6 +164,8 @@ impl UsageKind {
             UsageKind::BadNumber => "BadNumber",
             UsageKind::ZeroBudget => "ZeroBudget",
             UsageKind::EmptyName => "EmptyName",
+            UsageKind::UnknownKind => "UnknownKind",
+            UsageKind::KindTwice => "KindTwice",
             UsageKind::MissingKey => "MissingKey",
             UsageKind::BudgetWithoutToken => "BudgetWithoutToken",
             UsageKind::SameName => "SameName",
@@ -148,6 +203,9 @@ impl<T: Drop> From<AllocFailed<T>> for WordsFault {
 pub enum Command {
     Align,
     Check,
+    Mir,
+    Report,
+    Trial,
 }
 
 /// What a key's value is.
@@ -157,6 +215,11 @@ pub enum KeyKind {
     OnOff,
     /// A number that isn't 0.
     Limit,
+    /// Names of watchers, with commas between them.
+    WatcherNames,
+    Number,
+    /// An even number from 14 to 256.
+    EvenSize,
 }
 
 /// A key of the command line.
@@ -171,6 +234,9 @@ pub enum Key {
     Worlds,
     Token,
     Resume,
+    Kinds,
+    Seed,
+    Size,
 }
 
 /// A key with its value.

@@ -3,6 +3,7 @@
 use super::*;
 use std::alloc::Global;
 use std::test::Fail;
+use world_watch::{CountWatcher, TallyWatcher, WorldWatcher};
 
 fn words_of(alloc: Global, text: &str) -> Result<Vec<String>, AllocError> {
     let mut words = Vec::new(alloc);
@@ -13,9 +14,13 @@ fn words_of(alloc: Global, text: &str) -> Result<Vec<String>, AllocError> {
 }
 
 // The fault of the words of a text; none where they are a request.
-fn usage_of(alloc: Global, text: &str) -> Result<Option<UsageKind>, AllocError> {
+fn usage_of(
+    alloc: Global,
+    watchers: &Vec<Box<dyn WorldWatcher>>,
+    text: &str,
+) -> Result<Option<UsageKind>, AllocError> {
     let words = words_of(alloc, text)?;
-    match read_words(alloc, &words) {
+    match read_words(alloc, &words, watchers) {
         Ok(_) => Ok(None),
         Err(WordsFault::Usage(kind)) => Ok(Some(kind)),
         Err(WordsFault::NoMemory) => Err(AllocError),
@@ -63,9 +68,26 @@ fn the_first_usage_fault_is_answered(rt: HostRuntime) -> Result<(), Fail> {
         ("align sibling= in=", UsageKind::BadSwitch),
         ("align in= sibling=1", UsageKind::EmptyName),
         ("align in= f", UsageKind::EmptyName),
+        ("mir in=f cert=f", UsageKind::SameName),
+        ("report in=f", UsageKind::MissingKey),
+        ("report in=f kinds=", UsageKind::UnknownKind),
+        ("report in=f kinds=count,", UsageKind::UnknownKind),
+        ("report in=f kinds=count,count,seen", UsageKind::UnknownKind),
+        ("report in=f kinds=count,tally,count", UsageKind::KindTwice),
+        ("report in=f kinds=count cert=c", UsageKind::UnknownKey),
+        ("trial seed=1", UsageKind::MissingKey),
+        ("trial seed=x size=14", UsageKind::BadNumber),
+        ("trial seed=1 size=12", UsageKind::BadNumber),
+        ("trial seed=1 size=15", UsageKind::BadNumber),
+        ("trial seed=1 size=258", UsageKind::BadNumber),
+        ("trial seed=1 size=14 sibling=on", UsageKind::UnknownKey),
     ];
+    let alloc = rt.alloc();
+    let mut watchers: Vec<Box<dyn WorldWatcher>> = Vec::new(alloc);
+    watchers.push(Box::new(alloc, CountWatcher::new(alloc))?)?;
+    watchers.push(Box::new(alloc, TallyWatcher::new(alloc))?)?;
     for (text, kind) in rows {
-        let found = usage_of(rt.alloc(), text)?;
+        let found = usage_of(alloc, &watchers, text)?;
         assert_eq!(rt; found, Some(kind), "{text}");
     }
     Ok(())
@@ -93,7 +115,7 @@ fn a_request_has_what_the_words_give(rt: HostRuntime) -> Result<(), Fail> {
         worlds,
         token,
         resume,
-    } = read_words(rt.alloc(), &words)?
+    } = read_words(rt.alloc(), &words, &Vec::new(rt.alloc()))?
     else {
         panic!(rt; "another request");
     };

@@ -1,71 +1,17 @@
 //! A request from the words, or the first fault of them.
-ghost use Rattle.std.specs.Prelude.{◌≡◌, ◌<◌, not, length, [], Ok, Err, IfOk, IfSome, IfNone, map, find, bytes_eq, string_bytes, unwrap_or};
+ghost use Rattle.std.specs.Prelude.{◌≡◌, ◌<◌, ◌≤◌, not, length, [], Ok, Err, IfOk, IfSome, IfNone, map, find, bytes_eq, string_bytes, unwrap_or};
 ghost use Rattle.std.specs.List.{list_any};
 ghost use Rattle.std.specs.Option.{option_copied};
-ghost use Rattle.command_line.specs.Words.{row_of, all_commands, key_name, kind_of, same_key, command_named, is_equals, cut_word, key_among, key_in, is_switch, number_of, limit_fault, limit_of, lacks_token, share_value, has_same_name, value_fault, is_given, operand_of, operands_of, value_of, is_on, switches_of, is_lacking, request_for, request_of, IfUsage};
+ghost use Rattle.command_line.specs.Words.{row_of, key_name, same_key, command_named, is_equals, cut_word, key_among, key_in, is_switch, number_of, limit_fault, number_fault, size_of, size_fault, kinds_of, seed_in, size_in, limit_of, lacks_token, share_value, has_same_name, value_fault, is_given, operand_of, operands_of, value_of, is_on, switches_of, is_lacking, request_for, request_of, IfUsage};
 
-use crate::{Command, Key, KeyKind, Operand, Request, UsageKind, Word, WordsFault};
+use crate::kinds::{names_fault, split_names};
+use crate::{Command, Key, KeyKind, Operand, Request, UsageKind, Word, WordList, WordsFault};
 use proof_text::read_number;
 use std::alloc::{AllocError, Global};
 use world_model::Switches;
-
-static COMMANDS: [Command; 2] = [Command::Align, Command::Check];
-
-static ALIGN_REQUIRED: [Key; 1] = [Key::In];
-
-static ALIGN_OPTIONAL: [Key; 8] = [
-    Key::Cert,
-    Key::Nonempty,
-    Key::Sibling,
-    Key::Coverage,
-    Key::Nodes,
-    Key::Worlds,
-    Key::Token,
-    Key::Resume,
-];
-
-static CHECK_REQUIRED: [Key; 2] = [Key::In, Key::Cert];
-
-static CHECK_OPTIONAL: [Key; 3] = [Key::Nonempty, Key::Sibling, Key::Coverage];
+use world_watch::WorldWatcher;
 
 impl Command {
-    /// All of them, in the order of the table.
-    pub fn all() -> &'static [Command]
-        ensures { result.now ≡ all_commands }
-    {
-        &COMMANDS
-    }
-
-    /// The word that stands for it.
-    pub fn name(self) -> &'static str
-        ensures { result.now ≡ (row_of self).name }
-    {
-        match self {
-            Command::Align => "align",
-            Command::Check => "check",
-        }
-    }
-
-    /// The keys that have to be given.
-    pub fn required(self) -> &'static [Key]
-        ensures { result.now ≡ (row_of self).required }
-    {
-        match self {
-            Command::Align => &ALIGN_REQUIRED,
-            Command::Check => &CHECK_REQUIRED,
-        }
-    }
-
-    /// The keys that may be given besides.
-    pub fn optional(self) -> &'static [Key]
-        ensures { result.now ≡ (row_of self).optional }
-    {
-        match self {
-            Command::Align => &ALIGN_OPTIONAL,
-            Command::Check => &CHECK_OPTIONAL,
-        }
-    }
-
     // The command of a word.
     fn named(word: &str) -> Option<Command>
         ensures { result ≡ command_named word.now }
@@ -96,34 +42,6 @@ impl Command {
 }
 
 impl Key {
-    /// How it is written.
-    pub fn name(self) -> &'static str
-        ensures { result.now ≡ key_name self }
-    {
-        match self {
-            Key::In => "in",
-            Key::Cert => "cert",
-            Key::Nonempty => "nonempty",
-            Key::Sibling => "sibling",
-            Key::Coverage => "coverage",
-            Key::Nodes => "nodes",
-            Key::Worlds => "worlds",
-            Key::Token => "token",
-            Key::Resume => "resume",
-        }
-    }
-
-    /// What its value is.
-    pub fn kind(self) -> KeyKind
-        ensures { result ≡ kind_of self }
-    {
-        match self {
-            Key::In | Key::Cert | Key::Token | Key::Resume => KeyKind::FileName,
-            Key::Nonempty | Key::Sibling | Key::Coverage => KeyKind::OnOff,
-            Key::Nodes | Key::Worlds => KeyKind::Limit,
-        }
-    }
-
     fn is_named(self, name: &str) -> bool
         ensures { result ≡ bytes_eq name.now (key_name self) }
     {
@@ -161,6 +79,14 @@ fn number_of(word: &str) -> Option<u64>
     read_number(word.as_bytes(), 0, u64::MAX)
 }
 
+// The size that a word is.
+fn size_of(word: &str) -> Option<u64>
+    ensures value { result ≡ size_of word.now }
+    ensures within { IfSome result (λ size. size ≤ 256) }
+{
+    read_number(word.as_bytes(), 14, 256)
+}
+
 fn limit_fault(number: Option<u64>) -> Option<UsageKind>
     ensures { result ≡ limit_fault number }
 {
@@ -171,15 +97,44 @@ fn limit_fault(number: Option<u64>) -> Option<UsageKind>
     }
 }
 
-fn value_fault(kind: KeyKind, value: &str) -> Option<UsageKind>
-    ensures { result ≡ value_fault kind value.now }
+// What is wrong with a size.
+fn size_fault(size: Option<u64>) -> Option<UsageKind>
+    ensures { result ≡ size_fault size }
+{
+    match size {
+        Some(size) if size % 2 == 0 => None,
+        _ => Some(UsageKind::BadNumber),
+    }
+}
+
+// What is wrong with a number.
+fn number_fault(number: Option<u64>) -> Option<UsageKind>
+    ensures { result ≡ number_fault number }
+{
+    match number {
+        Some(_) => None,
+        None => Some(UsageKind::BadNumber),
+    }
+}
+
+// What is wrong with the value of a key.
+fn value_fault(
+    alloc: Global,
+    watchers: &Vec<Box<dyn WorldWatcher>>,
+    kind: KeyKind,
+    value: &str,
+) -> Result<Option<UsageKind>, AllocError>
+    ensures { IfOk result (λ fault. fault ≡ value_fault (map name watchers.now.items) kind value.now) }
 {
     match kind {
-        KeyKind::OnOff if value == "on" || value == "off" => None,
-        KeyKind::OnOff => Some(UsageKind::BadSwitch),
-        KeyKind::FileName if value.is_empty() => Some(UsageKind::EmptyName),
-        KeyKind::FileName => None,
-        KeyKind::Limit => limit_fault(number_of(value)),
+        KeyKind::OnOff if value == "on" || value == "off" => Ok(None),
+        KeyKind::OnOff => Ok(Some(UsageKind::BadSwitch)),
+        KeyKind::FileName if value.is_empty() => Ok(Some(UsageKind::EmptyName)),
+        KeyKind::FileName => Ok(None),
+        KeyKind::Limit => Ok(limit_fault(number_of(value))),
+        KeyKind::Number => Ok(number_fault(number_of(value))),
+        KeyKind::EvenSize => Ok(size_fault(size_of(value))),
+        KeyKind::WatcherNames => Ok(names_fault(watchers, &split_names(alloc, value)?)),
     }
 }
 
@@ -257,12 +212,13 @@ fn has_same_name(operands: &[Operand]) -> bool
 // A further word after the operands before it.
 fn read_operand(
     alloc: Global,
+    watchers: &Vec<Box<dyn WorldWatcher>>,
     command: Command,
     earlier: &[Operand],
     word: &str,
 ) -> Result<Operand, WordsFault>
-    ensures ok { IfOk result (λ operand. operand_of (row_of command) earlier.now word.now ≡ Ok operand) }
-    ensures usage { IfUsage result (λ kind. operand_of (row_of command) earlier.now word.now ≡ Err kind) }
+    ensures ok { IfOk result (λ operand. operand_of (map name watchers.now.items) (row_of command) earlier.now word.now ≡ Ok operand) }
+    ensures usage { IfUsage result (λ kind. operand_of (map name watchers.now.items) (row_of command) earlier.now word.now ≡ Err kind) }
 {
     let Some((name, value)) = cut_word(word) else {
         return Err(WordsFault::Usage(UsageKind::NotOperand));
@@ -273,7 +229,7 @@ fn read_operand(
     if is_given(earlier, key) {
         return Err(WordsFault::Usage(UsageKind::KeyTwice));
     }
-    if let Some(kind) = value_fault(key.kind(), value) {
+    if let Some(kind) = value_fault(alloc, watchers, key.kind(), value)? {
         return Err(WordsFault::Usage(kind));
     }
     let text = String::from_str(alloc, value)?;
@@ -287,15 +243,16 @@ fn read_operand(
 #[tactic(auto, using(crate::proofs::WordsLemmas::operands_rules))]
 fn read_operands(
     alloc: Global,
+    watchers: &Vec<Box<dyn WorldWatcher>>,
     command: Command,
     words: &[String],
 ) -> Result<Vec<Operand>, WordsFault>
-    ensures ok { IfOk result (λ operands. operands_of (row_of command) [] (map string_bytes words.now) ≡ Ok operands.items) }
-    ensures usage { IfUsage result (λ kind. operands_of (row_of command) [] (map string_bytes words.now) ≡ Err kind) }
+    ensures ok { IfOk result (λ operands. operands_of (map name watchers.now.items) (row_of command) [] (map string_bytes words.now) ≡ Ok operands.items) }
+    ensures usage { IfUsage result (λ kind. operands_of (map name watchers.now.items) (row_of command) [] (map string_bytes words.now) ≡ Err kind) }
 {
     let mut operands = Vec::new(alloc);
     'further: for word in words {
-        let operand = read_operand(alloc, command, &operands, word.as_str())?;
+        let operand = read_operand(alloc, watchers, command, &operands, word.as_str())?;
         operands.push(operand)?;
     }
     Ok(operands)
@@ -316,6 +273,32 @@ fn switches_of(operands: &[Operand]) -> Switches
         nonempty: is_on(operands, Key::Nonempty),
         sibling: is_on(operands, Key::Sibling),
         coverage: is_on(operands, Key::Coverage),
+    }
+}
+
+// The names of watchers that are given.
+fn kinds_of(alloc: Global, operands: &[Operand]) -> Result<WordList, AllocError>
+    ensures { IfOk result (λ kinds. kinds ≡ kinds_of operands.now) }
+{
+    let value = value_of(operands, Key::Kinds).unwrap_or("");
+    Ok(WordList::new(split_names(alloc, value)?))
+}
+
+fn seed_in(operands: &[Operand]) -> u64
+    ensures { result ≡ seed_in operands.now }
+{
+    limit_of(operands, Key::Seed).unwrap_or(0)
+}
+
+fn size_in(operands: &[Operand]) -> u32
+    ensures { result ≡ size_in operands.now }
+{
+    let Some(value) = value_of(operands, Key::Size) else {
+        return 0;
+    };
+    match size_of(value) {
+        None => 0,
+        Some(size) => size as u32,
     }
 }
 
@@ -341,13 +324,31 @@ fn make_request(
             cert: required_name(alloc, operands, Key::Cert)?,
             switches: switches_of(operands),
         }),
+        Command::Mir => Ok(Request::Mir {
+            input: required_name(alloc, operands, Key::In)?,
+            cert: name_of(alloc, operands, Key::Cert)?,
+            switches: switches_of(operands),
+        }),
+        Command::Report => Ok(Request::Report {
+            input: required_name(alloc, operands, Key::In)?,
+            kinds: kinds_of(alloc, operands)?,
+            switches: switches_of(operands),
+        }),
+        Command::Trial => Ok(Request::Trial {
+            seed: seed_in(operands),
+            size: size_in(operands),
+        }),
     }
 }
 
 /// What the words after the program's name ask for, or the first of their faults.
-pub fn read_words(alloc: Global, words: &[String]) -> Result<Request, WordsFault>
-    ensures request { IfOk result (λ request. request_of (map string_bytes words.now) ≡ Ok request) }
-    ensures usage { IfUsage result (λ kind. request_of (map string_bytes words.now) ≡ Err kind) }
+pub fn read_words(
+    alloc: Global,
+    words: &[String],
+    watchers: &Vec<Box<dyn WorldWatcher>>,
+) -> Result<Request, WordsFault>
+    ensures request { IfOk result (λ request. request_of (map name watchers.now.items) (map string_bytes words.now) ≡ Ok request) }
+    ensures usage { IfUsage result (λ kind. request_of (map name watchers.now.items) (map string_bytes words.now) ≡ Err kind) }
 {
     let Some((first, further)) = words.split_first() else {
         return Err(WordsFault::Usage(UsageKind::NoCommand));
@@ -355,7 +356,7 @@ pub fn read_words(alloc: Global, words: &[String]) -> Result<Request, WordsFault
     let Some(command) = Command::named(first.as_str()) else {
         return Err(WordsFault::Usage(UsageKind::UnknownCommand));
     };
-    let operands = read_operands(alloc, command, further)?;
+    let operands = read_operands(alloc, watchers, command, further)?;
     if command.is_lacking(&operands) {
         return Err(WordsFault::Usage(UsageKind::MissingKey));
     }

@@ -6,13 +6,13 @@ use Rattle.align_top.proofs.top.run_request.Goals as goal
 
 pub returns-in-Align : goal.returns-in-Align
 returns-in-Align g c =
-    subst (λ r. IsRunOf (names_of (Ok r)) (answers_to (Ok r)) c.run_align.result
+    subst (λ r. IsRunOf (names_of (Ok r)) (answers_to (watched name text c.args.watchers.items) (Ok r)) c.run_align.result
     (store_state (g.S.Store.held c.args.store.now) (g.S.Store.read_faults c.args.store.now) (g.S.Store.write_faults c.args.store.now)) (store_state (g.S.Store.held c.run_align.new.store) (g.S.Store.read_faults c.run_align.new.store) (g.S.Store.write_faults c.run_align.new.store))
     (sink_state (g.W.Sink.received c.args.out.now) (g.W.Sink.faults c.args.out.now)) (sink_state (g.W.Sink.received c.run_align.new.out) (g.W.Sink.faults c.run_align.new.out))) (sym c.in-Align.is) c.run_align.ensures
 
 pub returns-in-Check : goal.returns-in-Check
 returns-in-Check g c =
-    subst (λ r. IsRunOf (names_of (Ok r)) (answers_to (Ok r)) c.run_check.result
+    subst (λ r. IsRunOf (names_of (Ok r)) (answers_to (watched name text c.args.watchers.items) (Ok r)) c.run_check.result
     (store_state (g.S.Store.held c.args.store.now) (g.S.Store.read_faults c.args.store.now) (g.S.Store.write_faults c.args.store.now)) (store_state (g.S.Store.held c.run_check.new.store) (g.S.Store.read_faults c.run_check.new.store) (g.S.Store.write_faults c.run_check.new.store))
     (sink_state (g.W.Sink.received c.args.out.now) (g.W.Sink.faults c.args.out.now)) (sink_state (g.W.Sink.received c.run_check.new.out) (g.W.Sink.faults c.run_check.new.out))) (sym c.in-Check.is)
     (subst (λ (input : List ℕ). IsRunOf (check_names input c.in-Check.cert) (IsCheckAnswer input c.in-Check.cert c.in-Check.switches) c.run_check.result

@@ -3,4 +3,5 @@ use Rattle.command_line.specs.Words.{row_of, operands_of}
 use Rattle.command_line.proofs.words.read_operands.Given as goal
 
 abbrev pub invariant-further : goal.invariant-further
-invariant-further l = operands_of (row_of l.command) [] (map string_bytes l.words) ≡ operands_of (row_of l.command) l.operands.items (map string_bytes (drop l.word-index l.words))
+invariant-further g l =
+    operands_of (map (λ z. (goal.WorldWatcher-dyn g (z.vtable, z.value)).name z.value) l.watchers.items) (row_of l.command) [] (map string_bytes l.words) ≡ operands_of (map (λ z. (goal.WorldWatcher-dyn g (z.vtable, z.value)).name z.value) l.watchers.items) (row_of l.command) l.operands.items (map string_bytes (drop l.word-index l.words))

@@ -1,0 +1,156 @@
+-- What is known of the values of words that are a request.
+use Rattle.std.proofs.Common.{◌≡◌, ℕ, ◌≤◌, ◌%◌, nat_eq, Bool, true, false, cond, List, [], ◌∷◌, ◌++◌, Option, None, Some, IfSome, Result, Ok, Err, refl, ap, subst, arith}
+use Rattle.std.specs.Prelude.{find, option_map, option_and_then, unwrap_or}
+use Rattle.std.proofs.lemmas.Bool.{eqb-true}
+use Rattle.proof_text.proofs.NumberLemmas.{number_in-spells}
+use Rattle.command_line.specs.declared.UsageKind.TheVariants.{BadNumber}
+use Rattle.command_line.specs.declared.Key.{Key}
+use Rattle.command_line.specs.declared.Key.TheVariants.{In, Cert, Nonempty, Sibling, Coverage, Nodes, Worlds, Token, Resume, Kinds, Seed, Size}
+use Rattle.command_line.specs.declared.Operand.{Operand}
+use Rattle.command_line.specs.declared.UsageKind.{UsageKind}
+use Rattle.command_line.specs.Words.{Row, kind_of, same_key, value_fault, need, and_then, fail_if, unless, key_in, cut_word, is_given, operand_of, operands_of, value_of, names_in, names_fault, kinds_of, size_of, size_fault, size_in}
+
+-- a value comes of each step
+pub need_ok : {X Y : Type 0} (o : Option X) (kind : UsageKind) (further : X → Result Y UsageKind) (y : Y) → need o kind further ≡ Ok y → (x : X) × (further x ≡ Ok y)
+need_ok None kind further y e = cc
+need_ok (Some x) kind further y e = (x, e)
+
+pub and_ok : {X Y : Type 0} (r : Result X UsageKind) (further : X → Result Y UsageKind) (y : Y) → and_then r further ≡ Ok y → (x : X) × (r ≡ Ok x) × (further x ≡ Ok y)
+and_ok (Ok x) further y e = (x, refl, e)
+and_ok (Err kind) further y e = cc
+
+pub fail_ok : {Y : Type 0} (test : Bool) (kind : UsageKind) (rest : Result Y UsageKind) (y : Y) → fail_if test kind rest ≡ Ok y → (test ≡ false) × (rest ≡ Ok y)
+fail_ok true kind rest y e = cc
+fail_ok false kind rest y e = (refl, e)
+
+unless_ok : {Y : Type 0} (fault : Option UsageKind) (rest : Result Y UsageKind) (y : Y) → unless fault rest ≡ Ok y → (fault ≡ None) × (rest ≡ Ok y)
+unless_ok None rest y e = (refl, e)
+unless_ok (Some kind) rest y e = cc
+
+-- the same good results
+abbrev Same : Operand → Operand → Type 0
+Same a b = ◌≡◌ {A = Result Operand UsageKind} (Ok a) (Ok b)
+
+abbrev SameAll : List Operand → List Operand → Type 0
+SameAll a b = ◌≡◌ {A = Result (List Operand) UsageKind} (Ok a) (Ok b)
+
+same_all : (a b : List Operand) → SameAll a b → a ≡ b
+same_all a b e = cc
+
+some_same : (a b : Operand) → Some a ≡ Some b → a ≡ b
+some_same a b e = cc
+
+-- an operand's value has no fault
+abbrev pub IsValued : List (List ℕ) → Operand → Type 0
+IsValued watchers operand = value_fault watchers (kind_of operand.key) operand.value ≡ None
+
+abbrev pub AreValued : List (List ℕ) → List Operand → Type 0
+AreValued watchers [] = Unit {0}
+AreValued watchers (operand ∷ operands) = IsValued watchers operand × AreValued watchers operands
+
+valued_more : (watchers : List (List ℕ)) (operands : List Operand) (operand : Operand) → AreValued watchers operands → IsValued watchers operand → AreValued watchers (operands ++ operand ∷ [])
+valued_more watchers [] operand valued one = (one, tt)
+valued_more watchers (o ∷ os) operand valued one = (valued.0, valued_more watchers os operand valued.1 one)
+
+operand_valued : (watchers : List (List ℕ)) (row : Row) (earlier : List Operand) (word : List ℕ) (operand : Operand) → operand_of watchers row earlier word ≡ Ok operand → IsValued watchers operand
+operand_valued watchers row earlier word operand e =
+    let cut = need_ok (cut_word word) _ _ operand e in
+    let key = need_ok (key_in row cut.0.0) _ _ operand cut.1 in
+    let once = fail_ok (is_given earlier key.0) _ _ operand key.1 in
+    let valued = unless_ok (value_fault watchers (kind_of key.0) cut.0.1) _ operand once.1 in
+    by (record { key = key.0; value = cut.0.1 }) operand valued.0 valued.1
+  where
+    by : (made operand : Operand) → IsValued watchers made → Same made operand → IsValued watchers operand
+    by made operand valued same = cc
+
+pub operands_valued : (watchers : List (List ℕ)) (row : Row) (earlier : List Operand) (words : List (List ℕ)) (operands : List Operand) → AreValued watchers earlier
+    → operands_of watchers row earlier words ≡ Ok operands → AreValued watchers operands
+operands_valued watchers row earlier [] operands valued e = by earlier operands valued e
+  where
+    by : (some all : List Operand) → AreValued watchers some → SameAll some all → AreValued watchers all
+    by some all valued same = subst (AreValued watchers) (same_all some all same) valued
+operands_valued watchers row earlier (word ∷ words) operands valued e =
+    let one = and_ok (operand_of watchers row earlier word) _ operands e in
+    operands_valued watchers row (earlier ++ one.0 ∷ []) words operands (valued_more watchers earlier one.0 valued (operand_valued watchers row earlier word one.0 one.1)) one.2
+
+-- so of the value that a key has
+found_valued : (watchers : List (List ℕ)) (key : Key) (operands : List Operand) (operand : Operand) → AreValued watchers operands
+    → find (λ o. same_key o.key key) operands ≡ Some operand → IsValued watchers operand × (same_key operand.key key ≡ true)
+found_valued watchers key [] operand valued e = cc
+found_valued watchers key (o ∷ os) operand valued e = by (same_key o.key key) refl (found_valued watchers key os operand valued.1) e
+  where
+    by : (b : Bool) → same_key o.key key ≡ b → (find (λ o. same_key o.key key) os ≡ Some operand → IsValued watchers operand × (same_key operand.key key ≡ true))
+        → cond b (Some o) (find (λ o. same_key o.key key) os) ≡ Some operand → IsValued watchers operand × (same_key operand.key key ≡ true)
+    by true at rest same = here o operand valued.0 at same
+      where
+        here : (a b : Operand) → IsValued watchers a → same_key a.key key ≡ true → Some a ≡ Some b → IsValued watchers b × (same_key b.key key ≡ true)
+        here a b one two same = subst (λ (o : Operand). IsValued watchers o × (same_key o.key key ≡ true)) (some_same a b same) (one, two)
+    by false at rest same = rest same
+
+of_kinds : (key : Key) → same_key key Kinds ≡ true → key ≡ Kinds
+of_kinds In e = cc
+of_kinds Cert e = cc
+of_kinds Nonempty e = cc
+of_kinds Sibling e = cc
+of_kinds Coverage e = cc
+of_kinds Nodes e = cc
+of_kinds Worlds e = cc
+of_kinds Token e = cc
+of_kinds Resume e = cc
+of_kinds Kinds e = refl
+of_kinds Seed e = cc
+of_kinds Size e = cc
+
+of_size : (key : Key) → same_key key Size ≡ true → key ≡ Size
+of_size In e = cc
+of_size Cert e = cc
+of_size Nonempty e = cc
+of_size Sibling e = cc
+of_size Coverage e = cc
+of_size Nodes e = cc
+of_size Worlds e = cc
+of_size Token e = cc
+of_size Resume e = cc
+of_size Kinds e = cc
+of_size Seed e = cc
+of_size Size e = refl
+
+-- the names of watchers that are given have no fault, nor has the size
+given_kinds : (watchers : List (List ℕ)) (operands : List Operand) (o : Option Operand) → AreValued watchers operands → find (λ o. same_key o.key Kinds) operands ≡ o
+    → (option_map (λ o. o.value) o ≡ None → ⊥) → names_fault watchers (names_in (unwrap_or (option_map (λ o. o.value) o) [])) ≡ None
+given_kinds watchers operands None valued found given = absurd (given refl)
+given_kinds watchers operands (Some o) valued found given =
+    let one = found_valued watchers Kinds operands o valued found in
+    subst (λ (key : Key). value_fault watchers (kind_of key) o.value ≡ None) (of_kinds o.key one.1) one.0
+
+pub kinds_valued : (watchers : List (List ℕ)) (operands : List Operand) → AreValued watchers operands → (value_of operands Kinds ≡ None → ⊥) → names_fault watchers (kinds_of operands) ≡ None
+kinds_valued watchers operands valued given = given_kinds watchers operands (find (λ o. same_key o.key Kinds) operands) valued refl given
+
+given_size : (watchers : List (List ℕ)) (operands : List Operand) (o : Option Operand) → AreValued watchers operands → find (λ o. same_key o.key Size) operands ≡ o
+    → (option_map (λ o. o.value) o ≡ None → ⊥) → size_fault (option_and_then size_of (option_map (λ o. o.value) o)) ≡ None
+given_size watchers operands None valued found given = absurd (given refl)
+given_size watchers operands (Some o) valued found given =
+    let one = found_valued watchers Size operands o valued found in
+    subst (λ (key : Key). value_fault watchers (kind_of key) o.value ≡ None) (of_size o.key one.1) one.0
+
+-- a size without a fault is one
+sized : (o : Option ℕ) → IfSome o (λ n. (14 ≤ n) × (n ≤ 256)) → size_fault o ≡ None → (unwrap_or o 0 % 2 ≡ 0) × (14 ≤ unwrap_or o 0) × (unwrap_or o 0 ≤ 256)
+sized None within e = cc
+sized (Some n) within e = (by (nat_eq (n % 2) 0) refl e, within.0, within.1)
+  where
+    by : (b : Bool) → nat_eq (n % 2) 0 ≡ b → cond b None (Some BadNumber) ≡ None → n % 2 ≡ 0
+    by true same e = eqb-true (n % 2) 0 same
+    by false same e = cc
+
+in_range : (o : Option (List ℕ)) → IfSome (option_and_then size_of o) (λ n. (14 ≤ n) × (n ≤ 256))
+in_range None = tt
+in_range (Some word) = by (size_of word) refl
+  where
+    by : (o : Option ℕ) → size_of word ≡ o → IfSome o (λ n. (14 ≤ n) × (n ≤ 256))
+    by None e = tt
+    by (Some n) e = let spells = number_in-spells 14 256 n word (omega arith) e in (spells.above, spells.below)
+
+pub size_valued : (watchers : List (List ℕ)) (operands : List Operand) → AreValued watchers operands → (value_of operands Size ≡ None → ⊥)
+    → (size_in operands % 2 ≡ 0) × (14 ≤ size_in operands) × (size_in operands ≤ 256)
+size_valued watchers operands valued given =
+    sized (option_and_then size_of (value_of operands Size)) (in_range (value_of operands Size)) (given_size watchers operands (find (λ o. same_key o.key Size) operands) valued refl given)
