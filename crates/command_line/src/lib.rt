@@ -95,13 +95,6 @@ pub enum Request {
         cert: Word,
         switches: Switches,
     },
-    /// Tell, for each pair of concepts of two taxonomies, which relations are possible.
-    Mir {
-        input: Word,
-        /// The file for the certificate.
-        cert: Option<Word>,
-        switches: Switches,
-    },
     /// List the possible worlds, and let watchers report of them.
     Report {
         input: Word,
@@ -203,7 +196,6 @@ impl<T: Drop> From<AllocFailed<T>> for WordsFault {
 pub enum Command {
     Align,
     Check,
-    Mir,
     Report,
     Trial,
 }

@@ -4,10 +4,9 @@ ghost use Rattle.command_line.specs.Words.{row_of, all_commands, key_name, kind_
 
 use crate::{Command, Key, KeyKind};
 
-static COMMANDS: [Command; 5] = [
+static COMMANDS: [Command; 4] = [
     Command::Align,
     Command::Check,
-    Command::Mir,
     Command::Report,
     Command::Trial,
 ];
@@ -31,8 +30,6 @@ static LISTING: [Key; 8] = [
     Key::Resume,
 ];
 
-static CERT_AND_SWITCHES: [Key; 4] = [Key::Cert, Key::Nonempty, Key::Sibling, Key::Coverage];
-
 static SWITCHES: [Key; 3] = [Key::Nonempty, Key::Sibling, Key::Coverage];
 
 static NONE: [Key; 0] = [];
@@ -52,7 +49,6 @@ impl Command {
         match self {
             Command::Align => "align",
             Command::Check => "check",
-            Command::Mir => "mir",
             Command::Report => "report",
             Command::Trial => "trial",
         }
@@ -65,7 +61,6 @@ impl Command {
         match self {
             Command::Align => &PROBLEM,
             Command::Check => &PROBLEM_AND_CERT,
-            Command::Mir => &PROBLEM,
             Command::Report => &PROBLEM_AND_KINDS,
             Command::Trial => &SEED_AND_SIZE,
         }
@@ -78,7 +73,6 @@ impl Command {
         match self {
             Command::Align => &LISTING,
             Command::Check => &SWITCHES,
-            Command::Mir => &CERT_AND_SWITCHES,
             Command::Report => &SWITCHES,
             Command::Trial => &NONE,
         }
