@@ -10,3 +10,5 @@ pub mod CarryLemmas
 pub mod LoggedLemmas
 pub mod CertifiedLemmas
 pub mod RunLemmas
+pub mod KindLemmas
+pub mod MadeLemmas

@@ -10,7 +10,6 @@ use Rattle.command_line.specs.declared.Key.TheVariants.{In, Cert, Nodes, Worlds,
 use Rattle.command_line.specs.declared.Operand.{Operand}
 use Rattle.command_line.specs.declared.Request.{Request}
 use Rattle.command_line.specs.declared.UsageKind.{UsageKind}
-use Rattle.command_line.proofs.ValueLemmas.{need_ok, and_ok, fail_ok, IsValued, AreValued, operands_valued, kinds_valued, size_valued}
 use Rattle.command_line.specs.Words.{row_of, number_of, command_named, operands_of, same_key, is_given, value_of, limit_of, is_lacking, lacks_token, is_same_value, share_value, has_same_name, request_for, request_of}
 use Rattle.align_top.specs.Steps.{AreApart, IsMade}
 
@@ -35,7 +34,7 @@ map_none : {X Y : Type 0} (f : X → Y) (o : Option X) → option_map f o ≡ No
 map_none f None e = refl
 map_none f (Some x) e = cc
 
-not_given : (operands : List Operand) (key : Key) → value_of operands key ≡ None → is_given operands key ≡ false
+pub not_given : (operands : List Operand) (key : Key) → value_of operands key ≡ None → is_given operands key ≡ false
 not_given operands key e = find_none (λ operand. same_key operand.key key) operands (map_none (λ operand. operand.value) (find (λ operand. same_key operand.key key) operands) e)
 
 no_limit : (operands : List Operand) (key : Key) → is_given operands key ≡ false → limit_of operands key ≡ None
@@ -49,7 +48,7 @@ third_false false true c d e f h = cc
 third_false false false true d e f h = cc
 third_false false false false d e f h = refl
 
-fourth_false : (a b c d e f : Bool) → (a || b || c || d || e || f) ≡ false → d ≡ false
+pub fourth_false : (a b c d e f : Bool) → (a || b || c || d || e || f) ≡ false → d ≡ false
 fourth_false true b c d e f h = cc
 fourth_false false true c d e f h = cc
 fourth_false false false true d e f h = cc
@@ -62,7 +61,7 @@ limits_false true worlds false h e = cc
 limits_false false true false h e = cc
 limits_false false false false h e = (refl, refl)
 
-names_apart : (input cert token resume : Option (List ℕ)) → (input ≡ None → ⊥)
+pub names_apart : (input cert token resume : Option (List ℕ)) → (input ≡ None → ⊥)
     → (is_same_value input cert || is_same_value input token || is_same_value input resume || is_same_value cert token || is_same_value cert resume || is_same_value token resume) ≡ false
     → IfSome resume (λ name. bytes_eq (unwrap_or input []) name ≡ false)
 names_apart input cert token None given same = tt
@@ -74,47 +73,22 @@ pub one_bytes : (xs : List ℕ) → bytes_eq xs xs ≡ true
 one_bytes [] = refl
 one_bytes (x ∷ xs) = ap (λ b. b && bytes_eq xs xs) (eq-eqb x x refl) ∙ one_bytes xs
 
-two_files : (cert token : Option (List ℕ)) → is_same_value cert token ≡ false → AreApart cert token
+pub two_files : (cert token : Option (List ℕ)) → is_same_value cert token ≡ false → AreApart cert token
 two_files None token same = tt
 two_files (Some name) None same = tt
 two_files (Some name) (Some other) same = λ e. let t = subst (λ (xs : List ℕ). bytes_eq name xs ≡ true) e (one_bytes name) in cc
 
-limited : (operands : List Operand) (token : Option (List ℕ)) → value_of operands Token ≡ token → lacks_token operands ≡ false
+pub limited : (operands : List Operand) (token : Option (List ℕ)) → value_of operands Token ≡ token → lacks_token operands ≡ false
     → IfNone token ((limit_of operands Nodes ≡ None) × (limit_of operands Worlds ≡ None))
 limited operands (Some name) e lacks = tt
 limited operands None e lacks =
     let none = limits_false (is_given operands Nodes) (is_given operands Worlds) (is_given operands Token) lacks (not_given operands Token e) in
     (no_limit operands Nodes none.0, no_limit operands Worlds none.1)
 
-input_given : (operands : List Operand) → is_lacking (row_of command.Align) operands ≡ false → value_of operands In ≡ None → ⊥
+pub input_given : (operands : List Operand) → is_lacking (row_of command.Align) operands ≡ false → value_of operands In ≡ None → ⊥
 input_given operands lacking none = by (is_given operands In) (not_given operands In none) lacking
   where
     by : (b : Bool) → b ≡ false → (not b || false) ≡ false → ⊥
     by true e h = cc
     by false e h = cc
 
-made_for : (watchers : List Watched) (c : Command) (operands : List Operand) → AreValued (map (λ w. w.name) watchers) operands → is_lacking (row_of c) operands ≡ false → lacks_token operands ≡ false → has_same_name operands ≡ false → IsMade watchers (request_for c operands)
-made_for watchers command.Align operands valued lacking lacks same = record {
-  apart = names_apart (value_of operands In) (value_of operands Cert) (value_of operands Token) (value_of operands Resume) (input_given operands lacking) same;
-  limited = limited operands (value_of operands Token) refl lacks;
-  two = two_files (value_of operands Cert) (value_of operands Token)
-      (fourth_false (share_value operands In Cert) (share_value operands In Token) (share_value operands In Resume) (share_value operands Cert Token) (share_value operands Cert Resume) (share_value operands Token Resume) same);
-}
-made_for watchers command.Check operands valued lacking lacks same = tt
-made_for watchers command.Report operands valued lacking lacks same = are_kinds watchers (kinds_of operands) (kinds_valued (map (λ w. w.name) watchers) operands valued (second_given operands lacking))
-made_for watchers command.Trial operands valued lacking lacks same = size_valued (map (λ w. w.name) watchers) operands valued (size_given operands lacking)
-
-ok_same : (a b : Request) (x y : Result Request UsageKind) → x ≡ Ok a → y ≡ Ok b → x ≡ y → a ≡ b
-ok_same a b x y p q e = cc
-
--- the names that words give are apart, a limit has a token, kinds are names of watchers, and a size is one
-pub made : (watchers : List Watched) (words : List (List ℕ)) (r : Request) → request_by watchers words ≡ Ok r → IsMade watchers r
-made watchers [] r e = cc
-made watchers (word ∷ words) r e =
-    let named = need_ok (command_named word) _ _ r e in
-    let operands = and_ok (operands_of (map (λ w. w.name) watchers) (row_of named.0) [] words) _ r named.1 in
-    let valued = operands_valued (map (λ w. w.name) watchers) (row_of named.0) [] words operands.0 tt operands.1 in
-    let lacking = fail_ok (is_lacking (row_of named.0) operands.0) _ _ r operands.2 in
-    let lacks = fail_ok (lacks_token operands.0) _ _ r lacking.1 in
-    let same = fail_ok (has_same_name operands.0) _ _ r lacks.1 in
-    subst (IsMade watchers) (ok_same (request_for named.0 operands.0) r (Ok (request_for named.0 operands.0)) (Ok r) refl refl same.1) (made_for watchers named.0 operands.0 valued lacking.0 lacks.0 same.0)

@@ -14,7 +14,7 @@ use Rattle.align_top.specs.declared.Asking.{Asking}
 use Rattle.align_top.specs.declared.Order.{Order}
 use Rattle.align_top.specs.Output.{ComesTo, IsListingAnswer, written_names, names_of, answers_to, request_by, IsRun}
 use Rattle.align_top.specs.Steps.{order_answers}
-use Rattle.align_top.proofs.RequestLemmas.{made}
+use Rattle.align_top.proofs.MadeLemmas.{made}
 
 -- an order that is carried out is what its words asked for, behind reads that left the store as it was
 pub listing_carried : (asking : Asking) (order : Order) (r : Result Status StoreFault) (one mid other : StoreState) (old new : SinkState) → mid ≡ one → ComesTo asking one.held (Ok order)

@@ -22,7 +22,7 @@ use Rattle.run_ends.specs.Runs.{StoreState, SinkState, File, Answers, Names, IsR
 use Rattle.cert_rules.specs.Files.{Accepts, Listing}
 use Rattle.check_run.specs.Checking.{cert_answer, check_names, IsCheckAnswer}
 use Rattle.report_run.specs.Reporting.{Watched, report_names, IsReportAnswer}
-use Rattle.trial_run.specs.Trying.{trial_names, IsTrialAnswer}
+use Rattle.trial_run.specs.Trials.{trial_names, IsTrialAnswer}
 use Rattle.align_top.specs.declared.Asking.{Asking}
 use Rattle.align_top.specs.declared.Order.{Order}
 

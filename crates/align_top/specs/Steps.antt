@@ -13,7 +13,7 @@ use Rattle.resume_token.specs.Token.{token_text, token_result}
 use Rattle.command_line.specs.declared.Request.{Request}
 use Rattle.command_line.specs.declared.Request.TheVariants.{Align, Check, Report, Trial}
 use Rattle.report_run.specs.Reporting.{Watched, AreKinds}
-use Rattle.trial_run.specs.Trying.{IsSize}
+use Rattle.trial_make.specs.Made.{IsSize}
 use Rattle.run_ends.specs.declared.Status.{Status}
 use Rattle.run_ends.specs.declared.Status.TheVariants.{Done, Cut, NoWorld, RefusedToken, NoMemory}
 use Rattle.run_ends.specs.Reads.{ComesOf, IsWithout}
