@@ -1,0 +1,5 @@
+pub mod Rows
+pub mod Grown
+pub mod Listed
+pub mod Members
+pub mod Drawn
