@@ -79,11 +79,6 @@ module _ (swaps : Bool) (blocks : List Block) (singles : ℕ) where
   length-trees = length-names swaps blocks singles blocks
 
 module _ (blocks : List Block) (singles : ℕ) (small : length blocks < 128) (few : singles < 3) where
-  one : Trees
-  one = trees false blocks singles
-  other : Trees
-  other = trees true blocks singles
-
   few_names : length (trees false blocks singles).names + length (trees true blocks singles).names < 1024
   few_names = omega (arith, length-trees false blocks singles, length-trees true blocks singles)
 
@@ -117,7 +112,7 @@ block_had blocks singles one other k d small few one_is other_is lt =
     (subst (λ t. BothHaveBlock (trees false blocks singles) t (get_or blocks k d).number) (sym other_is) (both_have_block blocks singles small few k d lt))
 
 -- the place of a name that is there
-place_within : (f : Trees) (name : List ℕ) → Contains f.names name → place_of f name < length f.names
+pub place_within : (f : Trees) (name : List ℕ) → Contains f.names name → place_of f name < length f.names
 place_within f name h = by (number_of f name) refl
   where
     by : (o : Option ℕ) → number_of f name ≡ o → place_of f name < length f.names

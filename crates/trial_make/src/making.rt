@@ -1,9 +1,10 @@
 //! The problem of a seed and a size.
-ghost use Rattle.std.specs.Prelude.{◌≡◌, IfOk, map, codes, ◌∷◌, []};
+ghost use Rattle.std.specs.Prelude.{◌≡◌, ◌<◌, IfOk, length, map, codes, ◌∷◌, []};
 ghost use Rattle.constraint_set.specs.Facts.{IsAsRead};
-ghost use Rattle.trial_make.specs.Made.{IsSize, made};
+ghost use Rattle.trial_make.specs.Made.{IsSize, problem_from, made};
+ghost use Rattle.trial_make.specs.Plans.{IsPlan};
 
-use crate::blocks::draw_blocks;
+use crate::blocks::{Block, draw_blocks};
 use crate::sayings::articulations;
 use crate::taxonomy::taxonomy;
 use constraint_set::{Problem, Switches};
@@ -18,6 +19,25 @@ fn two_names(alloc: Global) -> Result<Vec<Vec<u8>>, AllocError>
     Ok(vec![in alloc; one, other]?)
 }
 
+// The problem of some blocks and single concepts, in which all rules hold.
+fn problem_from(alloc: Global, blocks: &[Block], singles: u32) -> Result<Problem, AllocError>
+    requires plan { IsPlan blocks.now }
+    requires small { length blocks.now < 128 }
+    requires few { singles < 3 }
+    ensures { IfOk result (λ p. p ≡ problem_from blocks.now singles) }
+{
+    let names = two_names(alloc)?;
+    let one = taxonomy(alloc, blocks, singles, false)?;
+    let other = taxonomy(alloc, blocks, singles, true)?;
+    let said = articulations(alloc, &one, &other, blocks, singles)?;
+    let all_on = Switches {
+        nonempty: true,
+        sibling: true,
+        coverage: true,
+    };
+    Problem::new(alloc, names, vec![in alloc; one, other]?, said, all_on)
+}
+
 /// The problem of a seed and a size, which is how many concepts it has. All rules hold in it.
 ///
 /// Both taxonomies have one root, and under it blocks of a concept with two children, and at most two single concepts. In all blocks
@@ -27,16 +47,7 @@ pub fn make_problem(alloc: Global, seed: u64, size: u32) -> Result<Problem, Allo
     ensures made { IfOk result (λ p. p ≡ made seed size) }
     ensures as_read { IfOk result (λ p. IsAsRead p) }
 {
-    let names = two_names(alloc)?;
-    let blocks = draw_blocks(alloc, seed, (size / 2 - 1) / 3)?;
-    let singles = (size / 2 - 1) % 3;
-    let one = taxonomy(alloc, &blocks, singles, false)?;
-    let other = taxonomy(alloc, &blocks, singles, true)?;
-    let said = articulations(alloc, &one, &other, &blocks, singles)?;
-    let all_on = Switches {
-        nonempty: true,
-        sibling: true,
-        coverage: true,
-    };
-    Problem::new(alloc, names, vec![in alloc; one, other]?, said, all_on)
+    let half = size / 2;
+    let blocks = draw_blocks(alloc, seed, (half - 1) / 3)?;
+    problem_from(alloc, &blocks, (half - 1) % 3)
 }
