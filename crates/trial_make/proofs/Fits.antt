@@ -63,7 +63,7 @@ fits ids list switches one other name set h =
     let order : nat_lt i (m + j) ≡ true = lt-ltb _ _ (omega arith) in
     let within : nat_lt (m + j) (length (owners m n)) ≡ true = lt-ltb _ _ (omega (arith, length-owners m n)) in
     let cross : not (get_or (owners m n) i 0 == get_or (owners m n) (m + j) 0) ≡ true =
-      ap (λ (o : ℕ). not (o == get_or (owners m n) (m + j) 0)) (owner-left m n i left) ∙ ap (λ (o : ℕ). not (0 == o)) (owner-right m n j right) in
+    ap (λ (o : ℕ). not (o == get_or (owners m n) (m + j) 0)) (owner-left m n i left) ∙ ap (λ (o : ℕ). not (0 == o)) (owner-right m n j right) in
     and_three _ _ _ order within cross
 
 module _ (blocks : List Block) (singles : ℕ) (small : length blocks < 128) (few : singles < 3) where

@@ -92,16 +92,16 @@ unfolding one_root
 first_row swaps blocks singles g e =
     let new = with_name-new 1024 no_trees (codes "r") refl (omega arith) in
     let made : add_children 1024 0 one_root (tops blocks singles) ≡ Ok g =
-      subst (λ t. and_then t (λ f. add_children 1024 0 f (tops blocks singles)) ≡ Ok g) new e in
+    subst (λ t. and_then t (λ f. add_children 1024 0 f (tops blocks singles)) ≡ Ok g) new e in
     let put = kids_put 1024 0 one_root (tops blocks singles) g has_root-one (omega arith) (tops_no_roots blocks singles) made in
     let names : codes "r" ∷ tops blocks singles ≡ codes "r" ∷ tops blocks singles ++ [] = ap (λ names. codes "r" ∷ names) (sym (append-nil (tops blocks singles))) in
     let count : length (tops blocks singles) ≡ length blocks + singles = length-tops blocks singles in
     let under : Option ℕ = Some 0 in
     let parents : ◌≡◌ {A = List (Option ℕ)} (None ∷ replicate (length (tops blocks singles)) under) (None ∷ replicate (length blocks + singles) under ++ []) =
-      ap (λ n. None ∷ replicate n under) count ∙ ap (λ list. None ∷ list) (sym (append-nil (replicate (length blocks + singles) under))) in
+    ap (λ n. None ∷ replicate n under) count ∙ ap (λ list. None ∷ list) (sym (append-nil (replicate (length blocks + singles) under))) in
     let all : length blocks + singles ≡ length blocks + singles + 0 = omega arith in
     let children : range_with_len 1 (length (tops blocks singles)) ∷ replicate (length (tops blocks singles)) [] ≡ range_with_len 1 (length blocks + singles) ∷ replicate (length blocks + singles + 0) [] =
-      ap (λ n. range_with_len 1 n ∷ replicate n []) count ∙ ap (λ n. range_with_len 1 (length blocks + singles) ∷ replicate n []) all in
+    ap (λ n. range_with_len 1 n ∷ replicate n []) count ∙ ap (λ n. range_with_len 1 (length blocks + singles) ∷ replicate n []) all in
     (put.0 ∙ same_trees (with_kids 0 one_root (tops blocks singles)) (grown swaps blocks singles []) names parents children, put.1)
 
 -- the row of a block
@@ -161,20 +161,28 @@ module _ (swaps : Bool) (blocks : List Block) (singles : ℕ) where
     where
       before : List (List ℕ)
       before = range_with_len 1 (length blocks + singles) ∷ map (kid_numbers (length blocks + singles)) done
+
       new : List ℕ
       new = count ∷ (count + 1) ∷ []
+
       j : ℕ
       j = length blocks + singles + length done - 1
+
       split : lists ≡ before ++ [] ∷ replicate j []
       split = lists_are ∙ ap (λ n. before ++ replicate n []) (let e : length blocks + singles + length done ≡ suc j = omega arith in e)
+
       place : block.number ≡ length before
       place = omega (arith, length-map done (kid_numbers (length blocks + singles)))
+
       new_is : new ≡ kid_numbers (length blocks + singles) block
       new_is = ap (λ n. n ∷ (n + 1) ∷ []) (let e : count ≡ length blocks + singles + 2 * block.number - 1 = omega arith in e)
+
       left : j + 2 ≡ length blocks + singles + length (done ++ block ∷ [])
       left = omega (arith, length-append done (block ∷ []))
+
       tail : List (List ℕ)
       tail = replicate (length blocks + singles + length (done ++ block ∷ [])) []
+
       joined : map (kid_numbers (length blocks + singles)) (done ++ block ∷ []) ++ tail ≡ map (kid_numbers (length blocks + singles)) done ++ kid_numbers (length blocks + singles) block ∷ tail
       joined =
           ap (λ list. list ++ tail) (map-append (kid_numbers (length blocks + singles)) done (block ∷ []))
@@ -210,13 +218,13 @@ block_row-grown swaps blocks singles k d f g plan lt f_is root forest made =
     let in_tops : k < length (map (λ b. block_name b.number) blocks) = omega (arith, length-map blocks (λ b. block_name b.number)) in
     let in_all : k < length (tops blocks singles) = omega (arith, length-tops blocks singles) in
     let name : get_or f.names (k + 1) [] ≡ block_name block.number =
-      ap (λ names. get_or names (k + 1) []) names_are
-      ∙ ap (λ i. get_or (codes "r" ∷ tops blocks singles ++ flat_map (kids swaps) (take k blocks)) i []) (add-one k)
-      ∙ get_or_append_left (tops blocks singles) (flat_map (kids swaps) (take k blocks)) [] k in_all
-      ∙ get_or_append_left (map (λ b. block_name b.number) blocks) (map single_name (range_with_len 1 singles)) [] k in_tops
-      ∙ get_or-map (λ b. block_name b.number) blocks k d [] lt in
+    ap (λ names. get_or names (k + 1) []) names_are
+    ∙ ap (λ i. get_or (codes "r" ∷ tops blocks singles ++ flat_map (kids swaps) (take k blocks)) i []) (add-one k)
+    ∙ get_or_append_left (tops blocks singles) (flat_map (kids swaps) (take k blocks)) [] k in_all
+    ∙ get_or_append_left (map (λ b. block_name b.number) blocks) (map single_name (range_with_len 1 singles)) [] k in_tops
+    ∙ get_or-map (λ b. block_name b.number) blocks k d [] lt in
     let found : number_of f (block_name block.number) ≡ Some block.number =
-      own_number f block.number (block_name block.number) forest within (ap (λ i. get_or f.names i []) number ∙ name) in
+    own_number f block.number (block_name block.number) forest within (ap (λ i. get_or f.names i []) number ∙ name) in
     let put = row_put 1024 block.number f (block_name block.number) (kids swaps block) g root found (kids_no_roots swaps block) made in
     let more = grown_more swaps blocks singles (take k blocks) block (omega arith) (omega arith) in
     let next : take k blocks ++ block ∷ [] ≡ take (k + 1) blocks = sym (take_more blocks k d lt) in

@@ -44,8 +44,10 @@ kids_have true block = by block.is_swapped
   where
     left : List ℕ
     left = left_name block.number
+
     right : List ℕ
     right = right_name block.number
+
     by : (b : Bool) → Contains (cond b (right ∷ left ∷ []) (left ∷ right ∷ [])) left × Contains (cond b (right ∷ left ∷ []) (left ∷ right ∷ [])) right
     by true = (Contains-get_or (right ∷ left ∷ []) 1 [] (omega arith), Contains-get_or (right ∷ left ∷ []) 0 [] (omega arith))
     by false = (Contains-get_or (left ∷ right ∷ []) 0 [] (omega arith), Contains-get_or (left ∷ right ∷ []) 1 [] (omega arith))
@@ -143,7 +145,7 @@ module _ (test : Articulation → Bool) (one other : Trees)
 
 pub all_pass : (test : Articulation → Bool) (blocks : List Block) (singles : ℕ) → length blocks < 128 → singles < 3
     → ((name : List ℕ) (set : RelSet) → BothHave (trees false blocks singles) (trees true blocks singles) name → is_empty_set set ≡ false
-      → test (said_of (trees false blocks singles) (trees true blocks singles) name set) ≡ true)
+    → test (said_of (trees false blocks singles) (trees true blocks singles) name set) ≡ true)
     → list_all test (articulations (trees false blocks singles) (trees true blocks singles) blocks singles) ≡ true
 all_pass test blocks singles small few each =
     let one = trees false blocks singles in

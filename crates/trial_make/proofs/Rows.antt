@@ -47,10 +47,10 @@ linked p f name g h lt e =
     let counted : length f.parents ≡ n = h.parents_counted in
     let within : p < length f.children = omega (arith, h.children_counted) in
     let parents : set (f.parents ++ None ∷ []) n (Some p) ≡ f.parents ++ Some p ∷ [] =
-      ap (λ i. set (f.parents ++ None ∷ []) i (Some p)) (sym counted) ∙ set-append_seam f.parents None [] (Some p) in
+    ap (λ i. set (f.parents ++ None ∷ []) i (Some p)) (sym counted) ∙ set-append_seam f.parents None [] (Some p) in
     let now : children_of (with_root f name) p ≡ children_of f p = children_of-with_root f name p in
     let children : set (f.children ++ [] ∷ []) p (children_of (with_root f name) p ++ n ∷ []) ≡ set f.children p (children_of f p ++ n ∷ []) ++ [] ∷ [] =
-      ap (λ list. set (f.children ++ [] ∷ []) p (list ++ n ∷ [])) now ∙ set-append_left f.children ([] ∷ []) p (children_of f p ++ n ∷ []) within in
+    ap (λ list. set (f.children ++ [] ∷ []) p (list ++ n ∷ [])) now ∙ set-append_left f.children ([] ∷ []) p (children_of f p ++ n ∷ []) within in
     links.is ∙ same_trees (with_child (with_root f name) p n) (with_kids p f (name ∷ [])) refl parents children
 
 -- one child
@@ -60,6 +60,7 @@ kid_put limit p f name g h lt other e = by (number_of f name) refl
   where
     made : (t : Trees) × (with_name limit f name ≡ Ok t) × (with_link p t (place_of f name) ≡ Ok g)
     made = then_Ok (with_name limit f name) (λ t. with_link p t (place_of f name)) g e
+
     by : (o : Option ℕ) → number_of f name ≡ o → g ≡ with_kids p f (name ∷ [])
     by (Some k) found =
         let place = place_of-found f name k found in
@@ -89,6 +90,7 @@ rooted p f name h = record {
   where
     changed : List (List ℕ)
     changed = set f.children p (children_of f p ++ length f.names ∷ [])
+
     only : (c : ℕ) → c < length (f.names ++ name ∷ []) → get_or (f.parents ++ Some p ∷ []) c None ≡ None → c ≡ 0
     only c lt none = elim (cases_lt c (length f.names)) [
       | inl old ↦ (
@@ -108,28 +110,40 @@ joined p f name names h lt = same_trees (with_kids p (with_kids p f (name ∷ []
   where
     n : ℕ
     n = length f.names
+
     k : ℕ
     k = length names
+
     on_names : (f.names ++ name ∷ []) ++ names ≡ f.names ++ name ∷ names
     on_names = append_assoc f.names (name ∷ []) names
+
     on_parents : (f.parents ++ Some p ∷ []) ++ replicate k (Some p) ≡ f.parents ++ Some p ∷ replicate k (Some p)
     on_parents = append_assoc f.parents (Some p ∷ []) (replicate k (Some p))
+
     old : List ℕ
     old = children_of f p
+
     within : p < length f.children
     within = omega (arith, h.children_counted)
+
     one : List (List ℕ)
     one = set f.children p (old ++ n ∷ [])
+
     in_one : p < length one
     in_one = omega (arith, length-set f.children p (old ++ n ∷ []), within)
+
     had : get_or (one ++ [] ∷ []) p [] ≡ old ++ n ∷ []
     had = get_or_append_left one ([] ∷ []) [] p in_one ∙ get_or-set_same f.children p (old ++ n ∷ []) [] within
+
     count : length (f.names ++ name ∷ []) ≡ n + 1
     count = length-append f.names (name ∷ [])
+
     all : List ℕ
     all = old ++ n ∷ range_with_len (n + 1) k
+
     more : get_or (one ++ [] ∷ []) p [] ++ range_with_len (length (f.names ++ name ∷ [])) k ≡ all
     more = ap (λ list. list ++ range_with_len (length (f.names ++ name ∷ [])) k) had ∙ ap (λ m. (old ++ n ∷ []) ++ range_with_len m k) count ∙ append_assoc old (n ∷ []) (range_with_len (n + 1) k)
+
     on_children : set (one ++ [] ∷ []) p (get_or (one ++ [] ∷ []) p [] ++ range_with_len (length (f.names ++ name ∷ [])) k) ++ replicate k [] ≡ set f.children p all ++ [] ∷ replicate k []
     on_children =
         ap (λ list. set (one ++ [] ∷ []) p list ++ replicate k []) more
@@ -164,7 +178,7 @@ pub row_put : (limit p : ℕ) (f : Trees) (name : List ℕ) (names : List (List 
 row_put limit p f name names g h found none e =
     let place = place_of-found f name p found in
     let at : and_then (with_name limit f name) (λ t. add_children limit p t names) ≡ Ok g =
-      subst (λ c. and_then (with_name limit f name) (λ t. add_children limit c t names) ≡ Ok g) place.0 e in
+    subst (λ c. and_then (with_name limit f name) (λ t. add_children limit c t names) ≡ Ok g) place.0 e in
     let there : and_then (Ok f) (λ t. add_children limit p t names) ≡ Ok g =
-      subst (λ made. and_then made (λ t. add_children limit p t names) ≡ Ok g) (with_name-found limit f name p found) at in
+    subst (λ made. and_then made (λ t. add_children limit p t names) ≡ Ok g) (with_name-found limit f name p found) at in
     kids_put limit p f names g h place.1 none there

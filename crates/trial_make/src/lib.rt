@@ -7,3 +7,6 @@ mod sayings;
 mod taxonomy;
 
 pub use making::make_problem;
+
+#[cfg(test)]
+mod tests;

@@ -13,7 +13,7 @@ drawn_block number x loose = record { number = number; is_swapped = x % 2 == 1; 
 pub loop-number-init : goal.loop-number-init
 loop-number-init c =
     let first : c.next_draw-drawn.result ≡ draw c.args.seed 1 =
-      c.next_draw-drawn.ensures.value ∙ ap (λ (m : ℕ). next_draw (c.args.seed % m)) c.from.ensures ∙ sym (draw-first c.args.seed) in
+    c.next_draw-drawn.ensures.value ∙ ap (λ (m : ℕ). next_draw (c.args.seed % m)) c.from.ensures ∙ sym (draw-first c.args.seed) in
     record {
       drawn = first;
       below = c.next_draw-drawn.ensures.below;
@@ -24,12 +24,12 @@ loop-number-init c =
 pub loop-number-preserved : goal.loop-number-preserved
 loop-number-preserved c =
     let next : c.next_draw-drawn-in-loop-number.result ≡ draw c.args.seed (c.loop-number.number + 1) =
-      c.next_draw-drawn-in-loop-number.ensures.value ∙ ap next_draw c.loop-number.invariant.drawn ∙ sym (draw-more c.args.seed c.loop-number.number) in
+    c.next_draw-drawn-in-loop-number.ensures.value ∙ ap next_draw c.loop-number.invariant.drawn ∙ sym (draw-more c.args.seed c.loop-number.number) in
     let number : ℕ = c.loop-number.number in
     let is : ◌≡◌ {A = Block} (record { number = number; is_swapped = c.next_draw-drawn-in-loop-number.result % 2 == 1; form = c.form_of.result }) (block_of c.args.seed c.args.count number) =
-      ap (λ (form : Form). record { number = number; is_swapped = c.next_draw-drawn-in-loop-number.result % 2 == 1; form = form }) c.form_of.ensures
-      ∙ ap (λ (loose : ℕ). drawn_block number c.next_draw-drawn-in-loop-number.result loose) c.loop-number.invariant.loose
-      ∙ ap (λ (x : ℕ). drawn_block number x (loose_block c.args.seed c.args.count)) next in
+    ap (λ (form : Form). record { number = number; is_swapped = c.next_draw-drawn-in-loop-number.result % 2 == 1; form = form }) c.form_of.ensures
+    ∙ ap (λ (loose : ℕ). drawn_block number c.next_draw-drawn-in-loop-number.result loose) c.loop-number.invariant.loose
+    ∙ ap (λ (x : ℕ). drawn_block number x (loose_block c.args.seed c.args.count)) next in
     record {
       drawn = next;
       below = c.next_draw-drawn-in-loop-number.ensures.below;

@@ -41,8 +41,13 @@ new-requires-clause-said c = ap (list_all is_said) (said_are c) ∙ made_said c.
 
 pub new-requires-clause-few : goal.new-requires-clause-few
 new-requires-clause-few c =
-    omega (arith, ap length (said_are c), c.requires.small, c.requires.few,
-      length-articulations (trees false c.args.blocks.now c.args.singles) (trees true c.args.blocks.now c.args.singles) c.args.blocks.now c.args.singles)
+    omega (
+      arith,
+      ap length (said_are c),
+      c.requires.small,
+      c.requires.few,
+      length-articulations (trees false c.args.blocks.now c.args.singles) (trees true c.args.blocks.now c.args.singles) c.args.blocks.now c.args.singles,
+    )
 
 pub new-requires-clause-concepts : goal.new-requires-clause-concepts
 new-requires-clause-concepts c =
@@ -63,8 +68,8 @@ returns c =
     let blocks = c.args.blocks.now in
     let singles = c.args.singles in
     let same : problem_of (map (λ name. name.items) c.in_ok-names.names.items) c.in_ok-vec.field-0.items c.in_ok-said.said.items all_on ≡ problem_from blocks singles =
-      ap (λ (ids : List (List ℕ)). problem_of ids c.in_ok-vec.field-0.items c.in_ok-said.said.items all_on) c.in_ok-names.ensures
-      ∙ ap (λ (forests : List Trees). problem_of (codes "1" ∷ codes "2" ∷ []) forests c.in_ok-said.said.items all_on) (are_forests blocks singles c.in_ok-vec.ensures.items c.in_ok-one.ensures c.in_ok-other.ensures)
-      ∙ ap (λ (list : List Articulation). problem_of (codes "1" ∷ codes "2" ∷ []) (trees false blocks singles ∷ trees true blocks singles ∷ []) list all_on)
-        (are_said blocks singles c.in_ok-said.ensures c.in_ok-one.ensures c.in_ok-other.ensures) in
+    ap (λ (ids : List (List ℕ)). problem_of ids c.in_ok-vec.field-0.items c.in_ok-said.said.items all_on) c.in_ok-names.ensures
+    ∙ ap (λ (forests : List Trees). problem_of (codes "1" ∷ codes "2" ∷ []) forests c.in_ok-said.said.items all_on) (are_forests blocks singles c.in_ok-vec.ensures.items c.in_ok-one.ensures c.in_ok-other.ensures)
+    ∙ ap (λ (list : List Articulation). problem_of (codes "1" ∷ codes "2" ∷ []) (trees false blocks singles ∷ trees true blocks singles ∷ []) list all_on)
+    (are_said blocks singles c.in_ok-said.ensures c.in_ok-one.ensures c.in_ok-other.ensures) in
     subst (λ (q : Problem). IfOk c.new.result (λ p. p ≡ q)) same c.new.ensures
