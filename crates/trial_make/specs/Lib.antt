@@ -1,0 +1,4 @@
+pub mod Draws
+pub mod Names
+pub mod Made
+pub mod Plans

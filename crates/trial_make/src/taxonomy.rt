@@ -1,0 +1,103 @@
+//! A taxonomy, row by row.
+ghost use Rattle.std.specs.Prelude.{◌≡◌, ◌<◌, ◌+◌, ◌∷◌, [], ◌++◌, Ok, IfOk, OnOk, length, map, codes};
+ghost use Rattle.taxon_tree.specs.Trees.{IsForest};
+ghost use Rattle.taxon_tree.specs.Row.{add_row};
+ghost use Rattle.trial_make.specs.Names.{block_name, left_name, right_name, single_name, tops, kids, trees};
+ghost use Rattle.trial_make.specs.Plans.{IsPlan};
+
+use crate::blocks::Block;
+use std::alloc::{AllocError, Global};
+use taxon_tree::Forest;
+
+/// The name of a block.
+pub(crate) fn block_name(alloc: Global, number: u32) -> Result<Vec<u8>, AllocError>
+    ensures { IfOk result (λ name. name.items ≡ block_name number) }
+{
+    Ok(format!(in alloc; "b{number}")?.into_bytes())
+}
+
+/// The name of its left child.
+pub(crate) fn left_name(alloc: Global, number: u32) -> Result<Vec<u8>, AllocError>
+    ensures { IfOk result (λ name. name.items ≡ left_name number) }
+{
+    Ok(format!(in alloc; "b{number}l")?.into_bytes())
+}
+
+/// The name of its right child.
+pub(crate) fn right_name(alloc: Global, number: u32) -> Result<Vec<u8>, AllocError>
+    ensures { IfOk result (λ name. name.items ≡ right_name number) }
+{
+    Ok(format!(in alloc; "b{number}r")?.into_bytes())
+}
+
+/// The name of a concept beside the blocks.
+pub(crate) fn single_name(alloc: Global, number: u32) -> Result<Vec<u8>, AllocError>
+    ensures { IfOk result (λ name. name.items ≡ single_name number) }
+{
+    Ok(format!(in alloc; "s{number}")?.into_bytes())
+}
+
+// The row of the root.
+fn top_row(alloc: Global, blocks: &[Block], singles: u32) -> Result<Vec<Vec<u8>>, AllocError>
+    requires { singles < 3 }
+    ensures { IfOk result (λ row. map (λ name. name.items) row.items ≡ codes "r" ∷ tops blocks.now singles) }
+{
+    let mut row = Vec::new(alloc);
+    row.push(Vec::from_slice(alloc, b"r")?)?;
+    for block in blocks {
+        row.push(block_name(alloc, block.number)?)?;
+    }
+    for number in 1..singles + 1 {
+        row.push(single_name(alloc, number)?)?;
+    }
+    Ok(row)
+}
+
+// The row of a block.
+fn block_row(alloc: Global, block: &Block, swaps: bool) -> Result<Vec<Vec<u8>>, AllocError>
+    ensures { IfOk result (λ row. map (λ name. name.items) row.items ≡ block_name block.now.number ∷ kids swaps block.now) }
+{
+    let mut row = Vec::new(alloc);
+    row.push(block_name(alloc, block.number)?)?;
+    if swaps && block.is_swapped {
+        row.push(right_name(alloc, block.number)?)?;
+        row.push(left_name(alloc, block.number)?)?;
+    } else {
+        row.push(left_name(alloc, block.number)?)?;
+        row.push(right_name(alloc, block.number)?)?;
+    }
+    Ok(row)
+}
+
+// Takes a row in. No row of a taxonomy that is made has a fault, so that only memory may be wanting.
+fn put_row(forest: &mut Forest, row: &[Vec<u8>]) -> Result<(), AllocError>
+    requires { 0 < length row.now }
+    ensures ok { OnOk result (add_row 1024 forest.old (map (λ name. name.items) row.now) ≡ Ok forest.new) }
+    ensures forest { IsForest forest.new }
+{
+    match forest.add_row(row, 1024) {
+        Ok(()) => Ok(()),
+        Err(_) => Err(AllocError),
+    }
+}
+
+/// The taxonomy of some blocks and single concepts, which swaps the children of blocks or doesn't.
+pub(crate) fn taxonomy(
+    alloc: Global,
+    blocks: &[Block],
+    singles: u32,
+    swaps: bool,
+) -> Result<Forest, AllocError>
+    requires plan { IsPlan blocks.now }
+    requires few { singles < 3 }
+    ensures { IfOk result (λ forest. forest ≡ trees swaps blocks.now singles) }
+{
+    let mut forest = Forest::new(alloc);
+    let first = top_row(alloc, blocks, singles)?;
+    put_row(&mut forest, &first)?;
+    for block in blocks {
+        let row = block_row(alloc, block, swaps)?;
+        put_row(&mut forest, &row)?;
+    }
+    Ok(forest)
+}
