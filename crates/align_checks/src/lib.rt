@@ -10,6 +10,8 @@ mod cut_listings;
 #[cfg(test)]
 mod faults;
 #[cfg(test)]
+mod reports;
+#[cfg(test)]
 mod runs;
 #[cfg(test)]
 mod small_problems;

@@ -1,19 +1,12 @@
 //! Runs over small texts, last lines, and what people are told.
 
-use align_top::{Status, UsageKind, fault_place, put_end, read_front, run, text_help, usage_help};
+use crate::transcript::align_into;
+use align_top::{Status, UsageKind, fault_place, put_end, read_front, text_help, usage_help};
 use cleantax_text::TextKind;
 use outer_store::{MemorySink, MemoryStore, StoreFault};
 use resume_token::TokenKind;
 use std::alloc::{AllocError, Global};
 use std::test::Fail;
-
-fn words_of(alloc: Global, text: &str) -> Result<Vec<String>, AllocError> {
-    let mut words = Vec::new(alloc);
-    for word in text.split_whitespace() {
-        words.push(String::from_str(alloc, word)?)?;
-    }
-    Ok(words)
-}
 
 // A status with this exit code.
 fn status_of_code(code: u8) -> Status {
@@ -29,10 +22,26 @@ fn status_of_code(code: u8) -> Status {
     }
 }
 
+// The exit code with which a status ends over a sink, and whether the sink then holds a line.
+fn ends_over(alloc: Global, sink: &mut MemorySink, code: u8, line: &str) -> (u8, bool) {
+    let ended = put_end(alloc, sink, status_of_code(code)).code();
+    (ended, sink.bytes() == line.as_bytes())
+}
+
+fn ends(alloc: Global, code: u8, line: &str) -> (u8, bool) {
+    let mut sink = MemorySink::new(alloc, Vec::new(alloc));
+    ends_over(alloc, &mut sink, code, line)
+}
+
+// The same over a sink that refuses the line.
+fn ends_refused(alloc: Global, code: u8) -> Result<(u8, bool), AllocError> {
+    let mut sink = MemorySink::new(alloc, vec![in alloc; 1]?);
+    Ok(ends_over(alloc, &mut sink, code, ""))
+}
+
 // The last line of each status, its exit code, and what a refused put leaves.
 #[test]
 fn each_status_puts_its_last_line(rt: HostRuntime) -> Result<(), Fail> {
-    let alloc = rt.alloc();
     let rows = [
         (1, "refused 3 TwoParents\n"),
         (2, "usage KeyTwice\n"),
@@ -41,66 +50,51 @@ fn each_status_puts_its_last_line(rt: HostRuntime) -> Result<(), Fail> {
         (9, "no memory\n"),
     ];
     for (code, line) in rows {
-        let mut sink = MemorySink::new(alloc, Vec::new(alloc));
-        let status = put_end(alloc, &mut sink, status_of_code(code));
-        assert_eq!(rt; sink.bytes(), line.as_bytes());
-        assert_eq!(rt; status.code(), code);
-        let mut refusing = MemorySink::new(alloc, vec![in alloc; 1]?);
-        let status = put_end(alloc, &mut refusing, status_of_code(code));
-        assert_eq!(rt; status.code(), 4);
-        assert_eq!(rt; refusing.bytes().len(), 0);
+        assert!(rt; ends(rt.alloc(), code, line) == (code, true));
+        assert!(rt; ends_refused(rt.alloc(), code)? == (4, true));
     }
     Ok(())
 }
 
-// Two bytes a read: the limit, the call that fails, and the bytes read.
+// How many bytes of `abcde` are read up to a limit, two a read, where a call fails.
+fn length_read(alloc: Global, limit: usize, number: u64) -> Result<usize, StoreFault> {
+    let mut store = MemoryStore::in_steps(alloc, vec![in alloc; number]?, 2);
+    store.hold("f", b"abcde")?;
+    Ok(read_front(alloc, &mut store, "f", limit)?.len())
+}
+
 #[test]
 fn a_name_is_read_in_pieces(rt: HostRuntime) -> Result<(), Fail> {
-    let alloc = rt.alloc();
-    let rows = [
-        (3, 9, Some("abc")),
-        (5, 9, Some("abcde")),
-        (8, 9, Some("abcde")),
-        (8, 4, None),
-    ];
-    for (limit, number, wanted) in rows {
-        let mut store = MemoryStore::in_steps(alloc, vec![in alloc; number]?, 2);
-        store.hold("f", b"abcde")?;
-        match read_front(alloc, &mut store, "f", limit) {
-            Ok(bytes) => assert_eq!(rt; Some(bytes.as_slice()), wanted.map(str::as_bytes)),
-            Err(fault) => {
-                assert_eq!(rt; fault, StoreFault::Failed);
-                assert_eq!(rt; wanted, None);
-            }
-        }
+    for (limit, length) in [(3, 3), (5, 5), (8, 5)] {
+        assert!(rt; length_read(rt.alloc(), limit, 9) == Ok(length));
     }
+    assert!(rt; length_read(rt.alloc(), 8, 4) == Err(StoreFault::Failed));
     Ok(())
 }
 
 // What a run over the file `p` puts.
 //
 // No clause of `run` refuses a body that always answers want of memory: the transcripts do.
-fn listed(alloc: Global, text: &[u8], words: &str) -> Result<Vec<u8>, AllocError> {
+fn listed(alloc: Global, text: &[u8], words: &str, out: &mut Vec<u8>) -> Result<u8, AllocError> {
     let mut store = MemoryStore::new(alloc, Vec::new(alloc));
     store.hold("p", text)?;
-    let mut sink = MemorySink::new(alloc, Vec::new(alloc));
-    let words = words_of(alloc, words)?;
-    run(alloc, &words, &mut store, &mut sink);
-    Vec::from_slice(alloc, sink.bytes())
+    align_into(alloc, &mut store, words, out)
 }
 
 // What no transcript shows: line ends of two bytes, bytes that are not UTF-8, and no word at all.
 #[test]
 fn bytes_and_words_have_these_ends(rt: HostRuntime) -> Result<(), Fail> {
     let alloc = rt.alloc();
+    let mut out = Vec::new(alloc);
     let marked =
         "\u{FEFF}# note\r\ntaxonomy 1 old list\r\n(A B)\r\n(A C) # again\r\n\r\ntaxonomy 2\r\n(D E F)\r\narticulations both\r\n[2.D == 1.A]\r\n[1.B {equals overlaps} 2.E]\r\n[1.B == 2.E]\r\n";
-    let put = listed(alloc, marked.as_bytes(), "align in=p")?;
-    assert_eq!(rt; put.as_slice(), b"=>><=!<!=>>!>>!\ncomplete 1\n".as_slice());
-    let put = listed(alloc, b"oops\n\n\n\n\n\n\n\n\xFF\n", "align in=p")?;
-    assert_eq!(rt; put.as_slice(), b"refused 9 NotUtf8\n".as_slice());
-    let put = listed(alloc, b"", "")?;
-    assert_eq!(rt; put.as_slice(), b"usage NoCommand\n".as_slice());
+    listed(alloc, marked.as_bytes(), "align in=p", &mut out)?;
+    listed(alloc, b"oops\n\n\n\n\n\n\n\n\xFF\n", "align in=p", &mut out)?;
+    listed(alloc, b"", "", &mut out)?;
+    assert_eq!(rt;
+        out.as_slice(),
+        b"=>><=!<!=>>!>>!\ncomplete 1\nrefused 9 NotUtf8\nusage NoCommand\n".as_slice()
+    );
     Ok(())
 }
 
@@ -110,11 +104,10 @@ fn people_are_told_the_words_and_the_place(rt: HostRuntime) -> Result<(), Fail> 
     let help = usage_help(alloc)?;
     assert_eq!(rt;
         help.as_str(),
-        "the words are a command and its keys; keys in brackets may be left out:\n  align in=FILE [cert=FILE] [nonempty=on|off] [sibling=on|off] [coverage=on|off] [nodes=NUMBER] [worlds=NUMBER] [token=FILE] [resume=FILE]\n  check in=FILE cert=FILE [nonempty=on|off] [sibling=on|off] [coverage=on|off]\n"
+        "the words are a command and its keys; keys in brackets may be left out:\n  align in=FILE [cert=FILE] [nonempty=on|off] [sibling=on|off] [coverage=on|off] [nodes=NUMBER] [worlds=NUMBER] [token=FILE] [resume=FILE]\n  check in=FILE cert=FILE [nonempty=on|off] [sibling=on|off] [coverage=on|off]\n  report in=FILE kinds=KIND,.. [nonempty=on|off] [sibling=on|off] [coverage=on|off]\n  trial seed=NUMBER size=NUMBER\n"
     );
-    for (line, place) in [(0, "a.txt: "), (12, "a.txt:12: ")] {
-        assert_eq!(rt; fault_place(alloc, "a.txt", line)?.as_str(), place);
-    }
+    let place = fault_place(alloc, "a.txt", 12)?;
+    assert_eq!(rt; place.as_str(), "a.txt:12: ");
     assert_eq!(rt;
         text_help(TextKind::PartTwice),
         "a part stands in this sum twice; name it once"

@@ -3,6 +3,51 @@
 use align_top::run;
 use outer_store::{MemorySink, MemoryStore};
 use std::alloc::{AllocError, Global};
+use world_watch::{
+    CountWatcher, JsonWatcher, MergeWatcher, SeenWatcher, TallyWatcher, WorldWatcher,
+};
+
+fn words_of(alloc: Global, text: &str) -> Result<Vec<String>, AllocError> {
+    let mut words = Vec::new(alloc);
+    for word in text.split_whitespace() {
+        words.push(String::from_str(alloc, word)?)?;
+    }
+    Ok(words)
+}
+
+// No watcher is needed where no report is asked for.
+fn sink_into(
+    alloc: Global,
+    store: &mut MemoryStore,
+    words: &[String],
+    sink: &mut MemorySink,
+    out: &mut Vec<u8>,
+) -> Result<u8, AllocError> {
+    let code = run(alloc, words, store, sink, Vec::new(alloc)).code();
+    out.extend_from_slice(sink.bytes())?;
+    Ok(code)
+}
+
+fn run_into(
+    alloc: Global,
+    store: &mut MemoryStore,
+    words: &[String],
+    out: &mut Vec<u8>,
+) -> Result<u8, AllocError> {
+    let mut sink = MemorySink::new(alloc, Vec::new(alloc));
+    sink_into(alloc, store, words, &mut sink, out)
+}
+
+/// A run with these words over a store. What it puts goes behind what was put before, and its exit code is answered.
+pub(crate) fn align_into(
+    alloc: Global,
+    store: &mut MemoryStore,
+    text: &str,
+    out: &mut Vec<u8>,
+) -> Result<u8, AllocError> {
+    let words = words_of(alloc, text)?;
+    run_into(alloc, store, &words, out)
+}
 
 /// What has been played of a transcript, and the store over which it runs.
 ///
@@ -55,15 +100,23 @@ impl Scene {
     }
 
     fn run(&mut self, text: &str) -> Result<(), AllocError> {
-        let mut words = Vec::new(self.alloc);
-        for word in text.split_whitespace() {
-            words.push(String::from_str(self.alloc, word)?)?;
-        }
+        let words = words_of(self.alloc, text)?;
         let mut sink = MemorySink::new(self.alloc, vec![in self.alloc; self.failing_put]?);
-        let status = run(self.alloc, &words, &mut self.store, &mut sink);
+        let code = self.run_words(&words, &mut sink)?;
         self.put_bytes(sink.bytes())?;
-        let end = format!(in self.alloc; "? {}", status.code())?;
+        let end = format!(in self.alloc; "? {code}")?;
         self.put_line(end.as_str())
+    }
+
+    /// Runs with a watcher of each kind, as the program does, and answers the exit code.
+    fn run_words(&mut self, words: &[String], sink: &mut MemorySink) -> Result<u8, AllocError> {
+        let mut watchers: Vec<Box<dyn WorldWatcher>> = Vec::new(self.alloc);
+        watchers.push(Box::new(self.alloc, CountWatcher::new(self.alloc))?)?;
+        watchers.push(Box::new(self.alloc, TallyWatcher::new(self.alloc))?)?;
+        watchers.push(Box::new(self.alloc, SeenWatcher::new(self.alloc))?)?;
+        watchers.push(Box::new(self.alloc, MergeWatcher::new(self.alloc))?)?;
+        watchers.push(Box::new(self.alloc, JsonWatcher::new(self.alloc))?)?;
+        Ok(run(self.alloc, words, &mut self.store, sink, watchers).code())
     }
 
     /// Shows what a name holds.
