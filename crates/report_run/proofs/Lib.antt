@@ -1,0 +1,5 @@
+pub mod AskLemmas
+pub mod PieceLemmas
+pub mod PutLemmas
+pub mod ShowLemmas
+pub mod ReportLemmas

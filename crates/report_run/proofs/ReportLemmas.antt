@@ -1,0 +1,194 @@
+-- How a report ends, by its parts.
+use Rattle.std.proofs.Common.{◌≡◌, ◌+◌, ◌<◌, ◌==◌, Bool, true, false, cond, ℕ, suc, List, [], ◌∷◌, ◌++◌, length, get_or, map, flat_map, Option, None, Some, IfSome, Result, Ok, Err, refl, sym, ap, subst, ◌∙◌, inl, inr, ⊎_elim, arith, take, IsTrue, append-nil}
+use Rattle.std.specs.Prelude.{codes, IfOk, OnErr}
+use Rattle.outer_store.specs.Bytes.{GrownInPart}
+use Rattle.std.proofs.lemmas.Bool.{eqb-true}
+use Rattle.outer_store.specs.Contents.{Contents}
+use Rattle.outer_store.specs.declared.fault.StoreFault.{StoreFault}
+use Rattle.outer_store.specs.declared.fault.StoreFault.TheVariants as store_fault
+use Rattle.rcc5_core.specs.declared.Rel.{Rel}
+use Rattle.world_model.specs.declared.Switches.{Switches}
+use Rattle.world_model.specs.Problem.{Problem, is_problem}
+use Rattle.world_model.proofs.TrialLaws.{trial_is_right_law}
+use Rattle.cleantax_text.specs.declared.TextKind.{TextKind}
+use Rattle.cleantax_text.specs.Reading.{text_result}
+use Rattle.merge_print.specs.Json.{HasUtf8Names}
+use Rattle.merge_print.specs.Laws.{ReadNamesAreUtf8}
+use Rattle.world_watch.specs.Held.{held}
+use Rattle.world_watch.specs.Steps.{Texts}
+use Rattle.run_ends.specs.declared.Status.{Status}
+use Rattle.run_ends.specs.declared.Status.TheVariants as status
+use Rattle.run_ends.specs.Ends.{line_of, end_line}
+use Rattle.run_ends.specs.Reads.{problem_by, problem_in, ComesOf, IsWithout}
+use Rattle.run_ends.specs.Runs.{StoreState, SinkState, LeavesPiece, IsQuiet, Answered, ending_of, IsEarlyEnd, IsCarriedOut}
+use Rattle.run_ends.proofs.ReadLemmas.{text_cut}
+use Rattle.run_ends.proofs.EndLemmas.{all_kept, none_written}
+use Rattle.report_run.specs.Reporting.{Watched, watched, asked, AreKinds, in_lines, report_of, complete_line, report_text, report_status, IsReported, IsAnswerBy, IsReportAnswer, report_names}
+use Rattle.report_run.specs.Steps.{all_worlds, HaveSeen, AreShownAll, status_at}
+use Rattle.report_run.proofs.AskLemmas.{asked_named, names_seen}
+
+-- bytes that agree with what is told of a name, and say the same as its front does (a copy of the lemma in `check_run`)
+record IsText (told : Option (List ℕ)) (switches : Switches) (front : List ℕ) : Type 0 where
+  bytes : List ℕ
+  told_are : IfSome told (λ all. bytes ≡ all)
+  same : text_result bytes switches ≡ text_result front switches
+
+text_of : (told : Option (List ℕ)) (switches : Switches) (front : List ℕ) → IfSome told (λ all. front ≡ take 1048577 all) → IsText told switches front
+text_of None switches front is = record { bytes = front; told_are = tt; same = refl }
+text_of (Some all) switches front is = record {
+  bytes = all;
+  told_are = refl;
+  same = sym (ap (λ (bs : List ℕ). text_result bs switches) is ∙ text_cut all switches);
+}
+
+-- what a text says by how a run goes on
+said_ok : (r : Result Problem (ℕ × TextKind)) (p : Problem) → problem_by r ≡ Ok p → r ≡ Ok p
+said_ok (Ok q) p e = cc
+said_ok (Err f) p e = cc
+
+err_same : {X E : Type 0} (a b : E) (x : Result X E) → x ≡ Err a → x ≡ Err b → a ≡ b
+err_same a b x p q = cc
+
+said_err : (r : Result Problem (ℕ × TextKind)) (ws : List Watched) (s : Status) → problem_by r ≡ Err s → IsAnswerBy r ws s (end_line s) × (ending_of s ≡ Answered)
+said_err (Ok q) ws s e = cc
+said_err (Err f) ws s e =
+    let same : s ≡ status.RefusedText f.0 f.1 = sym (err_same (status.RefusedText f.0 f.1) s (Err (status.RefusedText f.0 f.1)) refl e) in
+    ((same, ap end_line same), ap ending_of same)
+
+-- a run that has no problem
+pub without_problem : (input : List ℕ) (kinds : List (List ℕ)) (switches : Switches) (ws : List Watched) (s : Status) (one other : StoreState) → IsWithout input (problem_in switches) s one other
+    → IsEarlyEnd (report_names input) (IsReportAnswer input kinds switches ws) s one other
+without_problem input kinds switches ws s one other end = ⊎_elim
+    (λ refused.
+    let text = text_of (one.held input) switches refused.0.bytes refused.0.front in
+    let said = said_err (text_result refused.0.bytes switches) (asked ws kinds) s refused.0.judged in
+    inl (
+      record {
+        bytes = text.bytes;
+        told = text.told_are;
+        answer = subst (λ r. IsAnswerBy r (asked ws kinds) s (end_line s)) (sym text.same) said.0;
+        none_written = refl;
+      },
+      said.1,
+      refused.1,
+    ))
+    (λ unread. ⊎_elim
+    (λ failed. inr (inl (failed.0, record { name = input; named = (0, omega arith, refl); rose = failed.1 })))
+    (λ starved. inr (inr starved))
+    unread)
+    end
+
+-- the names of a problem that is read are UTF-8
+pub names_utf8 : (held : Contents) (input : List ℕ) (switches : Switches) (p : Problem) → ReadNamesAreUtf8 → ComesOf held input (problem_in switches) (Ok p) → HasUtf8Names p
+names_utf8 held input switches p law comes = law comes.bytes switches p (said_ok (text_result comes.bytes switches) p comes.judged)
+
+-- the reports on a problem are the answer
+report_answer : (input : List ℕ) (kinds : List (List ℕ)) (switches : Switches) (ws : List Watched) (p : Problem) (one : Contents) → IsTrue (is_problem p) → ComesOf one input (problem_in switches) (Ok p)
+    → IsReportAnswer input kinds switches ws one (report_status (all_worlds p)) (report_text p (all_worlds p) (asked ws kinds)) []
+report_answer input kinds switches ws p one valid comes =
+    let text = text_of (one input) switches comes.bytes comes.front in
+    let is = text.same ∙ said_ok (text_result comes.bytes switches) p comes.judged in
+    record {
+      bytes = text.bytes;
+      told = text.told_are;
+      answer = subst (λ r. IsAnswerBy r (asked ws kinds) (report_status (all_worlds p)) (report_text p (all_worlds p) (asked ws kinds))) (sym is)
+          (record { worlds = all_worlds p; all = trial_is_right_law.worlds p valid [] None; put = refl; ended = refl });
+      none_written = refl;
+    }
+
+status_answered : (worlds : List (List Rel)) → ending_of (report_status worlds) ≡ Answered
+status_answered [] = refl
+status_answered (world ∷ worlds) = refl
+
+pub carried : (input : List ℕ) (kinds : List (List ℕ)) (switches : Switches) (ws : List Watched) (p : Problem) (r : Result Status StoreFault) (one other : StoreState) (old new : SinkState)
+    → IsTrue (is_problem p) → ComesOf one.held input (problem_in switches) (Ok p) → other.held ≡ one.held → IsQuiet one other
+    → IfOk r (λ s. s ≡ report_status (all_worlds p)) → LeavesPiece r (report_text p (all_worlds p) (asked ws kinds)) old new
+    → IsCarriedOut (IsReportAnswer input kinds switches ws) r [] one other old new
+carried input kinds switches ws p (Ok s) one other old new valid comes kept quiet is put = record {
+  done = record {
+    text = report_text p (all_worlds p) (asked ws kinds);
+    files = [];
+    asked = subst (λ x. IsReportAnswer input kinds switches ws one.held x (report_text p (all_worlds p) (asked ws kinds)) []) (sym is) (report_answer input kinds switches ws p one.held valid comes);
+    answered = ap ending_of is ∙ status_answered (all_worlds p);
+    put = put.ok;
+    written = none_written one.held other.held kept;
+  };
+  refused = tt;
+  by_cause = record { cause = (quiet, put.cause); kept = all_kept [] one.held other.held kept };
+}
+carried input kinds switches ws p (Err store_fault.Failed) one other old new valid comes kept quiet is put = record {
+  done = tt;
+  refused = record {
+    status = report_status (all_worlds p);
+    text = report_text p (all_worlds p) (asked ws kinds);
+    files = [];
+    asked = report_answer input kinds switches ws p one.held valid comes;
+    part = put.err;
+  };
+  by_cause = record { cause = inl (put.cause, quiet); kept = all_kept [] one.held other.held kept };
+}
+carried input kinds switches ws p (Err store_fault.NoMemory) one other old new valid comes kept quiet is put = record {
+  done = tt;
+  refused = record {
+    status = report_status (all_worlds p);
+    text = report_text p (all_worlds p) (asked ws kinds);
+    files = [];
+    asked = report_answer input kinds switches ws p one.held valid comes;
+    part = put.err;
+  };
+  by_cause = record { cause = (quiet, put.cause); kept = all_kept [] one.held other.held kept };
+}
+
+-- watchers that have seen all worlds have their names still, and report on all
+pub seen_names : {W : Type 0} (name : W → List ℕ) (text : W → Texts) (p : Problem) (worlds : List (List Rel)) (old new : List W) → HaveSeen name text p worlds old new → map name new ≡ map name old
+seen_names name text p worlds [] [] seen = refl
+seen_names name text p worlds [] (n ∷ ns) seen = absurd (omega (arith, seen.counted))
+seen_names name text p worlds (o ∷ os) [] seen = absurd (omega (arith, seen.counted))
+seen_names name text p worlds (o ∷ os) (n ∷ ns) seen =
+    ap (λ x. x ∷ map name ns) (seen.each 0 o (omega arith)).named ∙ ap (λ xs. name o ∷ xs) (seen_names name text p worlds os ns (rest_seen seen))
+  where
+    rest_seen : HaveSeen name text p worlds (o ∷ os) (n ∷ ns) → HaveSeen name text p worlds os ns
+    rest_seen seen = record { counted = omega (arith, seen.counted); each = λ k d less. seen.each (suc k) d (omega (arith, less)) }
+
+pub seen_texts : {W : Type 0} (name : W → List ℕ) (text : W → Texts) (p : Problem) (worlds : List (List Rel)) (old new : List W) → HaveSeen name text p worlds old new
+    → flat_map (report_of p []) (watched name text new) ≡ flat_map (report_of p worlds) (watched name text old)
+seen_texts name text p worlds [] [] seen = refl
+seen_texts name text p worlds [] (n ∷ ns) seen = absurd (omega (arith, seen.counted))
+seen_texts name text p worlds (o ∷ os) [] seen = absurd (omega (arith, seen.counted))
+seen_texts name text p worlds (o ∷ os) (n ∷ ns) seen =
+    let first = seen.each 0 o (omega arith) in
+    let told : text n p [] ≡ text o p worlds = first.seen [] ∙ ap (text o p) (append-nil worlds) in
+    ap (λ x. (line_of (codes "report " ++ x) ++ in_lines (text n p [])) ++ flat_map (report_of p []) (watched name text ns)) first.named
+    ∙ ap (λ x. (line_of (codes "report " ++ name o) ++ in_lines x) ++ flat_map (report_of p []) (watched name text ns)) told
+    ∙ ap (λ xs. report_of p worlds (record { name = name o; text = text o }) ++ xs) (seen_texts name text p worlds os ns (rest_seen seen))
+  where
+    rest_seen : HaveSeen name text p worlds (o ∷ os) (n ∷ ns) → HaveSeen name text p worlds os ns
+    rest_seen seen = record { counted = omega (arith, seen.counted); each = λ k d less. seen.each (suc k) d (omega (arith, less)) }
+
+-- so what is put of them is the text of the answer
+pub text_told : {W : Type 0} (name : W → List ℕ) (text : W → Texts) (p : Problem) (ws : List Watched) (old new : List W) (count : ℕ) → watched name text old ≡ ws → AreShownAll name text p old new count
+    → flat_map (report_of p []) (watched name text new) ++ complete_line count ≡ report_text p (all_worlds p) ws
+text_told name text p ws old new count are shown =
+    ap (λ t. t ++ complete_line count) (seen_texts name text p (all_worlds p) old new shown.0)
+    ∙ ap (λ xs. flat_map (report_of p (all_worlds p)) xs ++ complete_line count) are
+    ∙ ap (λ (n : ℕ). flat_map (report_of p (all_worlds p)) ws ++ complete_line n) shown.1
+
+-- they have the names of the kinds
+pub names_right : {W : Type 0} (name : W → List ℕ) (text : W → Texts) (p : Problem) (ws old new : List W) (kinds : List (List ℕ)) (count : ℕ) → AreKinds (watched name text ws) kinds
+    → watched name text old ≡ asked (watched name text ws) kinds → AreShownAll name text p old new count → map name new ≡ kinds
+names_right name text p ws old new kinds count kinds_are are shown =
+    seen_names name text p (all_worlds p) old new shown.0 ∙ sym (names_seen name text old) ∙ ap (map (λ (w : Watched). w.name)) are ∙ asked_named (watched name text ws) kinds kinds_are.named
+
+pub status_right : (worlds : List (List Rel)) (count : ℕ) → count ≡ held (length worlds) → status_at count ≡ report_status worlds
+status_right [] count counted = rw counted refl
+status_right (world ∷ worlds) count counted = by (count == 0) refl
+  where
+    by : (b : Bool) → (count == 0) ≡ b → cond b status.NoWorld status.Done ≡ status.Done
+    by false e = refl
+    by true e = let none : count ≡ 0 = eqb-true count 0 e in absurd (omega (arith, counted, none))
+
+-- a first part of what is put of watchers that have seen all worlds is one of the text of the answer
+pub part_told : {W T E : Type 0} (r : Result T E) (name : W → List ℕ) (text : W → Texts) (p : Problem) (ws : List Watched) (old new : List W) (count : ℕ) (before now : Option (List ℕ)) → watched name text old ≡ ws
+    → AreShownAll name text p old new count → GrownInPart before now (flat_map (report_of p []) (watched name text new) ++ complete_line count) → OnErr r (GrownInPart before now (report_text p (all_worlds p) ws))
+part_told (Ok v) name text p ws old new count before now are shown part = tt
+part_told (Err e) name text p ws old new count before now are shown part = subst (GrownInPart before now) (text_told name text p ws old new count are shown) part

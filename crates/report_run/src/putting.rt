@@ -1,0 +1,133 @@
+//! The lines of reports.
+ghost use Rattle.std.specs.Prelude.{◌≡◌, ◌<◌, ◌++◌, [], codes, flat_map, length, map, string_bytes, IfOk};
+ghost use Rattle.merge_print.specs.Json.{HasUtf8Names};
+ghost use Rattle.run_ends.specs.Ends.{line_of};
+ghost use Rattle.run_ends.specs.Runs.{sink_state, LeavesPiece};
+ghost use Rattle.report_run.specs.Reporting.{watched, in_lines, report_of, complete_line};
+ghost use Rattle.report_run.specs.Steps.{IsLineEnd};
+
+use command_line::Word;
+use constraint_set::Problem;
+use outer_store::{Sink, StoreFault};
+use run_ends::put_line;
+use std::alloc::{AllocError, Global};
+use world_watch::WorldWatcher;
+
+// Where the line ends that begins at a place.
+fn line_end(text: &[u8], from: usize) -> usize
+    requires { from < length text.now }
+    ensures { IsLineEnd text.now from result }
+{
+    for place in from..text.len() {
+        if text[place] == b'\n' {
+            return place + 1;
+        }
+    }
+    text.len()
+}
+
+// Puts a piece of a text that has no line feed but at its end, as a line.
+fn put_piece<W: Sink>(alloc: Global, out: &mut W, piece: &[u8]) -> Result<(), StoreFault>
+    requires { 0 < length piece.now }
+    ensures { LeavesPiece result (in_lines piece.now) (sink_state (W.received out.old) (W.faults out.old)) (sink_state (W.received out.new) (W.faults out.new)) }
+{
+    if piece[piece.len() - 1] == b'\n' {
+        out.put(piece)
+    } else {
+        put_line(alloc, out, piece)
+    }
+}
+
+// Puts a text, a line in each put.
+fn put_lines<W: Sink>(alloc: Global, out: &mut W, text: &[u8]) -> Result<(), StoreFault>
+    ensures { LeavesPiece result (in_lines text.now) (sink_state (W.received out.old) (W.faults out.old)) (sink_state (W.received out.new) (W.faults out.new)) }
+{
+    let mut from = 0;
+    'lines: while from < text.len() {
+        let to = line_end(text, from);
+        put_piece(alloc, out, &text[from..to])?;
+        from = to;
+    }
+    Ok(())
+}
+
+// The words of the line above a report.
+fn heading(alloc: Global, kind: &Word) -> Result<Vec<u8>, AllocError>
+    ensures { IfOk result (λ words. words.items ≡ codes "report " ++ kind.now) }
+{
+    let mut words = Vec::from_slice(alloc, b"report ")?;
+    words.extend_from_slice(kind.text().as_bytes())?;
+    Ok(words)
+}
+
+fn put_heading<W: Sink>(alloc: Global, out: &mut W, kind: &Word) -> Result<(), StoreFault>
+    ensures { LeavesPiece result (line_of (codes "report " ++ kind.now)) (sink_state (W.received out.old) (W.faults out.old)) (sink_state (W.received out.new) (W.faults out.new)) }
+{
+    let words = heading(alloc, kind)?;
+    put_line(alloc, out, &words)
+}
+
+// Puts what a watcher reports of a problem.
+fn put_told<W: Sink>(
+    alloc: Global,
+    out: &mut W,
+    problem: &Problem,
+    watcher: &Box<dyn WorldWatcher>,
+) -> Result<(), StoreFault>
+    requires { HasUtf8Names problem.now }
+    ensures { LeavesPiece result (in_lines (text watcher.now problem.now [])) (sink_state (W.received out.old) (W.faults out.old)) (sink_state (W.received out.new) (W.faults out.new)) }
+{
+    let report = watcher.report(alloc, problem)?;
+    put_lines(alloc, out, &report)
+}
+
+// The same under its heading.
+fn put_report<W: Sink>(
+    alloc: Global,
+    out: &mut W,
+    problem: &Problem,
+    kind: &Word,
+    watcher: &Box<dyn WorldWatcher>,
+) -> Result<(), StoreFault>
+    requires { HasUtf8Names problem.now }
+    ensures { LeavesPiece result (line_of (codes "report " ++ kind.now) ++ in_lines (text watcher.now problem.now [])) (sink_state (W.received out.old) (W.faults out.old)) (sink_state (W.received out.new) (W.faults out.new)) }
+{
+    put_heading(alloc, out, kind)?;
+    put_told(alloc, out, problem, watcher)
+}
+
+/// Puts what watchers report of a problem, each under the name of its kind.
+pub(crate) fn put_reports<W: Sink>(
+    alloc: Global,
+    out: &mut W,
+    problem: &Problem,
+    kinds: &[Word],
+    watchers: &[Box<dyn WorldWatcher>],
+) -> Result<(), StoreFault>
+    requires utf8 { HasUtf8Names problem.now }
+    requires named { map name watchers.now ≡ kinds.now }
+    ensures { LeavesPiece result (flat_map (report_of problem.now []) (watched name text watchers.now)) (sink_state (W.received out.old) (W.faults out.old)) (sink_state (W.received out.new) (W.faults out.new)) }
+{
+    for place in 0..watchers.len() {
+        put_report(alloc, out, problem, &kinds[place], &watchers[place])?;
+    }
+    Ok(())
+}
+
+fn complete_line(alloc: Global, count: u64) -> Result<String, AllocError>
+    ensures { IfOk result (λ line. string_bytes line ≡ complete_line count) }
+{
+    format!(in alloc; "complete {count}\n")
+}
+
+/// Puts how many worlds there are.
+pub(crate) fn put_complete<W: Sink>(
+    alloc: Global,
+    out: &mut W,
+    count: u64,
+) -> Result<(), StoreFault>
+    ensures { LeavesPiece result (complete_line count) (sink_state (W.received out.old) (W.faults out.old)) (sink_state (W.received out.new) (W.faults out.new)) }
+{
+    let line = complete_line(alloc, count)?;
+    out.put(line.as_bytes())
+}
