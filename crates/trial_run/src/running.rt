@@ -1,0 +1,39 @@
+//! A trial, from its seed to its status.
+ghost use Rattle.std.specs.Prelude.{◌≡◌, IfOk};
+ghost use Rattle.trial_make.specs.Made.{IsSize};
+ghost use Rattle.run_ends.specs.Runs.{StoreState, sink_state, IsRunOf};
+ghost use Rattle.trial_run.specs.Trials.{IsSummary, IsTrialAnswer, trial_names};
+
+use crate::checked::checked_worlds;
+use crate::summary::summary;
+use outer_store::{Sink, StoreFault};
+use run_ends::{Status, put_end};
+use std::alloc::{AllocError, Global};
+use trial_make::make_problem;
+
+// The summary of a trial.
+fn trial_text(alloc: Global, seed: u64, size: u32) -> Result<Vec<u8>, AllocError>
+    requires { IsSize size }
+    ensures { IfOk result (λ text. IsSummary seed size text.items) }
+{
+    let problem = make_problem(alloc, seed, size)?;
+    let (found, worlds) = checked_worlds(alloc, &problem)?;
+    summary(alloc, seed, size, &problem, found, worlds.list())
+}
+
+/// Makes the problem of a seed and a size, lists its worlds with a certificate, checks that certificate, and puts how many worlds
+/// there are by both. It answers how the run ended, and reads and writes no store.
+pub fn run_trial<W: Sink>(alloc: Global, out: &mut W, seed: u64, size: u32) -> Status
+    requires { IsSize size }
+    ensures { (store : StoreState) → IsRunOf trial_names (IsTrialAnswer seed size) result store store (sink_state (W.received out.old) (W.faults out.old)) (sink_state (W.received out.new) (W.faults out.new)) }
+{
+    let text = match trial_text(alloc, seed, size) {
+        Ok(text) => text,
+        Err(AllocError) => return put_end(alloc, out, Status::NoMemory),
+    };
+    match out.put(&text) {
+        Ok(()) => Status::Done,
+        Err(StoreFault::Failed) => Status::WriteFault,
+        Err(StoreFault::NoMemory) => put_end(alloc, out, Status::NoMemory),
+    }
+}
