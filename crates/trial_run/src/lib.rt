@@ -7,3 +7,6 @@ mod running;
 mod summary;
 
 pub use running::run_trial;
+
+#[cfg(test)]
+mod tests;
