@@ -3,7 +3,11 @@ use Rattle.std.proofs.Common.{◌≡◌, ℕ, ◌+◌, ◌-◌, ◌^◌, ◌<◌
 use Rattle.std.proofs.lemmas.Bool.{true≢false, not_from_false}
 use Rattle.rcc5_core.specs.declared.Rel.{Rel}
 use Rattle.world_model.specs.Problem.{Problem, is_problem}
+<<<<<<< HEAD
 use Rattle.world_model.specs.Family.{IsPossibleWorld}
+=======
+use Rattle.world_model.specs.Family.{Family, IsPossibleWorld}
+>>>>>>> b24cb03cbe8b415a36176a6ed3b14160bcd9c2d7
 use Rattle.world_model.specs.Listing.{is_below, is_before_end, is_between, IsListing}
 use Rattle.world_model.specs.Laws.{is_not_above_end}
 use Rattle.world_model.specs.Trial.{worlds_between}
@@ -13,7 +17,14 @@ use Rattle.world_model.proofs.OrderListings.{listing, listings_join_law, one_lis
 use Rattle.world_model.proofs.TrialLaws.{trial_is_right_law}
 use Rattle.world_search.specs.Searching.{SearchState, StandsBetween, Passes, Came, last_place}
 use Rattle.trial_run.specs.Trials.{count_of}
+<<<<<<< HEAD
 use Rattle.trial_run.specs.Steps.{AreFound}
+=======
+use Rattle.world_search.specs.Steps.{IsStep}
+use Rattle.world_search.specs.declared.step.Step.TheVariants as step
+use Rattle.trial_run.specs.Steps.{AreFound}
+use Rattle.trial_run.specs.Searches.{WentPastWorld, CameToEnd}
+>>>>>>> b24cb03cbe8b415a36176a6ed3b14160bcd9c2d7
 
 -- no position comes before the empty one
 none_below : (m : List Rel) → is_below m [] ≡ false
@@ -85,3 +96,34 @@ passes_of p one other before left worlds same came = subst (λ (q : Problem). Pa
 pub at_no_end : (one other : SearchState) (before left : Option ℕ) (worlds : List (List Rel)) → one.to ≡ None → Came one other before left worlds
     → other.at ≡ last_place other.from other.to → other.at ≡ None
 at_no_end one other before left worlds none came at = at ∙ ap (last_place other.from) (came.to ∙ none)
+<<<<<<< HEAD
+=======
+
+-- what a step of a search without a limit and an end comes to
+pub step_world : (old new : SearchState) (left : Option ℕ) (table : List Rel) (family : Family) → IsStep old new None left (step.World table family) → WentPastWorld old new
+step_world old new left table family s = record { table = table; left = left; came = s.0.0 }
+
+pub step_spent : (old new : SearchState) (left : Option ℕ) (node : List Rel) → IsStep old new None left (step.Spent node) → CameToEnd old new
+step_spent old new left node s = absurd (let none : left ≡ None = s.0.0.counted in let some : left ≡ Some 0 = s.0.1 in let clash : Some 0 ≡ None = sym some ∙ none in cc)
+
+pub step_end : (old new : SearchState) (left : Option ℕ) (node : Option (List Rel)) → old.to ≡ None → IsStep old new None left (step.End node) → CameToEnd old new
+step_end old new left node none s = record { left = left; came = s.0.0; ended = at_no_end old new None left [] none s.0.0 s.0.1 }
+
+-- a world more is found
+pub found_world : (p : Problem) (one other : SearchState) (count : ℕ) → one.problem ≡ p → WentPastWorld one other → AreFound p one.at count
+    → AreFound p other.at (min (count + 1) (2 ^ 64 - 1))
+found_world p one other count same went found =
+    found_on p one.at other.at went.came.nodes (went.table ∷ []) count found (passes_of p one other None went.left (went.table ∷ []) same went.came)
+
+-- all are found
+pub found_all : (p : Problem) (one other : SearchState) (count : ℕ) → one.problem ≡ p → CameToEnd one other → AreFound p one.at count → AreFound p None count
+found_all p one other count same ended found =
+    let all = found_on p one.at other.at ended.came.nodes [] count found (passes_of p one other None ended.left [] same ended.came) in
+    let n : min (count + 0) (2 ^ 64 - 1) ≡ count = omega (arith, found.counted) in
+    subst (λ (m : ℕ). AreFound p None m) n (subst (λ (at : Option (List Rel)). AreFound p at (min (count + 0) (2 ^ 64 - 1))) ended.ended all)
+
+-- and fewer are left
+pub world_fewer : (p : Problem) → IsTrue (is_problem p) → (one other : SearchState) → one.problem ≡ p → WentPastWorld one other → length (worlds_from p other.at) < length (worlds_from p one.at)
+world_fewer p valid one other same went =
+    fewer_left p valid one.at other.at went.came.nodes went.table (passes_of p one other None went.left (went.table ∷ []) same went.came)
+>>>>>>> b24cb03cbe8b415a36176a6ed3b14160bcd9c2d7

@@ -17,6 +17,7 @@ use std::alloc::{AllocError, Global};
 use world_search::{Nodes, Search, Step, StepFault};
 
 // Whether the search goes past a further world. The log is told of each node.
+#[tactic(auto, using(crate::proofs::FoundLemmas::step_world, crate::proofs::FoundLemmas::step_spent, crate::proofs::FoundLemmas::step_end))]
 fn finds_next<L: TreeLog>(
     problem: &Problem,
     asker: &mut Asker,
@@ -54,10 +55,13 @@ fn count_worlds<L: TreeLog>(
 {
     problem.facts();
     let mut count: u64 = 0;
-    'worlds: while finds_next(problem, asker, search, log)? {
+    'worlds: loop {
+        let found = finds_next(problem, asker, search, log)?;
+        if !found {
+            return Ok(count);
+        }
         count = count.saturating_add(1);
     }
-    Ok(count)
 }
 
 // Whether ids are at least 1.
