@@ -3,11 +3,7 @@ use Rattle.std.proofs.Common.{◌≡◌, ℕ, ◌+◌, ◌-◌, ◌^◌, ◌<◌
 use Rattle.std.proofs.lemmas.Bool.{true≢false, not_from_false}
 use Rattle.rcc5_core.specs.declared.Rel.{Rel}
 use Rattle.world_model.specs.Problem.{Problem, is_problem}
-<<<<<<< HEAD
-use Rattle.world_model.specs.Family.{IsPossibleWorld}
-=======
 use Rattle.world_model.specs.Family.{Family, IsPossibleWorld}
->>>>>>> b24cb03cbe8b415a36176a6ed3b14160bcd9c2d7
 use Rattle.world_model.specs.Listing.{is_below, is_before_end, is_between, IsListing}
 use Rattle.world_model.specs.Laws.{is_not_above_end}
 use Rattle.world_model.specs.Trial.{worlds_between}
@@ -17,14 +13,10 @@ use Rattle.world_model.proofs.OrderListings.{listing, listings_join_law, one_lis
 use Rattle.world_model.proofs.TrialLaws.{trial_is_right_law}
 use Rattle.world_search.specs.Searching.{SearchState, StandsBetween, Passes, Came, last_place}
 use Rattle.trial_run.specs.Trials.{count_of}
-<<<<<<< HEAD
-use Rattle.trial_run.specs.Steps.{AreFound}
-=======
 use Rattle.world_search.specs.Steps.{IsStep}
 use Rattle.world_search.specs.declared.step.Step.TheVariants as step
 use Rattle.trial_run.specs.Steps.{AreFound}
 use Rattle.trial_run.specs.Searches.{WentPastWorld, CameToEnd}
->>>>>>> b24cb03cbe8b415a36176a6ed3b14160bcd9c2d7
 
 -- no position comes before the empty one
 none_below : (m : List Rel) → is_below m [] ≡ false
@@ -96,8 +88,6 @@ passes_of p one other before left worlds same came = subst (λ (q : Problem). Pa
 pub at_no_end : (one other : SearchState) (before left : Option ℕ) (worlds : List (List Rel)) → one.to ≡ None → Came one other before left worlds
     → other.at ≡ last_place other.from other.to → other.at ≡ None
 at_no_end one other before left worlds none came at = at ∙ ap (last_place other.from) (came.to ∙ none)
-<<<<<<< HEAD
-=======
 
 -- what a step of a search without a limit and an end comes to
 pub step_world : (old new : SearchState) (left : Option ℕ) (table : List Rel) (family : Family) → IsStep old new None left (step.World table family) → WentPastWorld old new
@@ -126,4 +116,3 @@ found_all p one other count same ended found =
 pub world_fewer : (p : Problem) → IsTrue (is_problem p) → (one other : SearchState) → one.problem ≡ p → WentPastWorld one other → length (worlds_from p other.at) < length (worlds_from p one.at)
 world_fewer p valid one other same went =
     fewer_left p valid one.at other.at went.came.nodes went.table (passes_of p one other None went.left (went.table ∷ []) same went.came)
->>>>>>> b24cb03cbe8b415a36176a6ed3b14160bcd9c2d7

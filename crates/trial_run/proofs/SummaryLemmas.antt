@@ -1,12 +1,5 @@
 -- The counts of a summary.
 use Rattle.std.proofs.Common.{◌≡◌, ℕ, ◌+◌, ◌-◌, ◌^◌, ◌<◌, ◌≤◌, min, Bool, true, false, not, cond, All, List, [], ◌∷◌, ◌++◌, Option, None, Some, length, drop, get_or, refl, sym, ap, subst, ◌∙◌, arith, append_assoc, length-append}
-<<<<<<< HEAD
-use Rattle.std.specs.Prelude.{count_by, filter}
-use Rattle.std.specs.List.{list_any, range_with_len}
-use Rattle.std.proofs.lemmas.List.Elements.{All-weaker, All-contains_itself}
-use Rattle.std.proofs.lemmas.List.Sums.{sum_by-append}
-use Rattle.rcc5_core.specs.declared.Rel.{Rel}
-=======
 use Rattle.std.specs.Prelude.{count_by, filter, slice_get, Result, OnOk}
 use Rattle.std.specs.List.{list_any, range_with_len}
 use Rattle.std.proofs.lemmas.List.Elements.{All-weaker, All-contains_itself}
@@ -15,7 +8,6 @@ use Rattle.std.proofs.lemmas.Result.{IfOk-weaker}
 use Rattle.std.proofs.lemmas.List.Sums.{sum_by-append}
 use Rattle.rcc5_core.specs.declared.Rel.{Rel}
 use Rattle.rcc5_core.specs.declared.Rel.TheVariants.{Equals}
->>>>>>> b24cb03cbe8b415a36176a6ed3b14160bcd9c2d7
 use Rattle.rcc5_core.specs.Relation.{same_rel}
 use Rattle.world_model.specs.Problem.{Problem, cross_pairs, pair_count, all_pairs, is_cross}
 use Rattle.world_model.specs.Family.{IsPossibleWorld}
@@ -24,27 +16,18 @@ use Rattle.world_model.proofs.PointPositions.{world_is_full}
 use Rattle.world_model.proofs.OrderListings.{one_listing_law}
 use Rattle.constraint_set.proofs.Lists.{range_more}
 use Rattle.trial_make.specs.Made.{made}
-<<<<<<< HEAD
-use Rattle.trial_run.specs.Trials.{count_of, rel_at, is_varied, varied_count, summary, IsSummary}
-=======
 use Rattle.trial_run.specs.Trials.{count_of, count_line, rel_at, is_varied, varied_count, summary, IsSummary}
->>>>>>> b24cb03cbe8b415a36176a6ed3b14160bcd9c2d7
 use Rattle.trial_run.specs.Steps.{AreFound}
 
 -- one number more is counted, or isn't
 pub count_more : (test : ℕ → Bool) (n : ℕ) → count_by test (range_with_len 0 (n + 1)) ≡ count_by test (range_with_len 0 n) + cond (test n) 1 0
 count_more test n =
-<<<<<<< HEAD
-    let one : count_by test (n ∷ []) ≡ cond (test n) 1 0 = ? in
-    ap (count_by test) (range_more n) ∙ sum_by-append (λ k. cond (test k) 1 0) (range_with_len 0 n) (n ∷ []) ∙ ap (λ k. count_by test (range_with_len 0 n) + k) one
-=======
     let one : count_by test (n ∷ []) ≡ cond (test n) 1 0 = by (test n) in
     ap (count_by test) (range_more n) ∙ sum_by-append (λ k. cond (test k) 1 0) (range_with_len 0 n) (n ∷ []) ∙ ap (λ k. count_by test (range_with_len 0 n) + k) one
   where
     by : (b : Bool) → 0 + cond b 1 0 ≡ cond b 1 0
     by true = refl
     by false = refl
->>>>>>> b24cb03cbe8b415a36176a6ed3b14160bcd9c2d7
 
 -- what is compared with the first world
 pub varied_at : (worlds : List (List Rel)) (place : ℕ) (d : List Rel) → 0 < length worlds
@@ -52,8 +35,6 @@ pub varied_at : (worlds : List (List Rel)) (place : ℕ) (d : List Rel) → 0 < 
 varied_at [] place d some = absurd (omega arith)
 varied_at (first ∷ worlds) place d some = refl
 
-<<<<<<< HEAD
-=======
 -- the relation of a world at a place
 pub rel_got : (world : List Rel) (place : ℕ) (rel : Rel) → slice_get world place ≡ Some rel → rel_at world place ≡ rel
 rel_got world place rel got = get_or_from_slice_get world place rel Equals got
@@ -71,7 +52,6 @@ three_counts r old one two new first second third a b c a' b' c' p pa q qb last 
         ∙ ap (λ (n : ℕ). old ++ (count_line first a' ++ (count_line second n ++ count_line third c))) qb
         ∙ ap (λ (n : ℕ). old ++ (count_line first a' ++ (count_line second b' ++ count_line third n))) qc
 
->>>>>>> b24cb03cbe8b415a36176a6ed3b14160bcd9c2d7
 -- each world has a relation for each pair across taxonomies
 pub all_reach : (p : Problem) (worlds : List (List Rel)) → IsListing p [] None worlds → All (λ world. length (cross_pairs p) ≤ length world) worlds
 all_reach p worlds listed = All-weaker _ _ (λ world there. reach world ((listed.members world).0 there).0) worlds (All-contains_itself worlds)

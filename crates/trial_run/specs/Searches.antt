@@ -3,12 +3,6 @@ use Rattle.std.specs.Prelude.{◌≡◌, ℕ, Bool, true, false, List, [], ◌�
 use Rattle.rcc5_core.specs.declared.Rel.{Rel}
 use Rattle.world_search.specs.Searching.{SearchState, Came}
 
-<<<<<<< HEAD
--- a search went past the next world, or there was none left
-abbrev pub IsFurther : SearchState → SearchState → Bool → Type 0
-IsFurther old new true = (table : List Rel) × (left : Option ℕ) × Came old new None left (table ∷ [])
-IsFurther old new false = (left : Option ℕ) × Came old new None left [] × (new.at ≡ None)
-=======
 -- a search without a limit of nodes went past the next world
 pub record WentPastWorld (old new : SearchState) : Type 0 where
   pub table : List Rel
@@ -25,4 +19,3 @@ pub record CameToEnd (old new : SearchState) : Type 0 where
 abbrev pub IsFurther : SearchState → SearchState → Bool → Type 0
 IsFurther old new true = WentPastWorld old new
 IsFurther old new false = CameToEnd old new
->>>>>>> b24cb03cbe8b415a36176a6ed3b14160bcd9c2d7

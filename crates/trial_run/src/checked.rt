@@ -1,13 +1,8 @@
 //! A listing whose certificate is checked.
-<<<<<<< HEAD
-ghost use Rattle.std.specs.Prelude.{◌≡◌, [], None, IfOk};
-ghost use Rattle.world_model.specs.Listing.{IsListing};
-=======
 ghost use Rattle.std.specs.Prelude.{◌≡◌, [], None, IfOk, IfSome};
 ghost use Rattle.world_model.specs.Listing.{IsListing};
 ghost use Rattle.cert_rules.specs.Files.{Listing};
 ghost use Rattle.cert_check.specs.Answers.{verdict_of};
->>>>>>> b24cb03cbe8b415a36176a6ed3b14160bcd9c2d7
 ghost use Rattle.trial_run.specs.Steps.{AreFound};
 
 use crate::listing::put_listing;
@@ -17,16 +12,6 @@ use constraint_set::Problem;
 use outer_store::{StoreReader, SureStore};
 use std::alloc::{AllocError, Global};
 
-<<<<<<< HEAD
-// The name of the certificate in its store, which holds nothing else.
-const NAME: &str = "cert";
-
-// Writes the certificate of all worlds, and answers how many there are. The store has no faults, so only memory may be wanting.
-fn write_cert(alloc: Global, problem: &Problem, store: &mut SureStore) -> Result<u64, AllocError>
-    ensures { IfOk result (AreFound problem.now None) }
-{
-    let mut log = StoreLog::new(alloc, store, NAME);
-=======
 // Writes the certificate of all worlds under a name, and answers how many there are. The store has no faults, so only memory may be
 // wanting.
 fn write_cert(
@@ -38,28 +23,12 @@ fn write_cert(
     ensures { IfOk result (AreFound problem.now None) }
 {
     let mut log = StoreLog::new(alloc, store, name);
->>>>>>> b24cb03cbe8b415a36176a6ed3b14160bcd9c2d7
     match put_listing(alloc, problem, &mut log) {
         Ok(found) => Ok(found),
         Err(_) => Err(AllocError),
     }
 }
 
-<<<<<<< HEAD
-// The worlds with which the certificate is accepted. What was written is accepted with all worlds wherever it has no more bytes
-// than a certificate may have; past these it is too much for memory too, and is answered so.
-fn check_cert(alloc: Global, problem: &Problem, store: &mut SureStore) -> Result<Worlds, AllocError>
-    ensures { IfOk result (IsListing problem.now [] None) }
-{
-    let mut reader = StoreReader::new(store, NAME);
-    match check(alloc, problem, &mut reader) {
-        Ok(Accepted::Listing {
-            from,
-            to: None,
-            worlds,
-        }) if from.is_empty() => Ok(worlds),
-        _ => Err(AllocError),
-=======
 // The worlds of a listing of all that there are.
 fn all_worlds(accepted: Accepted) -> Option<Worlds>
     ensures { IfSome result (λ worlds. verdict_of accepted ≡ Listing [] None worlds) }
@@ -94,7 +63,6 @@ fn check_cert(
     match all_worlds(accepted) {
         Some(worlds) => Ok(worlds),
         None => Err(AllocError),
->>>>>>> b24cb03cbe8b415a36176a6ed3b14160bcd9c2d7
     }
 }
 
@@ -104,12 +72,7 @@ pub(crate) fn checked_worlds(alloc: Global, problem: &Problem) -> Result<(u64, W
     ensures accepted { IfOk result (λ both. IsListing problem.now [] None both.1) }
 {
     let mut store = SureStore::new(alloc);
-<<<<<<< HEAD
-    let found = write_cert(alloc, problem, &mut store)?;
-    let worlds = check_cert(alloc, problem, &mut store)?;
-=======
     let found = write_cert(alloc, problem, &mut store, "cert")?;
     let worlds = check_cert(alloc, problem, &mut store, "cert")?;
->>>>>>> b24cb03cbe8b415a36176a6ed3b14160bcd9c2d7
     Ok((found, worlds))
 }

@@ -7,9 +7,6 @@ mod running;
 mod summary;
 
 pub use running::run_trial;
-<<<<<<< HEAD
-=======
 
 #[cfg(test)]
 mod tests;
->>>>>>> b24cb03cbe8b415a36176a6ed3b14160bcd9c2d7
