@@ -1,8 +1,8 @@
 -- Watchers that are taken out of a list by their names.
-use Rattle.std.proofs.Common.{◌≡◌, ◌≢◌, ℕ, zero, suc, ◌+◌, ◌<◌, ◌≤◌, Bool, true, false, cond, List, [], ◌∷◌, ◌++◌, Option, None, Some, IsTrue, inl, inr, length, get_or, map, take, drop, refl, sym, ap, subst, ◌∙◌, arith, append-nil}
+use Rattle.std.proofs.Common.{◌≡◌, ◌≢◌, ℕ, zero, suc, ◌+◌, ◌<◌, ◌≤◌, Bool, true, false, cond, List, [], ◌∷◌, ◌++◌, Option, None, Some, IsTrue, inl, inr, length, get_or, map, take, refl, sym, ap, subst, ◌∙◌, arith, append-nil}
 use Rattle.std.specs.Prelude.{◌↔◌, bytes_eq, All, AllPairs, Contains}
 use Rattle.std.specs.Option.{option_to_list}
-use Rattle.std.specs.List.{filter_map, find, remove, cons_option}
+use Rattle.std.specs.List.{filter_map, remove, cons_option}
 use Rattle.std.proofs.Math.Seq.{take-suc}
 use Rattle.std.proofs.lemmas.List.{take_all, map-append}
 use Rattle.std.proofs.lemmas.List.Elements.{filter_map-append}
@@ -10,7 +10,7 @@ use Rattle.std.proofs.lemmas.Bool.{true≢false, cases_eq}
 use Rattle.std.proofs.lemmas.Slice.Eq.{bytes_eq-Decides}
 use Rattle.world_watch.specs.Steps.{Texts}
 use Rattle.report_run.specs.Steps.{IsFirstNamed}
-use Rattle.report_run.specs.Reporting.{Watched, watched, first_named, asked, AreKinds}
+use Rattle.report_run.specs.Reporting.{Watched, watched, first_named, asked}
 
 -- a watcher as a run sees it
 abbrev pub seen_as : {W : Type 0} → (W → List ℕ) → (W → Texts) → W → Watched

@@ -10,7 +10,7 @@ use Rattle.outer_store.specs.Bytes.{GrownInPart, added}
 use Rattle.outer_store.specs.Faults.{Rose}
 use Rattle.outer_store.specs.declared.fault.StoreFault.{StoreFault}
 use Rattle.outer_store.specs.declared.fault.StoreFault.TheVariants as fault
-use Rattle.outer_store.proofs.BytesLemmas.{added-added, GrownInPart-whole, GrownInPart-longer, GrownInPart-after}
+use Rattle.outer_store.proofs.BytesLemmas.{added-added, GrownInPart-longer, GrownInPart-after}
 use Rattle.run_ends.specs.Ends.{line_of}
 use Rattle.run_ends.specs.Runs.{SinkState, LeavesPiece}
 use Rattle.report_run.specs.Reporting.{in_lines}

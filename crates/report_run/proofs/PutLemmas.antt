@@ -9,7 +9,7 @@ use Rattle.run_ends.specs.Ends.{line_of}
 use Rattle.outer_store.specs.declared.fault.StoreFault.{StoreFault}
 use Rattle.outer_store.proofs.BytesLemmas.{GrownInPart-kept}
 use Rattle.run_ends.specs.Runs.{SinkState, LeavesPiece}
-use Rattle.report_run.specs.Reporting.{Watched, watched, in_lines, report_of, complete_line}
+use Rattle.report_run.specs.Reporting.{watched, in_lines, report_of, complete_line}
 use Rattle.report_run.proofs.AskLemmas.{seen_as}
 use Rattle.report_run.proofs.PieceLemmas.{piece_after, part_of_more, line_put, line_refused, lines_put}
 

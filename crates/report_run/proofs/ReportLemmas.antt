@@ -1,5 +1,5 @@
 -- How a report ends, by its parts.
-use Rattle.std.proofs.Common.{◌≡◌, ◌+◌, ◌<◌, ◌==◌, Bool, true, false, cond, ℕ, suc, List, [], ◌∷◌, ◌++◌, length, get_or, map, flat_map, Option, None, Some, IfSome, Result, Ok, Err, refl, sym, ap, subst, ◌∙◌, inl, inr, ⊎_elim, arith, take, IsTrue, append-nil}
+use Rattle.std.proofs.Common.{◌≡◌, ◌==◌, Bool, true, false, cond, ℕ, suc, List, [], ◌∷◌, ◌++◌, length, map, flat_map, Option, None, Some, IfSome, Result, Ok, Err, refl, sym, ap, subst, ◌∙◌, inl, inr, ⊎_elim, arith, take, IsTrue, append-nil}
 use Rattle.std.specs.Prelude.{codes, IfOk, OnErr}
 use Rattle.outer_store.specs.Bytes.{GrownInPart}
 use Rattle.std.proofs.lemmas.Bool.{eqb-true}
@@ -23,7 +23,7 @@ use Rattle.run_ends.specs.Reads.{problem_by, problem_in, ComesOf, IsWithout}
 use Rattle.run_ends.specs.Runs.{StoreState, SinkState, LeavesPiece, IsQuiet, Answered, ending_of, IsEarlyEnd, IsCarriedOut}
 use Rattle.run_ends.proofs.ReadLemmas.{text_cut}
 use Rattle.run_ends.proofs.EndLemmas.{all_kept, none_written}
-use Rattle.report_run.specs.Reporting.{Watched, watched, asked, AreKinds, in_lines, report_of, complete_line, report_text, report_status, IsReported, IsAnswerBy, IsReportAnswer, report_names}
+use Rattle.report_run.specs.Reporting.{Watched, watched, asked, AreKinds, in_lines, report_of, complete_line, report_text, report_status, IsAnswerBy, IsReportAnswer, report_names}
 use Rattle.report_run.specs.Steps.{all_worlds, HaveSeen, AreShownAll, status_at}
 use Rattle.report_run.proofs.AskLemmas.{asked_named, names_seen}
 

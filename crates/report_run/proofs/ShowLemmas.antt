@@ -1,5 +1,5 @@
 -- Watchers that are shown the worlds from the first on.
-use Rattle.std.proofs.Common.{◌≡◌, ℕ, ◌+◌, ◌-◌, ◌^◌, ◌<◌, ◌≤◌, min, not, Bool, true, false, List, [], ◌∷◌, ◌++◌, Option, None, Some, length, get_or, refl, sym, ap, subst, ◌∙◌, arith, IsTrue, append-nil, append_assoc, length-append}
+use Rattle.std.proofs.Common.{◌≡◌, ℕ, ◌+◌, ◌-◌, ◌^◌, ◌<◌, ◌≤◌, min, not, false, List, [], ◌∷◌, ◌++◌, Option, None, Some, length, get_or, refl, sym, ap, subst, ◌∙◌, arith, IsTrue, append-nil, append_assoc, length-append}
 use Rattle.std.specs.Prelude.{Contains}
 use Rattle.std.proofs.lemmas.Bool.{not_from_false}
 use Rattle.rcc5_core.specs.declared.Rel.{Rel}
@@ -12,13 +12,13 @@ use Rattle.world_model.proofs.OrderListings.{listings_join_law, one_listing_law}
 use Rattle.world_model.proofs.OrderPositions.{below_itself}
 use Rattle.world_model.proofs.PointPositions.{world_is_full}
 use Rattle.world_model.proofs.TrialLaws.{trial_is_right_law}
-use Rattle.table_walk.specs.Ahead.{IsOnward, Lists, ListsBetween}
+use Rattle.table_walk.specs.Ahead.{IsOnward, Lists}
 use Rattle.table_walk.specs.Tables.{TablesState, IsAtWorld, PassedTold}
 use Rattle.table_walk.proofs.Stepping.{lists_nowhere}
 use Rattle.world_search.specs.Searching.{SearchState, Passes, Came, last_place}
 use Rattle.world_watch.specs.Held.{held}
 use Rattle.world_watch.specs.Steps.{Texts, AllTook}
-use Rattle.report_run.specs.Steps.{all_worlds, SawAll, HaveSeen, AreShownAll}
+use Rattle.report_run.specs.Steps.{all_worlds, HaveSeen, AreShownAll}
 
 none_first : (m : List Rel) → is_below m [] ≡ false
 none_first [] = refl

@@ -1,5 +1,5 @@
 -- What the command that reports on all worlds answers.
-use Rattle.std.specs.Prelude.{◌≡◌, ◌≢◌, ℕ, ◌==◌, Bool, List, [], ◌∷◌, ◌++◌, length, map, flat_map, bytes_eq, Option, None, IfSome, Result, Ok, Err, All, AllPairs, Contains, codes, decimal, if◌then◌else◌}
+use Rattle.std.specs.Prelude.{◌≡◌, ◌≢◌, ℕ, ◌==◌, List, [], ◌∷◌, ◌++◌, length, map, flat_map, bytes_eq, Option, None, IfSome, Result, Ok, Err, All, AllPairs, Contains, codes, decimal, if◌then◌else◌}
 use Rattle.std.specs.List.{find, filter_map}
 use Rattle.outer_store.specs.Contents.{Contents}
 use Rattle.rcc5_core.specs.declared.Rel.{Rel}

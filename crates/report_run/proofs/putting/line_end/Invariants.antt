@@ -1,4 +1,4 @@
-use Rattle.std.proofs.Common.{◌≡◌, ◌≢◌, ◌<◌, ◌≤◌, ℕ, get_or}
+use Rattle.std.proofs.Common.{◌≢◌, ◌<◌, ◌≤◌, ℕ, get_or}
 use Rattle.report_run.proofs.putting.line_end.Given as goal
 
 abbrev pub invariant-loop-place : goal.invariant-loop-place

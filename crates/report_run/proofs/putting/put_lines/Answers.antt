@@ -1,6 +1,6 @@
 use Rattle.std.proofs.Common.{rules, refl}
 use Rattle.std.specs.List.{slice_range}
-use Rattle.report_run.proofs.PieceLemmas.{none_put, put_next, put_refused, put_all}
+use Rattle.report_run.proofs.PieceLemmas.{put_next, put_refused}
 use Rattle.report_run.proofs.putting.put_lines.Goals as goal
 
 pub returns-in_err-put_piece : goal.returns-in_err-put_piece

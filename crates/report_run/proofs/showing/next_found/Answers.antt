@@ -1,4 +1,4 @@
-use Rattle.std.proofs.Common.{◌≡◌, [], ◌∷◌, None}
+use Rattle.std.proofs.Common.{[], ◌∷◌, None}
 use Rattle.world_search.specs.Searching.{Came}
 use Rattle.world_search.specs.Steps.{StandsBehind}
 use Rattle.report_run.proofs.ShowLemmas.{came_lists}

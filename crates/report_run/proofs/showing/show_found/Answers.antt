@@ -1,4 +1,4 @@
-use Rattle.std.proofs.Common.{◌≡◌, ◌∙◌, [], ◌∷◌, None, ap, refl, subst}
+use Rattle.std.proofs.Common.{◌∙◌, [], ◌∷◌, None, ap, subst}
 use Rattle.std.specs.Prelude.{IfSome, IfNone}
 use Rattle.table_walk.specs.Ahead.{Lists}
 use Rattle.world_search.specs.Searching.{SearchState}
