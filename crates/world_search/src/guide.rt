@@ -79,7 +79,7 @@ impl Guide {
     }
 
     /// Whether a prefix is alive.
-    #[tactic(auto, using(crate::proofs::Telling::asker_stays))]
+    #[tactic(auto, using(search_log::proofs::Logs::asker_stays))]
     pub fn is_alive(
         &mut self,
         problem: &Problem,
@@ -101,7 +101,7 @@ impl Guide {
     }
 
     /// The relations that lead on from an alive prefix to an alive one.
-    #[tactic(auto, using(crate::proofs::Telling::asker_stays))]
+    #[tactic(auto, using(search_log::proofs::Logs::asker_stays))]
     pub fn alive_after(
         &mut self,
         problem: &Problem,

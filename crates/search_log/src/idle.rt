@@ -12,8 +12,8 @@ const MOST_IDLE: u64 = 1024;
 const TURNS: u32 = 16_384;
 
 /// Forgets the idle clauses of an asker where they are many, by a line that waits.
-#[tactic(auto, using(crate::proofs::Telling::asker_stays))]
-pub(crate) fn tidy(asker: &mut Asker) -> Result<(), AllocError>
+#[tactic(auto, using(crate::proofs::Logs::asker_stays))]
+pub fn tidy(asker: &mut Asker) -> Result<(), AllocError>
     ensures few { OnOk result (length asker.new.solver.idle ≤ 1024) }
     ensures kept { AskerGoes asker.old asker.new }
 {
@@ -26,8 +26,8 @@ pub(crate) fn tidy(asker: &mut Asker) -> Result<(), AllocError>
 /// Counts a turn, and at each `TURNS`th one forgets the idle clauses where they are many.
 ///
 /// To count them takes a look at each clause of the asker, which is too dear for each turn.
-#[tactic(auto, using(crate::proofs::Telling::asker_stays))]
-pub(crate) fn tidy_by_turns(asker: &mut Asker, turns: u32) -> Result<u32, AllocError>
+#[tactic(auto, using(crate::proofs::Logs::asker_stays))]
+pub fn tidy_by_turns(asker: &mut Asker, turns: u32) -> Result<u32, AllocError>
     ensures kept { AskerGoes asker.old asker.new }
 {
     if turns < TURNS {

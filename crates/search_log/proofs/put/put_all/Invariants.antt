@@ -1,6 +1,6 @@
 use Rattle.std.proofs.Common.{take, Ok}
-use Rattle.world_search.specs.Logging.{AreToldWith, LogGoes}
-use Rattle.world_search.proofs.tell.put_all.Given as goal
+use Rattle.search_log.specs.Logging.{AreToldWith, LogGoes}
+use Rattle.search_log.proofs.put.put_all.Given as goal
 
 abbrev pub invariant-loop-each : goal.invariant-loop-each
 invariant-loop-each g l = record {

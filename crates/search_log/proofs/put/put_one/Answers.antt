@@ -1,5 +1,5 @@
-use Rattle.world_search.proofs.Telling.{adds_one, log_put_err}
-use Rattle.world_search.proofs.tell.put_one.Goals as goal
+use Rattle.search_log.proofs.Logs.{adds_one, log_put_err}
+use Rattle.search_log.proofs.put.put_one.Goals as goal
 
 pub returns-in_err-put_line-clause-log : goal.returns-in_err-put_line-clause-log
 returns-in_err-put_line-clause-log g c =
