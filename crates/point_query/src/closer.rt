@@ -23,12 +23,10 @@ use rcc5_core::Position;
 use std::alloc::{AllocError, Global};
 use std::marker::Model;
 
-/// A solver, and the clauses that closed needs before.
-///
-/// A need that one of these clauses closes again costs no question.
+/// A solver, and the clauses that closed needs before: a need that one of them closes again costs no question.
 #[derive(Drop)]
 pub(crate) struct Closer {
-    solver: Solver,
+    pub(crate) solver: Solver,
     closings: Closings,
     questions: u64,
     alloc: Global,

@@ -116,8 +116,6 @@ impl PlainAsker {
     }
 
     /// Forgets the clauses that are idle, with one line for them all.
-    ///
-    /// It takes all its memory first: where that is wanting, nothing has changed.
     pub fn tidy(&mut self) -> Result<(), AllocError>
         ensures kept { AskerGoes self.old self.new }
         ensures ok { OnOk result (IsTidied self.old.solver self.new.solver) }

@@ -74,7 +74,7 @@ impl Search {
         requires to { IfSome to (λ end. length end ≤ pair_count problem.now) }
         ensures { IfOk result (λ search. search ≡ begun problem.now from to) }
     {
-        begin_at(alloc, problem, from, to, Guide::asking())
+        begin_at(alloc, problem, from, to, Guide::asking(alloc))
     }
 
     /// Visits the next nodes, up to the next world, or until none may be visited or none is left. Each visit lowers `left`.

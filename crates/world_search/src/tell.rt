@@ -15,6 +15,7 @@ ghost use Rattle.search_log.specs.Logging.{AreToldWith, LogGoes, IsSameButLines}
 use crate::reasons::{branch_line, reason_line, world_line};
 use cert_text::{CertLine, TreeLog};
 use constraint_set::Problem;
+use dead_nodes::Hints;
 use point_query::Asker;
 use rcc5_core::Position;
 use search_log::{StepFault, put_one, put_waiting};
@@ -62,6 +63,7 @@ fn tell_dead<L: TreeLog>(
     problem: &Problem,
     asker: &mut Asker,
     log: &mut L,
+    hints: &mut Hints,
     node: &Position,
 ) -> Result<(), StepFault>
     requires shape { asker.old.shape ≡ shape_of problem.now }
@@ -75,7 +77,7 @@ fn tell_dead<L: TreeLog>(
         asker.clear_lines();
         return Ok(());
     }
-    let line = reason_line(problem, asker, node)?;
+    let line = reason_line(problem, asker, hints, node)?;
     put_node(alloc, asker, log, &line)
 }
 
@@ -85,6 +87,7 @@ pub(crate) fn tell<L: TreeLog>(
     problem: &Problem,
     asker: &mut Asker,
     log: &mut L,
+    hints: &mut Hints,
     node: &Position,
     branches: bool,
 ) -> Result<(), StepFault>
@@ -98,7 +101,7 @@ pub(crate) fn tell<L: TreeLog>(
     if branches {
         tell_branch(alloc, problem, asker, log, node)
     } else {
-        tell_dead(alloc, problem, asker, log, node)
+        tell_dead(alloc, problem, asker, log, hints, node)
     }
 }
 
