@@ -33,6 +33,19 @@ pub(crate) fn closes(problem: &Problem, asker: &Asker, node: &Position, need: Ne
     true
 }
 
+// Whether a clause with these literals would close a need at a node.
+pub(crate) fn may_close(problem: &Problem, node: &Position, need: Need, lits: &[Lit]) -> bool
+    requires within { length node.now ≤ pair_count problem.now }
+    requires range { IsInRange problem.now need }
+{
+    for lit in lits {
+        if !is_asked(problem, node, need, lit.negate()) {
+            return false;
+        }
+    }
+    true
+}
+
 // Whether a literal must be true of a point in a need of a node.
 fn is_asked(problem: &Problem, node: &Position, need: Need, lit: Lit) -> bool
     requires within { length node.now ≤ pair_count problem.now }

@@ -1,9 +1,13 @@
 //! Which clauses closed needs at dead nodes, to be tried again at others.
-ghost use Rattle.std.specs.Prelude.{◌≤◌, length, IfSome, IsTrue};
+ghost use Rattle.std.specs.Prelude.{◌≡◌, ◌≤◌, length, IfOk, IfSome, IsTrue};
 ghost use Rattle.world_model.specs.Problem.{pair_count};
+ghost use Rattle.constraint_set.specs.Shape.{shape_of};
+ghost use Rattle.point_query.specs.Asking.{AskerGoes};
 ghost use Rattle.dead_nodes.specs.Why.{Closes};
 
-use crate::closes::closes;
+use crate::closes::{closes, may_close};
+use crate::near::Given;
+use crate::shown::Shown;
 use constraint_set::Problem;
 use point_encode::{is_forced, need_of};
 use point_query::Asker;
@@ -20,10 +24,17 @@ pub struct Reason {
     pub clause: u64,
 }
 
+/// A reason, and how its clause was shown.
+#[derive(Drop)]
+struct Kept {
+    reason: Reason,
+    shown: Shown,
+}
+
 /// The last reasons of the nodes whose last pair is one, in a ring.
 #[derive(Drop)]
 struct Recent {
-    list: Vec<Reason>,
+    list: Vec<Kept>,
     next: usize,
 }
 
@@ -31,6 +42,7 @@ struct Recent {
 #[derive(Drop)]
 pub struct Hints {
     pairs: Vec<Recent>,
+    pub(crate) given: Given,
     pub(crate) alloc: Global,
 }
 
@@ -48,28 +60,83 @@ pub(crate) fn holds(problem: &Problem, asker: &Asker, node: &Position, reason: R
     closes(problem, asker, node, need, reason.clause)
 }
 
+// A reason, if it holds at a node.
+pub(crate) fn held(
+    problem: &Problem,
+    asker: &Asker,
+    node: &Position,
+    reason: Reason,
+) -> Option<Reason>
+    requires { length node.now ≤ pair_count problem.now }
+    ensures { IfSome result (Closes problem.now asker.now.solver.state node.now) }
+{
+    if holds(problem, asker, node, reason) {
+        Some(reason)
+    } else {
+        None
+    }
+}
+
+impl Kept {
+    // Whether the clause would close the need at a node, live or not.
+    fn may_close(&self, problem: &Problem, node: &Position) -> bool
+        requires { length node.now ≤ pair_count problem.now }
+    {
+        match need_of(problem, self.reason.need) {
+            Some(need) => {
+                is_forced(problem, node, need)
+                    && may_close(problem, node, need, &self.shown.lits)
+            }
+            None => false,
+        }
+    }
+}
+
 impl Recent {
     // The first reason that holds at a node.
     fn again(&self, problem: &Problem, asker: &Asker, node: &Position) -> Option<Reason>
         requires { length node.now ≤ pair_count problem.now }
         ensures { IfSome result (Closes problem.now asker.now.solver.state node.now) }
     {
-        for reason in &self.list {
-            if holds(problem, asker, node, *reason) {
-                return Some(*reason);
+        for kept in &self.list {
+            if holds(problem, asker, node, kept.reason) {
+                return Some(kept.reason);
             }
         }
         None
     }
 
-    // Notes a reason, in the place of the oldest where there are many.
-    fn note(&mut self, reason: Reason) -> Result<(), AllocError> {
+    // The first reason whose clause was forgotten, would close its need at a node and is shown anew.
+    fn anew(
+        &mut self,
+        problem: &Problem,
+        asker: &mut Asker,
+        node: &Position,
+    ) -> Result<Option<Reason>, AllocError>
+        requires within { length node.now ≤ pair_count problem.now }
+        requires shape { asker.old.shape ≡ shape_of problem.now }
+        ensures kept { AskerGoes asker.old asker.new }
+        ensures closes { IfOk result (λ found. IfSome found (Closes problem.now asker.new.solver.state node.now)) }
+    {
+        for kept in self.list.iter_mut() {
+            if kept.may_close(problem, node) {
+                if let Some(id) = kept.shown.anew(problem, asker)? {
+                    kept.reason.clause = id;
+                    return Ok(held(problem, asker, node, kept.reason));
+                }
+            }
+        }
+        Ok(None)
+    }
+
+    // Keeps a reason, in the place of the oldest where there are many.
+    fn keep(&mut self, kept: Kept) -> Result<(), AllocError> {
         if self.list.len() < MOST {
-            self.list.push(reason)?;
+            self.list.push(kept)?;
             return Ok(());
         }
         let place = self.next % MOST;
-        self.list[place] = reason;
+        self.list[place] = kept;
         self.next = (place + 1) % MOST;
         Ok(())
     }
@@ -80,12 +147,18 @@ impl Hints {
     pub fn new(alloc: Global) -> Hints {
         Hints {
             pairs: Vec::new(alloc),
+            given: Given::none(alloc),
             alloc,
         }
     }
 
     // A reason that holds at a node, among those of its last pair.
-    pub(crate) fn again(&self, problem: &Problem, asker: &Asker, node: &Position) -> Option<Reason>
+    pub(crate) fn again(
+        &self,
+        problem: &Problem,
+        asker: &Asker,
+        node: &Position,
+    ) -> Option<Reason>
         requires { length node.now ≤ pair_count problem.now }
         ensures { IfSome result (Closes problem.now asker.now.solver.state node.now) }
     {
@@ -93,8 +166,42 @@ impl Hints {
         self.pairs.get(pair)?.again(problem, asker, node)
     }
 
-    // Notes a reason of a node.
-    pub(crate) fn note(&mut self, node: &Position, reason: Reason) -> Result<(), AllocError> {
+    // The same, with a clause that was forgotten and is shown anew.
+    pub(crate) fn anew(
+        &mut self,
+        problem: &Problem,
+        asker: &mut Asker,
+        node: &Position,
+    ) -> Result<Option<Reason>, AllocError>
+        requires within { length node.now ≤ pair_count problem.now }
+        requires shape { asker.old.shape ≡ shape_of problem.now }
+        ensures kept { AskerGoes asker.old asker.new }
+        ensures closes { IfOk result (λ found. IfSome found (Closes problem.now asker.new.solver.state node.now)) }
+    {
+        let Some(pair) = node.len().checked_sub(1) else {
+            return Ok(None);
+        };
+        match self.pairs.get_mut(pair) {
+            Some(recent) => recent.anew(problem, asker, node),
+            None => Ok(None),
+        }
+    }
+
+    // Learns the ids of the given clauses, if they are not known.
+    pub(crate) fn learn(&mut self, problem: &Problem) -> Result<(), AllocError> {
+        if self.given.is_none() {
+            self.given = Given::new(self.alloc, problem)?;
+        }
+        Ok(())
+    }
+
+    // Keeps a reason of a node, and how its clause was shown.
+    pub(crate) fn keep(
+        &mut self,
+        node: &Position,
+        reason: Reason,
+        shown: Shown,
+    ) -> Result<(), AllocError> {
         let Some(pair) = node.len().checked_sub(1) else {
             return Ok(());
         };
@@ -104,6 +211,6 @@ impl Hints {
                 next: 0,
             })?;
         }
-        self.pairs[pair].note(reason)
+        self.pairs[pair].keep(Kept { reason, shown })
     }
 }

@@ -3,6 +3,8 @@
 
 mod closes;
 mod hints;
+mod near;
+mod shown;
 mod why;
 
 pub use hints::{Hints, Reason};

@@ -1,5 +1,5 @@
 //! Why a node is dead: what is remembered, and what the asker says.
-ghost use Rattle.std.specs.Prelude.{◌≡◌, ◌≤◌, length, IfOk, IfSome};
+ghost use Rattle.std.specs.Prelude.{◌≡◌, ◌<◌, ◌≤◌, length, IfOk, IfSome};
 ghost use Rattle.world_model.specs.Problem.{pair_count};
 ghost use Rattle.world_model.specs.Alive.{problem_at, IsAlive};
 ghost use Rattle.constraint_set.specs.Shape.{shape_of};
@@ -7,7 +7,9 @@ ghost use Rattle.point_encode.specs.Needs.{IsInRange};
 ghost use Rattle.point_query.specs.Asking.{AskerGoes};
 ghost use Rattle.dead_nodes.specs.Why.{Closes, IsWhy};
 
-use crate::hints::{Hints, Reason, holds};
+use crate::hints::{Hints, Reason, held};
+use crate::near::{Region, shown_near};
+use crate::shown::shown_by;
 use constraint_set::Problem;
 use point_encode::{Need, is_forced, need_number};
 use point_query::{Asker, Found, Probe};
@@ -43,12 +45,79 @@ pub fn why_dead(
     if let Some(reason) = hints.again(problem, asker, node) {
         return Ok(WhyDead::NoPoint(reason));
     }
+    if let Some(reason) = hints.anew(problem, asker, node)? {
+        asker.facts();
+        return Ok(WhyDead::NoPoint(reason));
+    }
+    if let Some(reason) = near(problem, asker, hints, node)? {
+        asker.facts();
+        return Ok(WhyDead::NoPoint(reason));
+    }
     let why = asked(problem, asker, node, hints.alloc)?;
     if let WhyDead::NoPoint(reason) = why {
-        hints.note(node, reason)?;
+        let shown = shown_by(hints.alloc, asker, reason.clause)?;
+        hints.keep(node, reason, shown)?;
     }
     asker.facts();
     Ok(why)
+}
+
+// A region of a node's last pair that is forced occupied, and that a region beside it shows empty.
+fn near(
+    problem: &Problem,
+    asker: &mut Asker,
+    hints: &mut Hints,
+    node: &Position,
+) -> Result<Option<Reason>, AllocError>
+    requires shape { asker.old.shape ≡ shape_of problem.now }
+    requires within { length node.now ≤ pair_count problem.now }
+    ensures kept { AskerGoes asker.old asker.new }
+    ensures closed { IfOk result (λ found. IfSome found (Closes problem.now asker.new.solver.state node.now)) }
+{
+    let _pairs = problem.pair_count();
+    let Some(pair) = node.len().checked_sub(1) else {
+        return Ok(None);
+    };
+    for part in PARTS {
+        let reason = shown_at(problem, asker, hints, node, pair as u32, part)?;
+        if reason.is_some() {
+            return Ok(reason);
+        }
+    }
+    Ok(None)
+}
+
+// A region of a pair, if a node forces it occupied and one beside it shows it empty.
+fn shown_at(
+    problem: &Problem,
+    asker: &mut Asker,
+    hints: &mut Hints,
+    node: &Position,
+    pair: u32,
+    part: u8,
+) -> Result<Option<Reason>, AllocError>
+    requires shape { asker.old.shape ≡ shape_of problem.now }
+    requires within { length node.now ≤ pair_count problem.now }
+    requires pair { pair < pair_count problem.now }
+    requires part { part < 3 }
+    ensures kept { AskerGoes asker.old asker.new }
+    ensures closed { IfOk result (λ found. IfSome found (Closes problem.now asker.new.solver.state node.now)) }
+{
+    let need = Need::Region { pair, part };
+    if !is_forced(problem, node, need) {
+        return Ok(None);
+    }
+    hints.learn(problem)?;
+    let part = u32::from(part);
+    let Some(shown) = shown_near(hints.alloc, problem, node, &hints.given, Region { pair, part })? else {
+        return Ok(None);
+    };
+    let Some(clause) = shown.anew(problem, asker)? else {
+        return Ok(None);
+    };
+    let need = need_number(problem, need);
+    hints.keep(node, Reason { need, clause }, shown)?;
+    Ok(held(problem, asker, node, Reason { need, clause }))
 }
 
 // What the asker says of a dead node: first of the regions of its last pair, since a clause with few literals often shows one of
@@ -140,17 +209,5 @@ fn asked_of(
             };
             Ok(held(problem, asker, node, reason))
         }
-    }
-}
-
-// A reason, if it holds at a node.
-fn held(problem: &Problem, asker: &Asker, node: &Position, reason: Reason) -> Option<Reason>
-    requires { length node.now ≤ pair_count problem.now }
-    ensures { IfSome result (Closes problem.now asker.now.solver.state node.now) }
-{
-    if holds(problem, asker, node, reason) {
-        Some(reason)
-    } else {
-        None
     }
 }

@@ -1,14 +1,15 @@
 //! The asker, as its users see it.
 ghost use Rattle.constraint_set.specs.Shape.{shape_of};
 ghost use Rattle.learn_solver.specs.Solving.{IsTidied};
-ghost use Rattle.lits_core.specs.Derivation.{live_clause};
+ghost use Rattle.lits_core.specs.Derivation.{SameLits, live_clause};
 ghost use Rattle.point_encode.specs.Needs.{IsInRange, need_seen};
 ghost use Rattle.point_pool.specs.Pools.{IsPoolAt};
 ghost use Rattle.point_query.specs.Answers.{IsAliveAnswer, IsFound, IsProbeAnswer, IsServedByFew};
 ghost use Rattle.point_query.specs.Asking.{AskerGoes, IsAsker, IsNewAsker};
 ghost use Rattle.rcc5_core.specs.RelationSet.{has};
 ghost use Rattle.rcc5_core.specs.declared.Rel.{Rel};
-ghost use Rattle.std.specs.Prelude.{IfNone, IfOk, IfSome, IsTrue, OnErr, OnOk, [], length, ◌++◌, ◌+◌, ◌<◌, ◌↔◌, ◌∷◌, ◌≡◌, ◌≤◌};
+ghost use Rattle.std.specs.Prelude.{IfNone, IfOk, IfSome, IsTrue, MatchOption, OnErr, OnOk, [], length, ◌++◌, ◌+◌, ◌<◌, ◌↔◌, ◌∷◌, ◌≡◌, ◌≤◌};
+ghost use Rattle.watch_arena.specs.Trails.{AreInRange};
 ghost use Rattle.world_model.specs.Alive.{IsAlive, problem_at};
 ghost use Rattle.world_model.specs.Problem.{pair_count};
 
@@ -19,7 +20,7 @@ use crate::leading::alive_after;
 use crate::probe::{alive, ask, probe, serving};
 use constraint_set::Problem;
 use learn_solver::Literals;
-use lits_core::{Line, law_derived_clauses_follow};
+use lits_core::{Line, Lit, law_derived_clauses_follow};
 use point_encode::Need;
 use point_pool::{Pool, same_problem};
 use rcc5_core::{Position, RelSet};
@@ -210,6 +211,17 @@ impl Asker {
         ensures { result ≡ live_clause self.now.solver.state id }
     {
         self.solver.solver.clause(id)
+    }
+
+    /// Adds a clause that live clauses show, with its line, and answers its id; none where the hints do not show it.
+    pub fn derive(&mut self, lits: &[Lit], hints: &[u64]) -> Result<Option<u64>, AllocError>
+        requires range { AreInRange lits.now self.old.solver.variables }
+        ensures kept { AskerGoes self.old self.new }
+        ensures derived { IfOk result (λ o. IfSome o (λ id. MatchOption (live_clause self.new.solver.state id) ⊥ (SameLits lits.now))) }
+        ensures same { IfOk result (λ o. IfNone o (self.new ≡ self.old)) }
+    {
+        law_derived_clauses_follow();
+        self.solver.solver.derive(lits, hints)
     }
 
     /// How many questions went to the solver.
