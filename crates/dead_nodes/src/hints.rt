@@ -84,8 +84,7 @@ impl Kept {
     {
         match need_of(problem, self.reason.need) {
             Some(need) => {
-                is_forced(problem, node, need)
-                    && may_close(problem, node, need, &self.shown.lits)
+                is_forced(problem, node, need) && may_close(problem, node, need, &self.shown.lits)
             }
             None => false,
         }
@@ -153,12 +152,7 @@ impl Hints {
     }
 
     // A reason that holds at a node, among those of its last pair.
-    pub(crate) fn again(
-        &self,
-        problem: &Problem,
-        asker: &Asker,
-        node: &Position,
-    ) -> Option<Reason>
+    pub(crate) fn again(&self, problem: &Problem, asker: &Asker, node: &Position) -> Option<Reason>
         requires { length node.now ≤ pair_count problem.now }
         ensures { IfSome result (Closes problem.now asker.now.solver.state node.now) }
     {

@@ -109,7 +109,14 @@ fn shown_at(
     }
     hints.learn(problem)?;
     let part = u32::from(part);
-    let Some(shown) = shown_near(hints.alloc, problem, node, &hints.given, Region { pair, part })? else {
+    let Some(shown) = shown_near(
+        hints.alloc,
+        problem,
+        node,
+        &hints.given,
+        Region { pair, part },
+    )?
+    else {
         return Ok(None);
     };
     let Some(clause) = shown.anew(problem, asker)? else {
