@@ -27,10 +27,9 @@ use rcc5_core::{Position, RelSet};
 use std::alloc::{AllocError, Global};
 use std::marker::Model;
 
-/// Asks for points of the prefixes of problems of one shape.
-///
-/// Points that were found are kept, and the last prefix with a point for each of its needs: one that differs by a relation
-/// costs a look at the points and at the needs that lost theirs. Another problem of the shape keeps the points that meet it.
+/// Asks for points of the prefixes of problems of one shape. Points that were found are kept, and the last prefix with a point
+/// for each of its needs: one that differs by a relation costs a look at the points and at the needs that lost theirs. Another
+/// problem of the shape keeps the points that meet it.
 #[derive(Drop)]
 pub struct Asker {
     shape: Problem,
@@ -221,7 +220,7 @@ impl Asker {
         ensures same { IfOk result (λ o. IfNone o (self.new ≡ self.old)) }
     {
         law_derived_clauses_follow();
-        self.solver.solver.derive(lits, hints)
+        self.solver.derive(lits, hints)
     }
 
     /// How many questions went to the solver.
