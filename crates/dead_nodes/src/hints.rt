@@ -106,6 +106,7 @@ impl Recent {
     }
 
     // The first reason whose clause was forgotten, would close its need at a node and is shown anew.
+    #[tactic(auto, using(search_log::proofs::Logs::asker_stays, search_log::proofs::Logs::asker_joins))]
     fn anew(
         &mut self,
         problem: &Problem,
@@ -161,6 +162,7 @@ impl Hints {
     }
 
     // The same, with a clause that was forgotten and is shown anew.
+    #[tactic(auto, using(search_log::proofs::Logs::asker_stays, search_log::proofs::Logs::asker_joins))]
     pub(crate) fn anew(
         &mut self,
         problem: &Problem,

@@ -46,6 +46,7 @@ fn are_in_range(problem: &Problem, lits: &[Lit]) -> bool
 
 impl Shown {
     // Shows the clause again, and answers its id; none where what showed it is no longer live, and then nothing has changed.
+    #[tactic(auto, using(search_log::proofs::Logs::asker_stays))]
     pub(crate) fn anew(
         &self,
         problem: &Problem,
@@ -55,10 +56,11 @@ impl Shown {
         ensures kept { AskerGoes asker.old asker.new }
         ensures same { IfOk result (λ o. IfNone o (asker.new ≡ asker.old)) }
     {
-        if !are_in_range(problem, &self.lits) {
+        let lits = self.lits.as_slice();
+        if !are_in_range(problem, lits) {
             return Ok(None);
         }
         asker.facts();
-        asker.derive(&self.lits, &self.hints)
+        asker.derive(lits, &self.hints)
     }
 }

@@ -29,6 +29,7 @@ pub enum WhyDead {
 }
 
 /// Why a dead node is dead: by a clause that closed a need of another node, or else by what the asker says.
+#[tactic(auto, using(search_log::proofs::Logs::asker_stays, search_log::proofs::Logs::asker_joins))]
 pub fn why_dead(
     problem: &Problem,
     asker: &mut Asker,
@@ -63,6 +64,7 @@ pub fn why_dead(
 }
 
 // A region of a node's last pair that is forced occupied, and that a region beside it shows empty.
+#[tactic(auto, using(search_log::proofs::Logs::asker_stays, search_log::proofs::Logs::asker_joins))]
 fn near(
     problem: &Problem,
     asker: &mut Asker,
@@ -88,6 +90,7 @@ fn near(
 }
 
 // A region of a pair, if a node forces it occupied and one beside it shows it empty.
+#[tactic(auto, using(search_log::proofs::Logs::asker_stays))]
 fn shown_at(
     problem: &Problem,
     asker: &mut Asker,
@@ -129,6 +132,7 @@ fn shown_at(
 
 // What the asker says of a dead node: first of the regions of its last pair, since a clause with few literals often shows one of
 // them empty, and then of all needs in order.
+#[tactic(auto, using(search_log::proofs::Logs::asker_stays, search_log::proofs::Logs::asker_joins))]
 fn asked(
     problem: &Problem,
     asker: &mut Asker,
@@ -159,6 +163,7 @@ fn asked(
 
 // A region of a node's last pair that is forced occupied, with a clause that shows it empty. The asker is asked at the node
 // without its last relation, where its points stay, and whether the clause closes the region at the node is read.
+#[tactic(auto, using(search_log::proofs::Logs::asker_stays, search_log::proofs::Logs::asker_joins))]
 fn asked_of_last(
     problem: &Problem,
     asker: &mut Asker,
@@ -190,6 +195,7 @@ fn asked_of_last(
 }
 
 // The clause that leaves a need no point at a prefix of a node, where the node forces the need and the clause closes it there.
+#[tactic(auto, using(search_log::proofs::Logs::asker_stays))]
 fn asked_of(
     problem: &Problem,
     asker: &mut Asker,
