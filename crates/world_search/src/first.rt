@@ -109,7 +109,15 @@ fn along<L: TreeLog>(
     ensures log { LogGoes L.drops L.lines L.faults L.steady L.quiet result log.old log.new }
 {
     let alive = guide.is_alive(problem, asker, &walk.path)?;
-    tell(alloc, problem, asker, log, &mut guide.hints, &walk.path, alive)?;
+    tell(
+        alloc,
+        problem,
+        asker,
+        log,
+        &mut guide.hints,
+        &walk.path,
+        alive,
+    )?;
     Ok(go_along(problem, guide, from, walk, alive))
 }
 

@@ -68,7 +68,8 @@ pub(crate) fn reason_line(
 {
     let depth = depth_of(problem, node);
     let last = last_rel(node);
-    match why_dead(problem, asker, hints, node)? {
+    let why = why_dead(problem, asker, hints, node)?;
+    match why {
         WhyDead::NoRelation(pair) => Ok(CertLine::NoRelation { depth, last, pair }),
         WhyDead::NoPoint(reason) => Ok(CertLine::NoPoint {
             depth,

@@ -230,7 +230,15 @@ fn move_on<L: TreeLog>(
     ensures keeps { KeepsFrom problem.now (L.lines log.old) (L.lines log.new) asker.old asker.new walk.old walk.new }
     ensures log { LogGoes L.drops L.lines L.faults L.steady L.quiet result log.old log.new }
 {
-    tell(alloc, problem, asker, log, &mut guide.hints, &walk.path, set.is_some())?;
+    tell(
+        alloc,
+        problem,
+        asker,
+        log,
+        &mut guide.hints,
+        &walk.path,
+        set.is_some(),
+    )?;
     go_on(problem, guide, walk, set);
     Ok(())
 }
