@@ -25,7 +25,6 @@ use Rattle.cert_rules.proofs.Writing.{put_keeps_up_law}
 use Rattle.cert_rules.proofs.NextNodes.{expected_is_next_law}
 use Rattle.cert_rules.proofs.OnTheWay.{walked_is_next_law}
 use Rattle.search_log.specs.declared.fault.StepFault.{StepFault}
-use Rattle.search_log.proofs.Logs.{adds_none}
 use Rattle.world_search.specs.declared.walk.Stage.{Stage}
 use Rattle.world_search.specs.declared.walk.Stage.TheVariants.{Start, Standing, Past}
 use Rattle.world_search.specs.declared.walk.Walk.{Walk}
@@ -140,7 +139,7 @@ keeps_ends p from old new one other at here next last same end k = subst (KeepsO
 -- an asker that went on, and then what a call put
 pub keeps_after : (p : Problem) (from : List Rel) (old new : Told) (one two three : AskerState) (at next : Option (List Rel)) → AskerGoes one two →
     KeepsOn p from old new two three at next → KeepsOn p from old new one three at next
-keeps_after p from old new one two three at next goes k = keeps_joins p from old old new one two three at at next (adds_none old) (keeps_goes p from old one two at goes) k
+keeps_after p from old new one two three at next goes k lines is keeps = k lines is (keeps_goes p from (Some lines) one two at goes lines refl keeps)
 
 -- what a call put, and then an asker that went on
 pub keeps_before : (p : Problem) (from : List Rel) (old new : Told) (one two three : AskerState) (at next : Option (List Rel)) →
