@@ -11,4 +11,5 @@ mod showing;
 mod solver;
 mod tidying;
 
+pub use literals::Literals;
 pub use solver::{Answer, Solver};

@@ -1,14 +1,16 @@
 //! The asker, as its users see it.
 ghost use Rattle.constraint_set.specs.Shape.{shape_of};
 ghost use Rattle.learn_solver.specs.Solving.{IsTidied};
+ghost use Rattle.lits_core.specs.Derivation.{SameLits, live_clause};
 ghost use Rattle.point_encode.specs.Needs.{IsInRange, need_seen};
 ghost use Rattle.point_pool.specs.Pools.{IsPoolAt};
 ghost use Rattle.point_query.specs.Answers.{IsAliveAnswer, IsFound, IsProbeAnswer, IsServedByFew};
 ghost use Rattle.point_query.specs.Asking.{AskerGoes, IsAsker, IsNewAsker};
 ghost use Rattle.rcc5_core.specs.RelationSet.{has};
 ghost use Rattle.rcc5_core.specs.declared.Rel.{Rel};
-ghost use Rattle.std.specs.Prelude.{Contains, IfNone, IfOk, IfSome, IsTrue, OnErr, OnOk, [], length, ◌++◌, ◌+◌, ◌<◌, ◌↔◌, ◌∷◌, ◌≡◌, ◌≤◌};
-ghost use Rattle.world_model.specs.Alive.{IsAlive, needs, problem_at};
+ghost use Rattle.std.specs.Prelude.{IfNone, IfOk, IfSome, IsTrue, MatchOption, OnErr, OnOk, [], length, ◌++◌, ◌+◌, ◌<◌, ◌↔◌, ◌∷◌, ◌≡◌, ◌≤◌};
+ghost use Rattle.watch_arena.specs.Trails.{AreInRange};
+ghost use Rattle.world_model.specs.Alive.{IsAlive, problem_at};
 ghost use Rattle.world_model.specs.Problem.{pair_count};
 
 use crate::answers::{Alive, Found, Points, Probe};
@@ -17,18 +19,17 @@ use crate::given::solver_of;
 use crate::leading::alive_after;
 use crate::probe::{alive, ask, probe, serving};
 use constraint_set::Problem;
-use lits_core::{Line, law_derived_clauses_follow};
+use learn_solver::Literals;
+use lits_core::{Line, Lit, law_derived_clauses_follow};
 use point_encode::Need;
 use point_pool::{Pool, same_problem};
 use rcc5_core::{Position, RelSet};
 use std::alloc::{AllocError, Global};
 use std::marker::Model;
 
-/// Asks for points of the prefixes of problems of one shape.
-///
-/// Points that were found are kept, and the last prefix with a point for each of its needs: a prefix that differs from it by
-/// a relation costs a look at the points, and at the needs that lost theirs, of which few go to the solver. So does a pool
-/// down and up a tree of prefixes. Another problem of the shape keeps the points that meet it.
+/// Asks for points of the prefixes of problems of one shape. Points that were found are kept, and the last prefix with a point
+/// for each of its needs: one that differs by a relation costs a look at the points and at the needs that lost theirs. Another
+/// problem of the shape keeps the points that meet it.
 #[derive(Drop)]
 pub struct Asker {
     shape: Problem,
@@ -66,7 +67,7 @@ impl Asker {
         })
     }
 
-    /// A point of the prefix in a need that it forces, or the clause that shows that there is none.
+    /// A point of the prefix in a need, forced or not, or the clause that shows that there is none.
     pub fn ask(
         &mut self,
         problem: &Problem,
@@ -76,7 +77,6 @@ impl Asker {
         requires shape { self.old.shape ≡ shape_of problem.now }
         requires prefix { length prefix.now ≤ pair_count problem.now }
         requires range { IsInRange problem.now need }
-        requires forced { Contains (needs (problem_at problem.now prefix.now)) (need_seen problem.now need) }
         ensures kept { AskerGoes self.old self.new }
         ensures found { IfOk result (IsFound self.new problem.now prefix.now (need_seen problem.now need)) }
     {
@@ -196,8 +196,6 @@ impl Asker {
     }
 
     /// Forgets the clauses that are idle, with one line for them all, and remembers none of them.
-    ///
-    /// It takes all its memory first: where that is wanting, nothing has changed.
     pub fn tidy(&mut self) -> Result<(), AllocError>
         ensures kept { AskerGoes self.old self.new }
         ensures ok { OnOk result (IsTidied self.old.solver self.new.solver) }
@@ -205,6 +203,24 @@ impl Asker {
     {
         law_derived_clauses_follow();
         self.solver.tidy()
+    }
+
+    /// The literals of the live clause with an id.
+    pub fn clause(&self, id: u64) -> Option<Literals<'_>>
+        ensures { result ≡ live_clause self.now.solver.state id }
+    {
+        self.solver.solver.clause(id)
+    }
+
+    /// Adds a clause that live clauses show, with its line, and answers its id; none where the hints do not show it.
+    pub fn derive(&mut self, lits: &[Lit], hints: &[u64]) -> Result<Option<u64>, AllocError>
+        requires range { AreInRange lits.now self.old.solver.variables }
+        ensures kept { AskerGoes self.old self.new }
+        ensures derived { IfOk result (λ o. IfSome o (λ id. MatchOption (live_clause self.new.solver.state id) ⊥ (SameLits lits.now))) }
+        ensures same { IfOk result (λ o. IfNone o (self.new ≡ self.old)) }
+    {
+        law_derived_clauses_follow();
+        self.solver.derive(lits, hints)
     }
 
     /// How many questions went to the solver.

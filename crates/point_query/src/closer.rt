@@ -1,12 +1,13 @@
 //! The solver of an asker, with the clauses that closed needs before.
 ghost use Rattle.cert_model.specs.Forced.{IsClosedAt};
 ghost use Rattle.learn_solver.specs.Solving.{GoesTo, IsSolver, IsTidied};
-ghost use Rattle.lits_core.specs.Derivation.{live_clause};
+ghost use Rattle.lits_core.specs.Derivation.{SameLits, live_clause};
 ghost use Rattle.point_encode.specs.Needs.{IsInRange, need_seen};
 ghost use Rattle.point_pool.specs.Needs.{need_at, need_count};
 ghost use Rattle.point_query.specs.Answers.{IsClosed, IsFound};
 ghost use Rattle.point_query.specs.Queries.{IsSolverOf, asker_with};
-ghost use Rattle.std.specs.Prelude.{IfOk, IfSome, MatchOption, OnErr, OnOk, [], length, ◌<◌, ◌≡◌, ◌≤◌};
+ghost use Rattle.std.specs.Prelude.{IfNone, IfOk, IfSome, MatchOption, OnErr, OnOk, [], length, ◌<◌, ◌≡◌, ◌≤◌};
+ghost use Rattle.watch_arena.specs.Trails.{AreInRange};
 ghost use Rattle.world_model.specs.Problem.{pair_count};
 
 use crate::answers::Found;
@@ -16,19 +17,17 @@ use crate::query::query;
 use cert_model::{clauses_are_points, needs_are_literals};
 use constraint_set::Problem;
 use learn_solver::Solver;
-use lits_core::{Line, law_literals_are_sets};
+use lits_core::{Line, Lit, law_literals_are_sets};
 use point_encode::{Need, selectors_of};
 use point_pool::{Cursor, count_needs, need_of};
 use rcc5_core::Position;
 use std::alloc::{AllocError, Global};
 use std::marker::Model;
 
-/// A solver, and the clauses that closed needs before.
-///
-/// A need that one of these clauses closes again costs no question.
+/// A solver, and the clauses that closed needs before: a need that one of them closes again costs no question.
 #[derive(Drop)]
 pub(crate) struct Closer {
-    solver: Solver,
+    pub(crate) solver: Solver,
     closings: Closings,
     questions: u64,
     alloc: Global,
@@ -186,6 +185,16 @@ impl Closer {
         ensures { result ≡ length self.now.idle }
     {
         self.solver.idle()
+    }
+
+    // Adds a clause that live clauses show.
+    pub(crate) fn derive(&mut self, lits: &[Lit], hints: &[u64]) -> Result<Option<u64>, AllocError>
+        requires range { AreInRange lits.now self.old.variables }
+        ensures kept { GoesTo self.old self.new }
+        ensures derived { IfOk result (λ o. IfSome o (λ id. MatchOption (live_clause self.new.state id) ⊥ (SameLits lits.now))) }
+        ensures same { IfOk result (λ o. IfNone o (self.new ≡ self.old)) }
+    {
+        self.solver.derive(lits, hints)
     }
 
     // Forgets the clauses that are idle.

@@ -30,9 +30,7 @@ impl Ids {
     }
 }
 
-/// For each need, the ids of clauses that closed it at some prefix.
-///
-/// The ids are hints: what a clause says is read anew.
+/// For each need, the ids of clauses that closed it at some prefix: hints, since what a clause says is read anew.
 #[derive(Drop)]
 pub(crate) struct Closings {
     lists: Vec<Ids>,

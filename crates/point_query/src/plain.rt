@@ -1,11 +1,10 @@
 //! The plain asker: nothing is kept from call to call.
 ghost use Rattle.constraint_set.specs.Shape.{shape_of};
-ghost use Rattle.learn_solver.specs.Solving.{IsTidied};
 ghost use Rattle.point_encode.specs.Needs.{IsInRange, need_seen};
 ghost use Rattle.point_query.specs.Answers.{IsAliveAnswer, IsFound, IsProbeAnswer};
 ghost use Rattle.point_query.specs.Asking.{AskerGoes, IsNewAsker};
 ghost use Rattle.point_query.specs.Seeking.{IsSoughtAt, chosen};
-ghost use Rattle.std.specs.Prelude.{All, Contains, IfOk, OnErr, OnOk, length, ◌<◌, ◌≡◌, ◌≤◌};
+ghost use Rattle.std.specs.Prelude.{All, Contains, IfOk, length, ◌<◌, ◌≡◌, ◌≤◌};
 ghost use Rattle.world_model.specs.Alive.{needs, problem_at};
 ghost use Rattle.world_model.specs.Problem.{pair_count};
 
@@ -15,7 +14,7 @@ use crate::given::solver_of;
 use crate::query::query;
 use constraint_set::Problem;
 use learn_solver::Solver;
-use lits_core::{Bits, law_derived_clauses_follow};
+use lits_core::Bits;
 use point_encode::{Need, needs_of, selectors_of};
 use point_pool::{copy, same_problem};
 use rcc5_core::Position;
@@ -113,25 +112,6 @@ impl PlainAsker {
             Sought::Points { .. } => Ok(Probe::Alive),
             Sought::Closed(need, id) => Ok(Probe::Closed(need, id)),
         }
-    }
-
-    /// Forgets the clauses that are idle, with one line for them all.
-    ///
-    /// It takes all its memory first: where that is wanting, nothing has changed.
-    pub fn tidy(&mut self) -> Result<(), AllocError>
-        ensures kept { AskerGoes self.old self.new }
-        ensures ok { OnOk result (IsTidied self.old.solver self.new.solver) }
-        ensures err { OnErr result (self.new ≡ self.old) }
-    {
-        law_derived_clauses_follow();
-        self.solver.tidy()
-    }
-
-    /// How many clauses are idle.
-    pub fn idle(&self) -> u64
-        ensures { result ≡ length self.now.solver.idle }
-    {
-        self.solver.idle()
     }
 
     // Points for all needs of a prefix, or the first need without a point.

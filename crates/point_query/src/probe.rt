@@ -4,8 +4,8 @@ ghost use Rattle.point_encode.specs.Needs.{IsInRange, need_seen};
 ghost use Rattle.point_pool.specs.Pools.{IsPool};
 ghost use Rattle.point_query.specs.Answers.{IsAliveAnswer, IsFound, IsProbeAnswer, IsServedByFew};
 ghost use Rattle.point_query.specs.Queries.{IsSolverOf, asker_with};
-ghost use Rattle.std.specs.Prelude.{Contains, IfNone, IfOk, IfSome, OnOk, length, ◌≡◌, ◌≤◌};
-ghost use Rattle.world_model.specs.Alive.{IsAlive, needs, problem_at};
+ghost use Rattle.std.specs.Prelude.{IfNone, IfOk, IfSome, OnOk, length, ◌≡◌, ◌≤◌};
+ghost use Rattle.world_model.specs.Alive.{IsAlive, problem_at};
 ghost use Rattle.world_model.specs.Problem.{pair_count};
 
 use crate::answers::{Alive, Found, Points, Probe};
@@ -101,7 +101,6 @@ pub(crate) fn ask(
     requires pool { IsPool pool.old }
     requires prefix { length prefix.now ≤ pair_count pool.old.cursor.problem }
     requires range { IsInRange pool.old.cursor.problem need }
-    requires forced { Contains (needs (problem_at pool.old.cursor.problem prefix.now)) (need_seen pool.old.cursor.problem need) }
     requires solver { IsSolverOf pool.old.cursor.problem solver.old }
     ensures kept { GoesTo solver.old solver.new }
     ensures solver { IsSolverOf pool.old.cursor.problem solver.new }
@@ -119,7 +118,6 @@ pub(crate) fn ask(
 fn ask_here(pool: &mut Pool, solver: &mut Closer, need: Need) -> Result<Found, AllocError>
     requires pool { IsPool pool.old }
     requires range { IsInRange pool.old.cursor.problem need }
-    requires forced { Contains (needs (problem_at pool.old.cursor.problem pool.old.cursor.path)) (need_seen pool.old.cursor.problem need) }
     requires solver { IsSolverOf pool.old.cursor.problem solver.old }
     ensures kept { GoesTo solver.old solver.new }
     ensures solver { IsSolverOf pool.old.cursor.problem solver.new }

@@ -7,19 +7,19 @@ ghost use Rattle.cert_rules.specs.Listings.{listing_next};
 ghost use Rattle.world_search.specs.Walking.{place, LeadsTo, IsPlaced, IsOnWay, IsFrom, Follows, Knows, at_by, expected};
 ghost use Rattle.world_search.specs.Searching.{Passes};
 ghost use Rattle.world_search.specs.Guiding.{IsGuideOf};
-ghost use Rattle.world_search.specs.Logging.{LogGoes, KeepsOn};
+ghost use Rattle.world_search.specs.Logging.{KeepsOn};
+ghost use Rattle.search_log.specs.Logging.{LogGoes};
 ghost use Rattle.world_search.specs.declared.walk.Stage.TheVariants.{Start};
 
 use crate::behind::next_set;
 use crate::guide::Guide;
-use crate::idle::tidy_by_turns;
-use crate::step::StepFault;
 use crate::tell::tell;
 use crate::walk::{Span, Stage, Walk, pass};
 use cert_text::TreeLog;
 use constraint_set::Problem;
 use point_query::Asker;
 use rcc5_core::Position;
+use search_log::{StepFault, tidy_by_turns};
 use std::alloc::Global;
 
 // Follows the start by one relation from an alive prefix of it, if the pair allows this relation, and else goes on to the first
@@ -109,7 +109,15 @@ fn along<L: TreeLog>(
     ensures log { LogGoes L.drops L.lines L.faults L.steady L.quiet result log.old log.new }
 {
     let alive = guide.is_alive(problem, asker, &walk.path)?;
-    tell(alloc, problem, asker, log, &walk.path, alive)?;
+    tell(
+        alloc,
+        problem,
+        asker,
+        log,
+        &mut guide.hints,
+        &walk.path,
+        alive,
+    )?;
     Ok(go_along(problem, guide, from, walk, alive))
 }
 

@@ -9,6 +9,7 @@ ghost use Rattle.world_search.specs.Walking.{AreOpenAfter};
 ghost use Rattle.world_search.specs.Guiding.{IsLadderOf, IsGuideOf};
 
 use constraint_set::Problem;
+use dead_nodes::Hints;
 use point_ladder::Ladder;
 use point_query::Asker;
 use rcc5_core::{Position, RelSet};
@@ -28,6 +29,7 @@ const MOST_TRIES: usize = 10_000_000;
 #[derive(Drop)]
 pub(crate) struct Guide {
     pub ladder: Option<Ladder>,
+    pub hints: Hints,
 }
 
 // Pushes what a prefix has more than a ladder's path, as far as it is alive. Whether all of it is.
@@ -57,14 +59,20 @@ impl Guide {
         ensures { IfOk result (IsGuideOf problem.now []) }
     {
         let ladder = Ladder::new(alloc, problem, MOST_POINTS, MOST_TRIES)?;
-        Ok(Guide { ladder })
+        Ok(Guide {
+            ladder,
+            hints: Hints::new(alloc),
+        })
     }
 
     /// A guide that asks, whether the problem has a table or not.
-    pub fn asking() -> Guide
+    pub fn asking(alloc: Global) -> Guide
         ensures { (p : Problem) → IsGuideOf p [] result }
     {
-        Guide { ladder: None }
+        Guide {
+            ladder: None,
+            hints: Hints::new(alloc),
+        }
     }
 
     /// Goes back with a prefix that grew shorter.
@@ -79,7 +87,7 @@ impl Guide {
     }
 
     /// Whether a prefix is alive.
-    #[tactic(auto, using(crate::proofs::Telling::asker_stays))]
+    #[tactic(auto, using(search_log::proofs::Logs::asker_stays))]
     pub fn is_alive(
         &mut self,
         problem: &Problem,
@@ -101,7 +109,7 @@ impl Guide {
     }
 
     /// The relations that lead on from an alive prefix to an alive one.
-    #[tactic(auto, using(crate::proofs::Telling::asker_stays))]
+    #[tactic(auto, using(search_log::proofs::Logs::asker_stays))]
     pub fn alive_after(
         &mut self,
         problem: &Problem,

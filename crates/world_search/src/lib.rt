@@ -2,10 +2,8 @@
 #![tactic(auto)]
 
 mod behind;
-mod copies;
 mod first;
 mod guide;
-mod idle;
 mod reasons;
 mod search;
 mod step;
@@ -15,4 +13,5 @@ mod walk;
 
 pub use behind::node_behind;
 pub use search::Search;
-pub use step::{Nodes, Step, StepFault, TableStep};
+pub use search_log::StepFault;
+pub use step::{Nodes, Step, TableStep};

@@ -13,8 +13,8 @@ ghost use Rattle.world_search.specs.Logging.{IsInnerOrDead};
 
 use cert_text::{CertLine, RawFamily};
 use constraint_set::Problem;
-use point_pool::number_of;
-use point_query::{Asker, Probe};
+use dead_nodes::{Hints, WhyDead, why_dead};
+use point_query::Asker;
 use rcc5_core::{Position, Rel};
 use set_family::Family;
 use std::alloc::{AllocError, Global};
@@ -51,10 +51,11 @@ pub(crate) fn branch_line(problem: &Problem, node: &Position) -> CertLine
     }
 }
 
-/// The line of a dead node, with what the asker says of it.
+/// The line of a dead node, with why it is dead.
 pub(crate) fn reason_line(
     problem: &Problem,
     asker: &mut Asker,
+    hints: &mut Hints,
     node: &Position,
 ) -> Result<CertLine, AllocError>
     requires shape { asker.old.shape ≡ shape_of problem.now }
@@ -67,17 +68,15 @@ pub(crate) fn reason_line(
 {
     let depth = depth_of(problem, node);
     let last = last_rel(node);
-    let probe = asker.probe(problem, node)?;
-    asker.facts();
-    match probe {
-        Probe::EmptyPair(pair) => Ok(CertLine::NoRelation { depth, last, pair }),
-        Probe::Closed(need, clause) => Ok(CertLine::NoPoint {
+    let why = why_dead(problem, asker, hints, node)?;
+    match why {
+        WhyDead::NoRelation(pair) => Ok(CertLine::NoRelation { depth, last, pair }),
+        WhyDead::NoPoint(reason) => Ok(CertLine::NoPoint {
             depth,
             last,
-            need: u64::from(number_of(problem, need)),
-            clause,
+            need: reason.need,
+            clause: reason.clause,
         }),
-        Probe::Alive => unreachable!(),
     }
 }
 

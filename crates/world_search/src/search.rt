@@ -5,17 +5,19 @@ ghost use Rattle.constraint_set.specs.Shape.{shape_of};
 ghost use Rattle.world_search.specs.Guiding.{IsGuideOf};
 ghost use Rattle.world_search.specs.Searching.{begun, Came};
 ghost use Rattle.world_search.specs.Steps.{IsStepped, IsTableStep};
-ghost use Rattle.world_search.specs.Logging.{KeepsOn, AddsLines, IfLogFailed};
+ghost use Rattle.world_search.specs.Logging.{KeepsOn};
+ghost use Rattle.search_log.specs.Logging.{AddsLines, IfLogFailed};
 ghost use Rattle.outer_store.specs.Faults.{Rose};
 
 use crate::guide::Guide;
-use crate::step::{Nodes, Step, StepFault, TableStep};
+use crate::step::{Nodes, Step, TableStep};
 use crate::steps::{family_step, table_step};
 use crate::walk::{Span, Stage, Walk};
 use cert_text::TreeLog;
 use constraint_set::Problem;
 use point_query::Asker;
 use rcc5_core::Position;
+use search_log::StepFault;
 use std::alloc::{AllocError, Global};
 use std::marker::Model;
 
@@ -72,7 +74,7 @@ impl Search {
         requires to { IfSome to (λ end. length end ≤ pair_count problem.now) }
         ensures { IfOk result (λ search. search ≡ begun problem.now from to) }
     {
-        begin_at(alloc, problem, from, to, Guide::asking())
+        begin_at(alloc, problem, from, to, Guide::asking(alloc))
     }
 
     /// Visits the next nodes, up to the next world, or until none may be visited or none is left. Each visit lowers `left`.

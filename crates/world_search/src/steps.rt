@@ -7,7 +7,8 @@ ghost use Rattle.world_model.specs.Node.{IsNode};
 ghost use Rattle.constraint_set.specs.Shape.{shape_of};
 ghost use Rattle.point_query.specs.Asking.{AskerGoes};
 ghost use Rattle.world_search.specs.Walking.{LeadsTo, IsAfter, IsPlaced, Knows, state_of, nodes_left, expected};
-ghost use Rattle.world_search.specs.Logging.{LogGoes, KeepsOn, KeepsFrom};
+ghost use Rattle.world_search.specs.Logging.{KeepsOn, KeepsFrom};
+ghost use Rattle.search_log.specs.Logging.{LogGoes};
 ghost use Rattle.world_search.specs.Guiding.{IsGuideOf};
 ghost use Rattle.world_search.specs.Searching.{FellBy, Came};
 ghost use Rattle.world_search.specs.Steps.{IsTableStep, IsStepped};
@@ -16,14 +17,14 @@ ghost use Rattle.world_search.specs.declared.walk.Stage.TheVariants.{Start, Stan
 
 use crate::first::begin;
 use crate::guide::Guide;
-use crate::idle::{tidy, tidy_by_turns};
-use crate::step::{Nodes, Step, StepFault, TableStep};
-use crate::tell::{put_waiting, tell_world};
+use crate::step::{Nodes, Step, TableStep};
+use crate::tell::tell_world;
 use crate::walk::{Span, Stage, Walk, pass, visit};
 use cert_text::{NoLog, TreeLog};
 use constraint_set::Problem;
 use point_query::Asker;
 use rcc5_core::Position;
+use search_log::{StepFault, put_waiting, tidy, tidy_by_turns};
 use set_family::Family;
 use std::alloc::{AllocError, Global};
 use std::cmp::Ordering;
@@ -218,7 +219,7 @@ pub(crate) fn table_step(
 }
 
 // A family that shows a possible world.
-#[tactic(auto, using(crate::proofs::Telling::asker_joins))]
+#[tactic(auto, using(search_log::proofs::Logs::asker_joins))]
 fn family_of(
     alloc: Global,
     problem: &Problem,

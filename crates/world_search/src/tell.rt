@@ -9,62 +9,18 @@ ghost use Rattle.cert_text.specs.Lines.{IdsFromOne};
 ghost use Rattle.cert_text.specs.Logs.{IsToldWith};
 ghost use Rattle.cert_rules.specs.Trees.{is_branch};
 ghost use Rattle.cert_rules.specs.Writing.{TellsOf};
-ghost use Rattle.world_search.specs.Logging.{AreToldWith, LogGoes, KeepsOn, KeepsPast, IsInnerOrDead, IsSameButLines};
+ghost use Rattle.world_search.specs.Logging.{KeepsOn, KeepsPast, IsInnerOrDead};
+ghost use Rattle.search_log.specs.Logging.{AreToldWith, LogGoes, IsSameButLines};
 
-use crate::copies::copy_lines;
 use crate::reasons::{branch_line, reason_line, world_line};
-use crate::step::StepFault;
 use cert_text::{CertLine, TreeLog};
 use constraint_set::Problem;
+use dead_nodes::Hints;
 use point_query::Asker;
 use rcc5_core::Position;
+use search_log::{StepFault, put_one, put_waiting};
 use set_family::Family;
 use std::alloc::Global;
-
-// Puts a line.
-fn put_one<L: TreeLog>(log: &mut L, line: &CertLine) -> Result<(), StepFault>
-    requires { IdsFromOne line.now }
-    ensures told { OnOk result (IsToldWith (L.lines log.old) line.now (L.lines log.new)) }
-    ensures err { OnErr result (L.lines log.new ≡ None) }
-    ensures log { LogGoes L.drops L.lines L.faults L.steady L.quiet result log.old log.new }
-{
-    log.put_line(line)?;
-    Ok(())
-}
-
-// Puts lines.
-fn put_all<L: TreeLog>(log: &mut L, lines: &[CertLine]) -> Result<(), StepFault>
-    requires { All IdsFromOne lines.now }
-    ensures told { OnOk result (AreToldWith (L.lines log.old) lines.now (L.lines log.new)) }
-    ensures err { OnErr result (L.lines log.new ≡ None) }
-    ensures log { LogGoes L.drops L.lines L.faults L.steady L.quiet result log.old log.new }
-{
-    for each in lines {
-        put_one(log, each)?;
-    }
-    Ok(())
-}
-
-/// Puts the lines that wait, or drops them where the log would.
-#[tactic(auto, using(crate::proofs::Telling::cleared_same, crate::proofs::Telling::unchanged_same))]
-pub(crate) fn put_waiting<L: TreeLog>(
-    alloc: Global,
-    asker: &mut Asker,
-    log: &mut L,
-) -> Result<(), StepFault>
-    ensures same { IsSameButLines asker.old asker.new }
-    ensures none_waits { OnOk result (asker.new.solver.waiting ≡ []) }
-    ensures keeps { (p : Problem) (from : List Rel) (at : Option (List Rel)) → KeepsOn p from (L.lines log.old) (L.lines log.new) asker.old asker.new at at }
-    ensures log { LogGoes L.drops L.lines L.faults L.steady L.quiet result log.old log.new }
-{
-    if log.is_dropping() {
-        asker.clear_lines();
-        return Ok(());
-    }
-    let lines = copy_lines(alloc, asker.lines())?;
-    asker.clear_lines();
-    put_all(log, &lines)
-}
 
 // Puts the line of a node behind the lines that wait.
 fn put_node<L: TreeLog>(
@@ -107,6 +63,7 @@ fn tell_dead<L: TreeLog>(
     problem: &Problem,
     asker: &mut Asker,
     log: &mut L,
+    hints: &mut Hints,
     node: &Position,
 ) -> Result<(), StepFault>
     requires shape { asker.old.shape ≡ shape_of problem.now }
@@ -120,7 +77,7 @@ fn tell_dead<L: TreeLog>(
         asker.clear_lines();
         return Ok(());
     }
-    let line = reason_line(problem, asker, node)?;
+    let line = reason_line(problem, asker, hints, node)?;
     put_node(alloc, asker, log, &line)
 }
 
@@ -130,6 +87,7 @@ pub(crate) fn tell<L: TreeLog>(
     problem: &Problem,
     asker: &mut Asker,
     log: &mut L,
+    hints: &mut Hints,
     node: &Position,
     branches: bool,
 ) -> Result<(), StepFault>
@@ -143,12 +101,12 @@ pub(crate) fn tell<L: TreeLog>(
     if branches {
         tell_branch(alloc, problem, asker, log, node)
     } else {
-        tell_dead(alloc, problem, asker, log, node)
+        tell_dead(alloc, problem, asker, log, hints, node)
     }
 }
 
 /// Tells of a node that it is a world, which a family shows.
-#[tactic(auto, using(crate::proofs::Telling::cleared_same, crate::proofs::Telling::unchanged_same))]
+#[tactic(auto, using(search_log::proofs::Logs::cleared_same, search_log::proofs::Logs::unchanged_same))]
 pub(crate) fn tell_world<L: TreeLog>(
     alloc: Global,
     problem: &Problem,

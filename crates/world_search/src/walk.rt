@@ -8,16 +8,17 @@ ghost use Rattle.constraint_set.specs.Shape.{shape_of};
 ghost use Rattle.point_query.specs.Asking.{AskerGoes};
 ghost use Rattle.world_search.specs.Walking.{IsBehind, place, LeadsTo, IsAfter, AreOpenAfter, AreOpenBeside, Knows, expected, IsOpenOrDead, IsFoundAt};
 ghost use Rattle.world_search.specs.Guiding.{IsGuideOf};
-ghost use Rattle.world_search.specs.Logging.{LogGoes, KeepsFrom};
+ghost use Rattle.world_search.specs.Logging.{KeepsFrom};
+ghost use Rattle.search_log.specs.Logging.{LogGoes};
 
 use crate::behind::{climb, next_set};
 use crate::guide::Guide;
-use crate::step::StepFault;
 use crate::tell::tell;
 use cert_text::TreeLog;
 use constraint_set::Problem;
 use point_query::Asker;
 use rcc5_core::{Position, Rel, RelSet};
+use search_log::StepFault;
 use std::alloc::{AllocError, Global};
 use world_model::alive_tables_are_worlds;
 
@@ -132,7 +133,7 @@ fn last_of(node: &Position) -> Rel
 }
 
 // Whether the node at which a walk stands is alive. The guide is asked only where the walk keeps no set.
-#[tactic(auto, using(crate::proofs::Telling::asker_stays))]
+#[tactic(auto, using(search_log::proofs::Logs::asker_stays))]
 fn is_here_alive(
     problem: &Problem,
     asker: &mut Asker,
@@ -162,7 +163,7 @@ pub(crate) enum Found {
 }
 
 // Looks at the node at which a walk stands.
-#[tactic(auto, using(crate::proofs::Telling::asker_joins))]
+#[tactic(auto, using(search_log::proofs::Logs::asker_joins))]
 fn look(
     problem: &Problem,
     asker: &mut Asker,
@@ -229,7 +230,15 @@ fn move_on<L: TreeLog>(
     ensures keeps { KeepsFrom problem.now (L.lines log.old) (L.lines log.new) asker.old asker.new walk.old walk.new }
     ensures log { LogGoes L.drops L.lines L.faults L.steady L.quiet result log.old log.new }
 {
-    tell(alloc, problem, asker, log, &walk.path, set.is_some())?;
+    tell(
+        alloc,
+        problem,
+        asker,
+        log,
+        &mut guide.hints,
+        &walk.path,
+        set.is_some(),
+    )?;
     go_on(problem, guide, walk, set);
     Ok(())
 }

@@ -2,7 +2,8 @@ use Rattle.std.proofs.Common.{◌≡◌, ◌<◌, Some, length, sym, arith}
 use Rattle.world_model.specs.Problem.{pair_count}
 use Rattle.cert_rules.specs.Listings.{listing_next}
 use Rattle.world_search.specs.Walking.{expected}
-use Rattle.world_search.proofs.Telling.{inner_by, way_expected, keeps_goes, keeps_after, keeps_ends, log_memory, log_ok_as, log_as}
+use Rattle.world_search.proofs.Telling.{inner_by, way_expected, keeps_goes, keeps_after, keeps_ends}
+use Rattle.search_log.proofs.Logs.{log_memory, log_ok_as, log_as}
 use Rattle.world_search.proofs.first.along.Goals as goal
 
 pub tell-requires-clause-so : goal.tell-requires-clause-so

@@ -3,7 +3,8 @@ use Rattle.world_search.specs.Searching.{Passes}
 use Rattle.world_search.specs.Walking.{place, at_by, expected}
 use Rattle.world_search.specs.declared.walk.Stage.TheVariants.{Start}
 use Rattle.world_search.proofs.Passing.{passes_first}
-use Rattle.world_search.proofs.Telling.{keeps_same, log_stays_ok}
+use Rattle.world_search.proofs.Telling.{keeps_same}
+use Rattle.search_log.proofs.Logs.{log_stays_ok}
 use Rattle.world_search.proofs.first.begin.Goals as goal
 
 pub returns-in_ok-find-clause-passed : goal.returns-in_ok-find-clause-passed

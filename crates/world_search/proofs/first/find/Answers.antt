@@ -4,7 +4,8 @@ use Rattle.world_search.specs.Walking.{place, expects_by, expected, IsOnWay, Fol
 use Rattle.world_search.proofs.Guiding.{guide_further}
 use Rattle.world_search.proofs.Leading.{leads_to_start, same_way, way_node, way_begins}
 use Rattle.world_search.proofs.Stepping.{expected_same}
-use Rattle.world_search.proofs.Telling.{on_err, keeps_same, keeps_before, keeps_after, keeps_joins, keeps_ends, log_stays_ok, log_memory, log_joins, log_ok_as, log_as, log_then_memory}
+use Rattle.world_search.proofs.Telling.{keeps_same, keeps_before, keeps_after, keeps_joins, keeps_ends}
+use Rattle.search_log.proofs.Logs.{on_err, log_stays_ok, log_memory, log_joins, log_ok_as, log_as, log_then_memory}
 use Rattle.world_search.proofs.first.find.Goals as goal
 
 pub returns-in_err-settle-clause-err : goal.returns-in_err-settle-clause-err

@@ -1,6 +1,7 @@
 use Rattle.std.proofs.Common.{◌≡◌, ◌-◌, length, None, Ok}
 use Rattle.world_search.specs.Guiding.{IsGuideOf}
-use Rattle.world_search.specs.Logging.{LogGoes, KeepsOn}
+use Rattle.world_search.specs.Logging.{KeepsOn}
+use Rattle.search_log.specs.Logging.{LogGoes}
 use Rattle.world_search.specs.Walking.{IsOnWay, expected}
 use Rattle.world_search.proofs.first.find.Given as goal
 

@@ -5,7 +5,8 @@ use Rattle.world_search.specs.Walking.{state_of, expected}
 use Rattle.world_search.specs.declared.walk.Walk.{Walk}
 use Rattle.world_search.proofs.Leading.{place_settled}
 use Rattle.world_search.proofs.Stepping.{stepped_err, step_world, placed_world, expected_at, not_below_start, node_at, place_is}
-use Rattle.world_search.proofs.Telling.{keeps_joins, log_joins, log_ok_as, log_as}
+use Rattle.world_search.proofs.Telling.{keeps_joins, keeps_flushed_if}
+use Rattle.search_log.proofs.Logs.{log_joins, log_ok_as, log_as}
 use Rattle.world_search.proofs.steps.family_step.Goals as goal
 
 pub world_step-requires-clause-world : goal.world_step-requires-clause-world
@@ -131,7 +132,7 @@ returns-in_err-put_waiting-in-Spent-clause-keeps g c =
     let from = c.args.span.now.from in
     keeps_joins p from (g.L.TreeLog.lines c.args.log.now) (g.L.TreeLog.lines c.walk_on.new.log) (g.L.TreeLog.lines c.put_waiting.new.log) c.args.asker.now c.walk_on.new.asker c.put_waiting.new.asker
     (expected c.args.walk.now) (expected c.walk_on.new.walk) (expected c.walk_on.new.walk) c.in_ok-table.ensures.log.told c.walk_on.ensures.keeps
-    (c.put_waiting.ensures.keeps p from (expected c.walk_on.new.walk))
+    (keeps_flushed_if c.put_waiting.result p from (g.L.TreeLog.lines c.walk_on.new.log) (g.L.TreeLog.lines c.put_waiting.new.log) c.walk_on.new.asker c.put_waiting.new.asker (expected c.walk_on.new.walk) c.put_waiting.ensures.same.state c.put_waiting.ensures.flushed)
 
 pub returns-in_ok-put_waiting-in-Spent-clause-keeps : goal.returns-in_ok-put_waiting-in-Spent-clause-keeps
 returns-in_ok-put_waiting-in-Spent-clause-keeps g c =
@@ -139,7 +140,7 @@ returns-in_ok-put_waiting-in-Spent-clause-keeps g c =
     let from = c.args.span.now.from in
     keeps_joins p from (g.L.TreeLog.lines c.args.log.now) (g.L.TreeLog.lines c.walk_on.new.log) (g.L.TreeLog.lines c.put_waiting.new.log) c.args.asker.now c.walk_on.new.asker c.put_waiting.new.asker
     (expected c.args.walk.now) (expected c.walk_on.new.walk) (expected c.walk_on.new.walk) c.in_ok-table.ensures.log.told c.walk_on.ensures.keeps
-    (c.put_waiting.ensures.keeps p from (expected c.walk_on.new.walk))
+    (keeps_flushed_if c.put_waiting.result p from (g.L.TreeLog.lines c.walk_on.new.log) (g.L.TreeLog.lines c.put_waiting.new.log) c.walk_on.new.asker c.put_waiting.new.asker (expected c.walk_on.new.walk) c.put_waiting.ensures.same.state c.put_waiting.ensures.flushed)
 
 pub returns-in_err-put_waiting-in-End-clause-keeps : goal.returns-in_err-put_waiting-in-End-clause-keeps
 returns-in_err-put_waiting-in-End-clause-keeps g c =
@@ -147,7 +148,7 @@ returns-in_err-put_waiting-in-End-clause-keeps g c =
     let from = c.args.span.now.from in
     keeps_joins p from (g.L.TreeLog.lines c.args.log.now) (g.L.TreeLog.lines c.walk_on.new.log) (g.L.TreeLog.lines c.put_waiting-in-End.new.log) c.args.asker.now c.walk_on.new.asker c.put_waiting-in-End.new.asker
     (expected c.args.walk.now) (expected c.walk_on.new.walk) (expected c.walk_on.new.walk) c.in_ok-table.ensures.log.told c.walk_on.ensures.keeps
-    (c.put_waiting-in-End.ensures.keeps p from (expected c.walk_on.new.walk))
+    (keeps_flushed_if c.put_waiting-in-End.result p from (g.L.TreeLog.lines c.walk_on.new.log) (g.L.TreeLog.lines c.put_waiting-in-End.new.log) c.walk_on.new.asker c.put_waiting-in-End.new.asker (expected c.walk_on.new.walk) c.put_waiting-in-End.ensures.same.state c.put_waiting-in-End.ensures.flushed)
 
 pub returns-in_ok-put_waiting-in-End-clause-keeps : goal.returns-in_ok-put_waiting-in-End-clause-keeps
 returns-in_ok-put_waiting-in-End-clause-keeps g c =
@@ -155,4 +156,4 @@ returns-in_ok-put_waiting-in-End-clause-keeps g c =
     let from = c.args.span.now.from in
     keeps_joins p from (g.L.TreeLog.lines c.args.log.now) (g.L.TreeLog.lines c.walk_on.new.log) (g.L.TreeLog.lines c.put_waiting-in-End.new.log) c.args.asker.now c.walk_on.new.asker c.put_waiting-in-End.new.asker
     (expected c.args.walk.now) (expected c.walk_on.new.walk) (expected c.walk_on.new.walk) c.in_ok-table.ensures.log.told c.walk_on.ensures.keeps
-    (c.put_waiting-in-End.ensures.keeps p from (expected c.walk_on.new.walk))
+    (keeps_flushed_if c.put_waiting-in-End.result p from (g.L.TreeLog.lines c.walk_on.new.log) (g.L.TreeLog.lines c.put_waiting-in-End.new.log) c.walk_on.new.asker c.put_waiting-in-End.new.asker (expected c.walk_on.new.walk) c.put_waiting-in-End.ensures.same.state c.put_waiting-in-End.ensures.flushed)

@@ -3,7 +3,8 @@ use Rattle.world_model.specs.Listing.{is_before_end}
 use Rattle.world_search.specs.declared.walk.Walk.{Walk}
 use Rattle.world_search.specs.Walking.{place, expected}
 use Rattle.world_search.proofs.Leading.{place_settled}
-use Rattle.world_search.proofs.Telling.{keeps_same, keeps_ends, log_stays_ok, log_memory, log_ok_as, log_as, log_then_memory}
+use Rattle.world_search.proofs.Telling.{keeps_same, keeps_ends}
+use Rattle.search_log.proofs.Logs.{log_stays_ok, log_memory, log_ok_as, log_as, log_then_memory}
 use Rattle.world_search.proofs.Passing.{none_there}
 use Rattle.world_search.proofs.Stepping.{came_same, stop_end, stop_spent, came_visit, placed_visit, fewer_visit, expected_same, expected_at, not_below_start}
 use Rattle.world_search.proofs.steps.turn.Goals as goal

@@ -1,6 +1,7 @@
 use Rattle.std.proofs.Common.{[], ◌∙◌}
 use Rattle.world_search.specs.Walking.{state_of, expected}
-use Rattle.world_search.proofs.Telling.{keeps_joins, keeps_before, log_joins, log_ok_as, log_as, log_then_memory}
+use Rattle.world_search.proofs.Telling.{keeps_joins, keeps_before}
+use Rattle.search_log.proofs.Logs.{log_joins, log_ok_as, log_as, log_then_memory}
 use Rattle.world_search.proofs.Passing.{came_join}
 use Rattle.world_search.proofs.steps.walk_on.Goals as goal
 

@@ -2,7 +2,8 @@ use Rattle.std.proofs.Common.{◌≡◌, ◌≢◌, ◌≤◌, [], length, Ok}
 use Rattle.world_search.specs.Searching.{Came}
 use Rattle.world_search.specs.Guiding.{IsGuideOf}
 use Rattle.world_search.specs.Walking.{IsPlaced, Knows, state_of, nodes_left, expected}
-use Rattle.world_search.specs.Logging.{LogGoes, KeepsOn}
+use Rattle.world_search.specs.Logging.{KeepsOn}
+use Rattle.search_log.specs.Logging.{LogGoes}
 use Rattle.world_search.specs.declared.walk.Stage.TheVariants.{Start}
 use Rattle.world_search.proofs.steps.walk_on.Given as goal
 

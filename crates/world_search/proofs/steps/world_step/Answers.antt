@@ -2,7 +2,8 @@ use Rattle.std.proofs.Common.{◌≡◌, false, Some, inr, sym, ap, ◌∙◌, s
 use Rattle.cert_rules.specs.Listings.{listing_next}
 use Rattle.world_search.specs.Walking.{place, expected}
 use Rattle.world_search.proofs.LeastNodes.{node_within}
-use Rattle.world_search.proofs.Telling.{next_standing, keeps_goes, keeps_after, keeps_ends, log_memory, log_ok_as, log_as}
+use Rattle.world_search.proofs.Telling.{next_standing, keeps_goes, keeps_after, keeps_ends}
+use Rattle.search_log.proofs.Logs.{log_memory, log_ok_as, log_as}
 use Rattle.world_search.proofs.steps.world_step.Goals as goal
 
 pub returns-in_err-family-clause-keeps : goal.returns-in_err-family-clause-keeps

@@ -1,8 +1,9 @@
 use Rattle.std.proofs.Common.{◌≡◌, false, Some, refl, sym, ◌∙◌, subst}
 use Rattle.cert_rules.specs.Listings.{listing_next}
-use Rattle.world_search.specs.declared.step.StepFault.TheVariants.{NoMemory}
+use Rattle.search_log.specs.declared.fault.StepFault.TheVariants.{NoMemory}
 use Rattle.world_search.specs.Logging.{KeepsPast, next_if}
-use Rattle.world_search.proofs.Telling.{keeps_err, keeps_goes, keeps_after, keeps_untold, log_stays_ok, log_memory}
+use Rattle.world_search.proofs.Telling.{keeps_err, keeps_goes, keeps_after, keeps_untold}
+use Rattle.search_log.proofs.Logs.{log_stays_ok, log_memory}
 use Rattle.world_search.proofs.tell.tell_dead.Goals as goal
 
 pub returns-then-is_dropping-clause-keeps : goal.returns-then-is_dropping-clause-keeps

@@ -1,0 +1,24 @@
+use Rattle.std.proofs.Common.{subst}
+use Rattle.std.specs.Prelude.{IfSome}
+use Rattle.point_encode.specs.Needs.{need_seen, IsInRange}
+use Rattle.point_query.specs.Answers.{IsFirstClosed, IsProbeAnswer}
+use Rattle.dead_nodes.specs.Why.{Closes}
+use Rattle.dead_nodes.proofs.Reasons.{live_from_one, first_closed}
+use Rattle.dead_nodes.proofs.why.asked.Goals as goal
+
+pub returns-in-Some-clause-why : goal.returns-in-Some-clause-why
+returns-in-Some-clause-why c =
+    let s = c.asked_of_last.new.asker.solver.state in
+    let closes : Closes c.args.problem.now s c.args.node.now c.in-Some.reason = subst (λ o. IfSome o (Closes c.args.problem.now s c.args.node.now)) c.in-Some.is c.in_ok-reason.ensures.closed in
+    (closes, live_from_one s c.in-Some.reason.clause _ c.facts.ensures.solver.from_one closes.closed)
+
+pub returns-in-Closed-clause-why : goal.returns-in-Closed-clause-why
+returns-in-Closed-clause-why c =
+    let p = c.args.problem.now in
+    let m = c.args.node.now in
+    let answer : IsInRange p c.in-Closed.need × IsFirstClosed c.probe.new.self p m (need_seen p c.in-Closed.need) c.in-Closed.clause =
+    subst (IsProbeAnswer c.probe.new.self p m) c.in-Closed.is c.in_ok-probe.ensures.answer in
+    let first = answer.1 in (
+      first_closed c.probe.new.self p m (need_seen p c.in-Closed.need) c.need_number.result c.in-Closed.clause c.need_number.ensures.of first,
+      live_from_one c.probe.new.self.solver.state c.in-Closed.clause _ c.facts-2.ensures.solver.from_one first.closed.named,
+    )

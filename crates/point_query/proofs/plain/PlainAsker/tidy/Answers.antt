@@ -1,5 +1,0 @@
-use Rattle.point_query.proofs.Querying.{solver_stays}
-use Rattle.point_query.proofs.plain.PlainAsker.tidy.Goals as goal
-
-pub invariant_of-self : goal.invariant_of-self
-invariant_of-self c = solver_stays c.law_derived_clauses_follow.ensures _ _ _ c.self.invariant c.tidy.ensures.kept

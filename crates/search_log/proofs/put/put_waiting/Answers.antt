@@ -1,0 +1,30 @@
+use Rattle.std.proofs.Common.{◌≡◌, ◌∙◌, sym, ap, map, subst, OnOk}
+use Rattle.cert_text.specs.declared.line.CertLine.TheVariants.{Proof}
+use Rattle.point_query.specs.Asking.{AskerState}
+use Rattle.search_log.specs.declared.fault.StepFault.TheVariants.{NoMemory}
+use Rattle.search_log.specs.Logging.{AreToldWith}
+use Rattle.search_log.proofs.Logs.{flushed_by_put, flushed_untold, flushed_not, log_stays_ok, log_memory}
+use Rattle.search_log.proofs.put.put_waiting.Goals as goal
+
+pub returns-then-is_dropping-clause-flushed : goal.returns-then-is_dropping-clause-flushed
+returns-then-is_dropping-clause-flushed g c =
+    flushed_untold (tt {0}) (g.L.TreeLog.lines c.args.log.now) c.args.asker.now c.clear_lines.new.self
+    (g.met.L.TreeLog.tells_none c.args.log.now (sym c.is_dropping.ensures ∙ c.if-is_dropping.true)) (ap (λ (s : AskerState). s.solver.waiting) c.clear_lines.ensures)
+
+pub returns-then-is_dropping-clause-log : goal.returns-then-is_dropping-clause-log
+returns-then-is_dropping-clause-log g c = log_stays_ok _ c.args.log.now (g.met.L.TreeLog.steady_stays c.args.log.now) (g.met.L.TreeLog.quiet_stays c.args.log.now)
+
+pub returns-in_err-lines-clause-flushed : goal.returns-in_err-lines-clause-flushed
+returns-in_err-lines-clause-flushed g c = flushed_not (λ f. f ≡ NoMemory) c.from_residual.result (g.L.TreeLog.lines c.args.log.now) c.args.asker.now c.from_residual.ensures.1
+
+pub returns-in_err-lines-clause-log : goal.returns-in_err-lines-clause-log
+returns-in_err-lines-clause-log g c = log_memory c.from_residual.result c.args.log.now (g.met.L.TreeLog.steady_stays c.args.log.now) (g.met.L.TreeLog.quiet_stays c.args.log.now) c.from_residual.ensures.1
+
+pub returns-clause-flushed : goal.returns-clause-flushed
+returns-clause-flushed g c =
+    let old = g.L.TreeLog.lines c.args.log.now in
+    let new = g.L.TreeLog.lines c.put_all.new.log in
+    let one = c.args.asker.now in
+    let are : c.deref.result.now ≡ map Proof one.solver.waiting = c.deref.ensures.value ∙ c.in_ok-lines.ensures.copies ∙ ap (map Proof) c.lines.ensures in
+    flushed_by_put c.put_all.result old new one c.clear_lines-2.new.self (ap (λ (s : AskerState). s.solver.waiting) c.clear_lines-2.ensures)
+    (subst (λ lines. OnOk c.put_all.result (AreToldWith old lines new)) are c.put_all.ensures.told) c.put_all.ensures.err

@@ -1,0 +1,11 @@
+//! What a search puts in a log: the lines of an asker.
+#![tactic(auto)]
+
+mod copies;
+mod fault;
+mod idle;
+mod put;
+
+pub use fault::StepFault;
+pub use idle::{tidy, tidy_by_turns};
+pub use put::{put_one, put_waiting};
