@@ -96,8 +96,8 @@ step_world old new left table family s = record { table = table; left = left; ca
 pub step_spent : (old new : SearchState) (left : Option ℕ) (node : List Rel) → IsStep old new None left (step.Spent node) → CameToEnd old new
 step_spent old new left node s = absurd (let none : left ≡ None = s.0.0.counted in let some : left ≡ Some 0 = s.0.1 in let clash : Some 0 ≡ None = sym some ∙ none in cc)
 
-pub step_end : (old new : SearchState) (left : Option ℕ) (node : Option (List Rel)) → old.to ≡ None → IsStep old new None left (step.End node) → CameToEnd old new
-step_end old new left node none s = record { left = left; came = s.0.0; ended = at_no_end old new None left [] none s.0.0 s.0.1 }
+pub step_end : (old new : SearchState) (left : Option ℕ) (last : Option (List Rel)) → old.to ≡ None → IsStep old new None left (step.End last) → CameToEnd old new
+step_end old new left last none s = record { left = left; came = s.0.0; ended = at_no_end old new None left [] none s.0.0 s.0.1 }
 
 -- a world more is found
 pub found_world : (p : Problem) (one other : SearchState) (count : ℕ) → one.problem ≡ p → WentPastWorld one other → AreFound p one.at count

@@ -1,3 +1,4 @@
 pub mod FoundLemmas
+pub mod CheckedLemmas
 pub mod SummaryLemmas
 pub mod EndLemmas

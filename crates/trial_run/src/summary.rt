@@ -70,15 +70,16 @@ fn push_count(text: &mut Vec<u8>, alloc: Global, word: &str, count: u64) -> Resu
 }
 
 // Puts the lines of the problem itself.
-fn push_problem(
-    text: &mut Vec<u8>,
-    alloc: Global,
-    problem: &Problem,
-) -> Result<(), AllocError>
+fn push_problem(text: &mut Vec<u8>, alloc: Global, problem: &Problem) -> Result<(), AllocError>
     ensures { OnOk result (text.new.items ≡ text.old.items ++ problem_lines problem.now) }
 {
     push_count(text, alloc, "concepts", u64::from(problem.concept_count()))?;
-    push_count(text, alloc, "articulations", u64::from(problem.articulation_count()))?;
+    push_count(
+        text,
+        alloc,
+        "articulations",
+        u64::from(problem.articulation_count()),
+    )?;
     push_count(text, alloc, "pairs", u64::from(problem.pair_count()))
 }
 
@@ -94,7 +95,12 @@ fn push_worlds(
     ensures { OnOk result (text.new.items ≡ text.old.items ++ world_lines problem.now found worlds.now) }
 {
     push_count(text, alloc, "worlds", found)?;
-    push_count(text, alloc, "varied", u64::from(varied_count(problem, worlds)))?;
+    push_count(
+        text,
+        alloc,
+        "varied",
+        u64::from(varied_count(problem, worlds)),
+    )?;
     push_count(text, alloc, "accepted", worlds.len() as u64)
 }
 
