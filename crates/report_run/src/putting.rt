@@ -38,8 +38,8 @@ fn put_piece<W: Sink>(alloc: Global, out: &mut W, piece: &[u8]) -> Result<(), St
     }
 }
 
-// Puts a text, a line in each put.
-fn put_lines<W: Sink>(alloc: Global, out: &mut W, text: &[u8]) -> Result<(), StoreFault>
+/// Puts a text, a line in each put. Where its last byte is no line feed, one is put behind it.
+pub fn put_lines<W: Sink>(alloc: Global, out: &mut W, text: &[u8]) -> Result<(), StoreFault>
     ensures { LeavesPiece result (in_lines text.now) (sink_state (W.received out.old) (W.faults out.old)) (sink_state (W.received out.new) (W.faults out.new)) }
 {
     let mut from = 0;

@@ -1,12 +1,13 @@
 //! A trial, from its seed to its status.
 ghost use Rattle.std.specs.Prelude.{◌≡◌, IfOk};
 ghost use Rattle.trial_make.specs.Made.{IsSize};
-ghost use Rattle.run_ends.specs.Runs.{StoreState, sink_state, IsRunOf};
+ghost use Rattle.run_ends.specs.Runs.{StoreState, sink_state, LeavesPiece, IsRunOf};
 ghost use Rattle.trial_run.specs.Trials.{IsSummary, IsTrialAnswer, trial_names};
 
 use crate::checked::checked_worlds;
 use crate::summary::summary;
 use outer_store::{Sink, StoreFault};
+use report_run::put_lines;
 use run_ends::{Status, put_end};
 use std::alloc::{AllocError, Global};
 use trial_make::make_problem;
@@ -21,6 +22,20 @@ fn trial_text(alloc: Global, seed: u64, size: u32) -> Result<Vec<u8>, AllocError
     summary(alloc, seed, size, &problem, found, worlds.list())
 }
 
+// Puts a summary, a line in each put.
+fn put_summary<W: Sink>(
+    alloc: Global,
+    out: &mut W,
+    seed: u64,
+    size: u32,
+    text: &[u8],
+) -> Result<(), StoreFault>
+    requires { IsSummary seed size text.now }
+    ensures { LeavesPiece result text.now (sink_state (W.received out.old) (W.faults out.old)) (sink_state (W.received out.new) (W.faults out.new)) }
+{
+    put_lines(alloc, out, text)
+}
+
 /// Makes the problem of a seed and a size, lists its worlds with a certificate, checks that certificate, and puts how many worlds
 /// there are by both. It answers how the run ended, and reads and writes no store.
 pub fn run_trial<W: Sink>(alloc: Global, out: &mut W, seed: u64, size: u32) -> Status
@@ -31,7 +46,7 @@ pub fn run_trial<W: Sink>(alloc: Global, out: &mut W, seed: u64, size: u32) -> S
         Ok(text) => text,
         Err(AllocError) => return put_end(alloc, out, Status::NoMemory),
     };
-    match out.put(&text) {
+    match put_summary(alloc, out, seed, size, &text) {
         Ok(()) => Status::Done,
         Err(StoreFault::Failed) => Status::WriteFault,
         Err(StoreFault::NoMemory) => put_end(alloc, out, Status::NoMemory),

@@ -13,4 +13,4 @@ pub returns-in-Err-Failed : goal.returns-in-Err-Failed
 returns-in-Err-Failed g c = λ store.
     let is : IsSummary c.args.seed c.args.size c.deref.result.now = subst (λ (text : List ℕ). IsSummary c.args.seed c.args.size text) (sym c.deref.ensures.value) c.in-Ok.ensures in
     trial_refused c.args.seed c.args.size c.deref.result.now is store (sink_state (g.W.Sink.received c.args.out.now) (g.W.Sink.faults c.args.out.now))
-    (sink_state (g.W.Sink.received c.put.new.self) (g.W.Sink.faults c.put.new.self)) c.in-Err-Failed.ensures.err (rw c.in-Err-Failed.field-0-is at c.in-Err-Failed.ensures.cause)
+    (sink_state (g.W.Sink.received c.put_summary.new.out) (g.W.Sink.faults c.put_summary.new.out)) c.in-Err-Failed.ensures.err (rw c.in-Err-Failed.field-0-is at c.in-Err-Failed.ensures.cause)
