@@ -66,13 +66,24 @@ fn check_cert(
     }
 }
 
+fn checked_over(
+    alloc: Global,
+    problem: &Problem,
+    store: &mut SureStore,
+) -> Result<(u64, Worlds), AllocError>
+    ensures found { IfOk result (λ both. AreFound problem.now None both.0) }
+    ensures accepted { IfOk result (λ both. IsListing problem.now [] None both.1) }
+{
+    let found = write_cert(alloc, problem, store, "cert")?;
+    let worlds = check_cert(alloc, problem, store, "cert")?;
+    Ok((found, worlds))
+}
+
 /// How many worlds a problem has by its listing, and the worlds with which the certificate of that listing is accepted.
 pub(crate) fn checked_worlds(alloc: Global, problem: &Problem) -> Result<(u64, Worlds), AllocError>
     ensures found { IfOk result (λ both. AreFound problem.now None both.0) }
     ensures accepted { IfOk result (λ both. IsListing problem.now [] None both.1) }
 {
     let mut store = SureStore::new(alloc);
-    let found = write_cert(alloc, problem, &mut store, "cert")?;
-    let worlds = check_cert(alloc, problem, &mut store, "cert")?;
-    Ok((found, worlds))
+    checked_over(alloc, problem, &mut store)
 }

@@ -7,6 +7,3 @@ mod running;
 mod summary;
 
 pub use running::run_trial;
-
-#[cfg(test)]
-mod tests;

@@ -1,19 +1,17 @@
 //! The listing of all worlds, with its certificate.
-ghost use Rattle.std.specs.Prelude.{◌≡◌, ◌≤◌, [], None, All, length, IfOk};
-ghost use Rattle.std.specs.Bool.{OnTrue};
+ghost use Rattle.std.specs.Prelude.{◌≡◌, [], None, IfOk};
 ghost use Rattle.constraint_set.specs.Shape.{shape_of};
-ghost use Rattle.lits_core.specs.Derivation.{FromOne};
 ghost use Rattle.cert_text.specs.Lines.{IdsFromOne};
 ghost use Rattle.world_search.specs.Searching.{begun};
 ghost use Rattle.trial_run.specs.Steps.{AreFound};
 ghost use Rattle.trial_run.specs.Searches.{IsFurther};
 
-use cert_text::{CertLine, TreeLog, copy_proof};
+use cert_text::{CertLine, TreeLog};
 use constraint_set::Problem;
-use lits_core::Line;
 use point_query::Asker;
 use rcc5_core::Position;
-use std::alloc::{AllocError, Global};
+use search_log::{put_one, put_waiting};
+use std::alloc::Global;
 use world_search::{Nodes, Search, Step, StepFault};
 
 // Whether the search goes past a further world. The log is told of each node.
@@ -64,46 +62,6 @@ fn count_worlds<L: TreeLog>(
     }
 }
 
-// Whether ids are at least 1.
-fn are_from_one(ids: &[u64]) -> bool
-    ensures { OnTrue result (All (λ id. 1 ≤ id) ids.now) }
-{
-    for id in ids {
-        if *id == 0 {
-            return false;
-        }
-    }
-    true
-}
-
-fn is_from_one(line: &Line) -> bool
-    ensures { OnTrue result (FromOne line.now) }
-{
-    match line {
-        Line::Derive { id, hints, .. } => *id >= 1 && are_from_one(hints.list()),
-        Line::Forget { ids } => are_from_one(ids.list()),
-    }
-}
-
-// Puts a line of the derivation. Those of an asker have ids from 1 on: one that had not would be none of a certificate, and is
-// answered like want of memory.
-fn put_proof<L: TreeLog>(alloc: Global, line: &Line, log: &mut L) -> Result<(), StepFault> {
-    if !is_from_one(line) {
-        return Err(StepFault::NoMemory);
-    }
-    let line = CertLine::Proof(copy_proof(alloc, line)?);
-    log.put_line(&line)?;
-    Ok(())
-}
-
-// Puts the lines that wait.
-fn put_waiting<L: TreeLog>(alloc: Global, asker: &Asker, log: &mut L) -> Result<(), StepFault> {
-    for line in asker.lines() {
-        put_proof(alloc, line, log)?;
-    }
-    Ok(())
-}
-
 fn first_line(alloc: Global, problem: &Problem) -> CertLine
     ensures { IdsFromOne result }
 {
@@ -113,17 +71,49 @@ fn first_line(alloc: Global, problem: &Problem) -> CertLine
     }
 }
 
-// Puts all that comes between the first and the last line, and answers how many worlds there are. After the last node the asker
-// is tidied once more.
+// Here and below no `?` comes after a value that has to be dropped is made: each would be one more place that lets it go, and
+// proving those is dear.
+fn put_first<L: TreeLog>(alloc: Global, problem: &Problem, log: &mut L) -> Result<(), StepFault> {
+    let first = first_line(alloc, problem);
+    put_one(log, &first)
+}
+
+// How many worlds there are, by a search of its own.
+fn count_all<L: TreeLog>(
+    alloc: Global,
+    problem: &Problem,
+    asker: &mut Asker,
+    log: &mut L,
+) -> Result<u64, StepFault>
+    requires shape { asker.old.shape ≡ shape_of problem.now }
+    ensures { IfOk result (AreFound problem.now None) }
+{
+    let mut search = Search::from(alloc, problem, Position::new(alloc), None)?;
+    count_worlds(problem, asker, &mut search, log)
+}
+
+// After the last node the asker is tidied once more, and what that gives is put.
+fn put_by<L: TreeLog>(
+    alloc: Global,
+    problem: &Problem,
+    asker: &mut Asker,
+    log: &mut L,
+) -> Result<u64, StepFault>
+    requires shape { asker.old.shape ≡ shape_of problem.now }
+    ensures { IfOk result (AreFound problem.now None) }
+{
+    let found = count_all(alloc, problem, asker, log)?;
+    asker.tidy()?;
+    put_waiting(alloc, asker, log)?;
+    Ok(found)
+}
+
+// Puts all that comes between the first and the last line, and answers how many worlds there are.
 fn put_nodes<L: TreeLog>(alloc: Global, problem: &Problem, log: &mut L) -> Result<u64, StepFault>
     ensures { IfOk result (AreFound problem.now None) }
 {
     let mut asker = Asker::new(alloc, problem)?;
-    let mut search = Search::from(alloc, problem, Position::new(alloc), None)?;
-    let found = count_worlds(problem, &mut asker, &mut search, log)?;
-    asker.tidy()?;
-    put_waiting(alloc, &asker, log)?;
-    Ok(found)
+    put_by(alloc, problem, &mut asker, log)
 }
 
 /// Puts the certificate of all worlds in a log, and answers how many there are.
@@ -134,9 +124,8 @@ pub(crate) fn put_listing<L: TreeLog>(
 ) -> Result<u64, StepFault>
     ensures { IfOk result (AreFound problem.now None) }
 {
-    let first = first_line(alloc, problem);
-    log.put_line(&first)?;
+    put_first(alloc, problem, log)?;
     let found = put_nodes(alloc, problem, log)?;
-    log.put_line(&CertLine::End(None))?;
+    put_one(log, &CertLine::End(None))?;
     Ok(found)
 }
