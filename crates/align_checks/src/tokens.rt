@@ -89,7 +89,8 @@ const PLAIN: &str = "taxonomy 1\n(A)\ntaxonomy 2\n(B)\n";
 
 const OLD: &str = "token 1 0e840ad3c362ef009568403e4c4fb237f9a9b4416ef7c8fbc4f86c79753f6d10 <\n";
 
-const NEW: &str = "token 2 2 1 0e840ad3c362ef009568403e4c4fb237f9a9b4416ef7c8fbc4f86c79753f6d10 <\n";
+const NEW: &str =
+    "token 2 2 1 0e840ad3c362ef009568403e4c4fb237f9a9b4416ef7c8fbc4f86c79753f6d10 <\n";
 
 // Puts what runs over a store put whose token is cut off, at each place of it.
 fn put_cut_off(
@@ -181,7 +182,12 @@ fn worlds_in(alloc: Global, out: &[u8]) -> Result<String, AllocError> {
 // A budget, and how many runs it takes to list seven worlds among 362 nodes.
 #[test]
 fn runs_in_a_chain_list_each_world_once(rt: HostRuntime) -> Result<(), Fail> {
-    for (budget, runs) in [("nodes=1", 362), ("nodes=50", 8), ("worlds=1", 8), ("worlds=3", 3)] {
+    for (budget, runs) in [
+        ("nodes=1", 362),
+        ("nodes=50", 8),
+        ("worlds=1", 8),
+        ("worlds=3", 3),
+    ] {
         let (worlds, made) = chain(rt.alloc(), budget)?;
         assert_eq!(rt; worlds.as_str(), SEVEN_LINES, "{budget}");
         assert_eq!(rt; made, runs, "{budget}");

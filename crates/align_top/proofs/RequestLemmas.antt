@@ -91,4 +91,3 @@ input_given operands lacking none = by (is_given operands In) (not_given operand
     by : (b : Bool) → b ≡ false → (not b || false) ≡ false → ⊥
     by true e h = cc
     by false e h = cc
-

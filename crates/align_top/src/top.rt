@@ -83,7 +83,15 @@ fn run_request<S: Store, W: Sink>(
             input,
             kinds,
             switches,
-        } => run_report(alloc, store, out, input.text(), kinds.list(), switches, watchers),
+        } => run_report(
+            alloc,
+            store,
+            out,
+            input.text(),
+            kinds.list(),
+            switches,
+            watchers,
+        ),
         Request::Trial { seed, size } => {
             drop(watchers);
             run_trial(alloc, out, seed, size)
