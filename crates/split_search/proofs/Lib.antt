@@ -1,0 +1,9 @@
+pub mod Leftover
+pub mod Lines
+pub mod Nodes
+pub mod Points
+pub mod Told
+pub mod Turns
+pub mod Visits
+pub mod Whole
+pub mod Within

@@ -1,0 +1,105 @@
+-- Lines of nodes, as an asker tells of them. The lemmas are those of a search over all pairs, at the empty prefix of a node's problem.
+use Rattle.std.proofs.Common.{◌≡◌, ℕ, ◌+◌, ◌*◌, ◌-◌, ◌/◌, ◌%◌, ◌<◌, ◌≤◌, ◌⊎◌, cond, true, false, inl, inr, List, [], ◌∷◌, length, Option, Some, None, All, refl, sym, ap, ◌∙◌, subst, arith, IsTrue}
+use Rattle.std.specs.Prelude.{◌==◌, Contains, MatchOption, nat_lt}
+use Rattle.std.specs.List.{AllByRecursion}
+use Rattle.std.proofs.lemmas.Bool.{and_from, cases_lt, eq-eqb, ne_eqb, lt-ltb}
+use Rattle.std.proofs.lemmas.List.Elements.{recursion_from_All, Contains-append_right}
+use Rattle.rcc5_core.specs.declared.Rel.{Rel}
+use Rattle.lits_core.specs.Derivation.{State, derived_clause, live_clause}
+use Rattle.world_model.specs.Problem.{Problem, concept_count, pair_count}
+use Rattle.world_model.specs.Alive.{InRegion, InConcept, problem_at, IsAlive}
+use Rattle.world_model.specs.Node.{pair_at}
+use Rattle.world_model.proofs.PointOnce.{at_empty}
+use Rattle.cert_model.specs.Forced.{need_with, region_with}
+use Rattle.cert_model.proofs.NeedLiterals.{concept_numbered}
+use Rattle.point_encode.specs.declared.need.Need.{Need}
+use Rattle.point_encode.specs.declared.need.Need.TheVariants.{Region, Concept}
+use Rattle.point_encode.specs.Needs.{need_seen, number_of, IsInRange}
+use Rattle.point_query.specs.Asking.{AskerState}
+use Rattle.point_query.specs.Answers.{IsFirstClosed, IsFirstEmpty}
+use Rattle.cert_text.specs.declared.line.CertLine.TheVariants.{NoPoint, NoRelation}
+use Rattle.cert_rules.specs.Trees.{Tree, node_problem, last_of, same_last, is_node_at}
+use Rattle.cert_rules.specs.ClaimWriting.{TellsWithin}
+use Rattle.cert_rules.specs.Writing.{IsClosedNeed}
+use Rattle.cert_rules.proofs.Relations.{itself}
+
+same_itself : (last : Option Rel) → same_last last last ≡ true
+same_itself None = refl
+same_itself (Some rel) = itself rel
+
+-- a node by its depth and last relation
+pub named : (m : List Rel) (depth : ℕ) (last : Option Rel) → depth ≡ length m → last ≡ last_of m → IsTrue (is_node_at m depth last)
+named m depth last is_depth is_last =
+    and_from (depth == length m) (same_last last (last_of m)) (eq-eqb depth (length m) is_depth) (ap (same_last last) (sym is_last) ∙ same_itself last)
+
+-- the root has no last relation
+pub root_last : (m : List Rel) → length m ≡ 0 → None ≡ last_of m
+root_last [] none = refl
+root_last (r ∷ m) none = absurd (omega arith)
+
+-- no clause has the id 0
+none_derived : (entries : List (ℕ × List ℕ)) → AllByRecursion (λ entry. 1 ≤ entry.0) entries → derived_clause entries 0 ≡ None
+none_derived [] h = refl
+none_derived (entry ∷ entries) h =
+    let other : (entry.0 == 0) ≡ false = ne_eqb entry.0 0 (λ e. let one = h.0 in omega arith) in
+    ap (λ b. cond b (Some entry.1) (derived_clause entries 0)) other ∙ none_derived entries h.1
+
+pub live_from_one : (s : State) (id : ℕ) (P : List ℕ → Type 0) → All (λ entry. 1 ≤ entry.0) s.derived → MatchOption (live_clause s id) ⊥ P → 1 ≤ id
+live_from_one s id P each live = by (cases_lt 0 id)
+  where
+    none : id ≡ 0 → live_clause s id ≡ None
+    none e = ap (live_clause s) e ∙ none_derived s.derived (recursion_from_All (λ entry. 1 ≤ entry.0) s.derived each)
+
+    by : (0 < id) ⊎ (id ≤ 0) → 1 ≤ id
+    by (inl more) = omega arith
+    by (inr least) = absurd (subst (λ o. MatchOption o ⊥ P) (none (omega arith)) live)
+
+-- the need with its number
+need_numbered : (p : Problem) (need : Need) → IsInRange p need → need_with p (number_of p need) ≡ Some (need_seen p need)
+need_numbered p (Region pair part) range =
+    let small : 3 * pair + part < 3 * pair_count p = omega (arith, range) in
+    let third : (3 * pair + part) / 3 ≡ pair = omega (arith, range) in
+    let rest : (3 * pair + part) % 3 ≡ part = omega (arith, range) in
+    ap (λ b. cond b (Some (InRegion (pair_at p ((3 * pair + part) / 3)) (region_with ((3 * pair + part) % 3))))
+    (cond (nat_lt (3 * pair + part) (3 * pair_count p + concept_count p)) (Some (InConcept ((3 * pair + part) - 3 * pair_count p))) None)) (lt-ltb (3 * pair + part) (3 * pair_count p) small)
+    ∙ ap (λ k. Some (InRegion (pair_at p k) (region_with ((3 * pair + part) % 3)))) third ∙ ap (λ k. Some (InRegion (pair_at p pair) (region_with k))) rest
+need_numbered p (Concept c) range = concept_numbered p c range
+
+-- a need that has no point, by its number
+pub closed_need : (asker : AskerState) (p : Problem) (m : List Rel) (need : Need) (id number : ℕ) → number ≡ number_of p need → IsInRange p need → IsFirstClosed asker p m (need_seen p need) id →
+    IsClosedNeed p asker.solver.state m number id
+closed_need asker p m need id number is range closed = record {
+  need = need_seen p need;
+  named = ap (need_with p) is ∙ need_numbered p need range;
+  among = subst (λ ns. Contains ns (need_seen p need)) (sym closed.among)
+      (Contains-append_right closed.before (need_seen p need ∷ closed.after) (need_seen p need) (0, omega arith, refl));
+  closed = closed.closed.named;
+}
+
+-- what an asker says of the root of a node's problem
+abbrev pub here_is : Tree → List Rel → Problem → List Rel → Type 0
+here_is tree m node prefix = (node ≡ node_problem tree m) × (prefix ≡ [])
+
+root_problem : (tree : Tree) (m : List Rel) (node : Problem) (prefix : List Rel) → here_is tree m node prefix → problem_at node prefix ≡ node_problem tree m
+root_problem tree m node prefix here = ap (problem_at node) here.1 ∙ at_empty node ∙ here.0
+
+pub alive_here : (tree : Tree) (m : List Rel) (node : Problem) (prefix : List Rel) → here_is tree m node prefix → IsAlive (problem_at node prefix) → IsAlive (node_problem tree m)
+alive_here tree m node prefix here alive = subst IsAlive (root_problem tree m node prefix here) alive
+
+pub dead_here : (tree : Tree) (m : List Rel) (node : Problem) (prefix : List Rel) → here_is tree m node prefix → (IsAlive (problem_at node prefix) → ⊥) → IsAlive (node_problem tree m) → ⊥
+dead_here tree m node prefix here dead alive = dead (subst IsAlive (sym (root_problem tree m node prefix here)) alive)
+
+pub tells_pair : (tree : Tree) (m : List Rel) (node : Problem) (prefix : List Rel) (state : State) (depth : ℕ) (last : Option Rel) (pair : ℕ) → here_is tree m node prefix → depth ≡ length m → last ≡ last_of m →
+    IsFirstEmpty (problem_at node prefix) pair → TellsWithin tree state m (NoRelation depth last pair)
+tells_pair tree m node prefix state depth last pair here is_depth is_last first =
+    let at : IsFirstEmpty (node_problem tree m) pair = subst (λ q. IsFirstEmpty q pair) (root_problem tree m node prefix here) first in
+    (named m depth last is_depth is_last, (at.within, at.empty))
+
+pub tells_need : (tree : Tree) (m : List Rel) (node : Problem) (prefix : List Rel) (asker : AskerState) (depth : ℕ) (last : Option Rel) (need : Need) (id number : ℕ) → here_is tree m node prefix →
+    depth ≡ length m → last ≡ last_of m → number ≡ number_of node need → IsInRange node need → IsFirstClosed asker node prefix (need_seen node need) id →
+    TellsWithin tree asker.solver.state m (NoPoint depth last number id)
+tells_need tree m node prefix asker depth last need id number here is_depth is_last is range closed = (
+  named m depth last is_depth is_last,
+  subst (λ q. IsClosedNeed q asker.solver.state [] number id) here.0
+      (subst (λ prefix. IsClosedNeed node asker.solver.state prefix number id) here.1 (closed_need asker node prefix need id number is range closed)),
+)
