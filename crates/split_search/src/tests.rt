@@ -64,14 +64,24 @@ fn rels(letters: &str) -> RelSet {
     set
 }
 
-// The same with two pairs narrowed.
-fn narrowed(alloc: Global, first: RelSet, second: RelSet) -> Result<Problem, AllocError> {
-    let problem = bare(alloc)?;
-    if problem.pair_count() < 2 {
+// A problem with a pair narrowed.
+fn narrowed_at(
+    alloc: Global,
+    problem: &Problem,
+    pair: u32,
+    set: RelSet,
+) -> Result<Problem, AllocError> {
+    if pair >= problem.pair_count() {
         return Err(AllocError);
     }
-    let problem = problem.narrowed(alloc, 0, first)?;
-    problem.narrowed(alloc, 1, second)
+    problem.narrowed(alloc, pair, set)
+}
+
+// The bare one with two pairs narrowed.
+fn narrowed(alloc: Global, first: RelSet, second: RelSet) -> Result<Problem, AllocError> {
+    let bare = bare(alloc)?;
+    let once = narrowed_at(alloc, &bare, 0, first)?;
+    narrowed_at(alloc, &once, 1, second)
 }
 
 // A letter for a line of a tree.

@@ -37,5 +37,5 @@ summary_lines seed size text is =
     (ended_behind _ _ (ended_behind (problem_lines p) _ (ended_behind (count_line (codes "worlds") (count_of is.worlds)) _ (ended_behind (count_line (codes "varied") (varied_count p is.worlds)) _ (ended_count (codes "accepted") (count_of is.worlds)))))))
 
 -- what is put in lines is the summary
-pub lines_put : (seed size : ℕ) (text : List ℕ) (r : Result ⊤ StoreFault) (old new : SinkState) → IsSummary seed size text → LeavesPiece r (in_lines text) old new → LeavesPiece r text old new
+pub lines_put : {T : Type 0} (seed size : ℕ) (text : List ℕ) (r : Result T StoreFault) (old new : SinkState) → IsSummary seed size text → LeavesPiece r (in_lines text) old new → LeavesPiece r text old new
 lines_put seed size text r old new is put = subst (λ (piece : List ℕ). LeavesPiece r piece old new) (summary_lines seed size text is) put
