@@ -3,6 +3,9 @@ use Rattle.std.proofs.Common.{◌≡◌, ℕ, List, [], ◌∷◌, ◌++◌, ref
 use Rattle.std.specs.Prelude.{codes, decimal}
 use Rattle.outer_store.specs.declared.fault.StoreFault.{StoreFault}
 use Rattle.std.specs.Prelude.{Result}
+use Rattle.rcc5_core.specs.declared.Rel.{Rel}
+use Rattle.world_model.specs.Problem.{Problem}
+use Rattle.run_ends.specs.Ends.{line_of}
 use Rattle.run_ends.specs.Runs.{SinkState, LeavesPiece}
 use Rattle.report_run.specs.Reporting.{in_lines}
 use Rattle.trial_make.specs.Made.{made}
@@ -30,11 +33,19 @@ ended_count : (word : List ℕ) (count : ℕ) → IsEnded (count_line word count
 unfolding IsEnded
 ended_count word count = (word ++ 32 ∷ decimal count, refl)
 
+ended_worlds : (p : Problem) (found : ℕ) (worlds : List (List Rel)) → IsEnded (world_lines p found worlds)
+ended_worlds p found worlds =
+    ended_behind (count_line (codes "worlds") found) (count_line (codes "varied") (varied_count p worlds) ++ count_line (codes "accepted") (count_of worlds))
+    (ended_behind (count_line (codes "varied") (varied_count p worlds)) (count_line (codes "accepted") (count_of worlds)) (ended_count (codes "accepted") (count_of worlds)))
+
+ended_summary : (seed size : ℕ) (p : Problem) (found : ℕ) (worlds : List (List Rel)) → IsEnded (summary seed size p found worlds)
+ended_summary seed size p found worlds =
+    ended_behind (line_of (codes "trial " ++ (decimal seed ++ 32 ∷ decimal size))) (problem_lines p ++ world_lines p found worlds)
+    (ended_behind (problem_lines p) (world_lines p found worlds) (ended_worlds p found worlds))
+
 pub summary_lines : (seed size : ℕ) (text : List ℕ) → IsSummary seed size text → in_lines text ≡ text
 summary_lines seed size text is =
-    let p = made seed size in
-    ended_lines text (subst IsEnded (sym is.is)
-    (ended_behind _ _ (ended_behind (problem_lines p) _ (ended_behind (count_line (codes "worlds") (count_of is.worlds)) _ (ended_behind (count_line (codes "varied") (varied_count p is.worlds)) _ (ended_count (codes "accepted") (count_of is.worlds)))))))
+    ended_lines text (subst (λ (xs : List ℕ). IsEnded xs) (sym is.is) (ended_summary seed size (made seed size) (count_of is.worlds) is.worlds))
 
 -- what is put in lines is the summary
 pub lines_put : {T : Type 0} (seed size : ℕ) (text : List ℕ) (r : Result T StoreFault) (old new : SinkState) → IsSummary seed size text → LeavesPiece r (in_lines text) old new → LeavesPiece r text old new
