@@ -21,20 +21,20 @@ there (name ∷ names) word e = by (bytes_eq word name) refl (there names word) 
     by false same rest h = let later = rest h in (suc later.0, (let lt = later.1 in omega (arith, lt)), later.2)
 
 apart : (names : List (List ℕ)) (word : List ℕ) → is_among names word ≡ false → All (λ other. word ≢ other) names
-apart [] word e = All-nil
+apart [] word e = All-nil (λ other. word ≢ other)
 apart (name ∷ names) word e = by (bytes_eq word name) refl (apart names word) e
   where
     by : (b : Bool) → bytes_eq word name ≡ b → (is_among names word ≡ false → All (λ other. word ≢ other) names) → (b || is_among names word) ≡ false → All (λ other. word ≢ other) (name ∷ names)
     by true same rest h = cc
-    by false other rest h = All-cons name names (λ e. let t = subst (λ (xs : List ℕ). bytes_eq word xs ≡ true) e (one_bytes word) in cc) (rest h)
+    by false other rest h = All-cons (λ other. word ≢ other) name names (λ e. let t = subst (λ (xs : List ℕ). bytes_eq word xs ≡ true) e (one_bytes word) in cc) (rest h)
 
 -- so of all names of a list
 all_there : (names kinds : List (List ℕ)) → list_all (is_among names) kinds ≡ true → All (Contains names) kinds
-all_there names [] e = All-nil
+all_there names [] e = All-nil (Contains names)
 all_there names (kind ∷ kinds) e = by (is_among names kind) refl (all_there names kinds) e
   where
     by : (b : Bool) → is_among names kind ≡ b → (list_all (is_among names) kinds ≡ true → All (Contains names) kinds) → (b && list_all (is_among names) kinds) ≡ true → All (Contains names) (kind ∷ kinds)
-    by true known rest h = All-cons kind kinds (there names kind known) (rest h)
+    by true known rest h = All-cons (Contains names) kind kinds (there names kind known) (rest h)
     by false known rest h = cc
 
 none_twice : (kinds : List (List ℕ)) → has_twice kinds ≡ false → AllPairs (λ one other. one ≢ other) kinds
@@ -43,7 +43,7 @@ none_twice (kind ∷ kinds) e = by (is_among kinds kind) refl (none_twice kinds)
   where
     by : (b : Bool) → is_among kinds kind ≡ b → (has_twice kinds ≡ false → AllPairs (λ one other. one ≢ other) kinds) → (b || has_twice kinds) ≡ false → AllPairs (λ one other. one ≢ other) (kind ∷ kinds)
     by true same rest h = cc
-    by false other rest h = AllPairs-cons kind kinds (apart kinds kind other) (rest h)
+    by false other rest h = AllPairs-cons (λ one other. one ≢ other) kind kinds (apart kinds kind other) (rest h)
 
 -- names without a fault can be asked for
 pub are_kinds : (watchers : List Watched) (kinds : List (List ℕ)) → names_fault (map (λ w. w.name) watchers) kinds ≡ None → AreKinds watchers kinds

@@ -1,5 +1,5 @@
 -- How a run ends that words ask for.
-use Rattle.std.proofs.Common.{◌≡◌, ℕ, List, [], ◌∷◌, map, Result, Ok, Err, refl, sym, ap, subst, inl, inr}
+use Rattle.std.proofs.Common.{◌≡◌, ℕ, List, [], ◌∷◌, map, Result, Ok, Err, refl, sym, ap, subst, ◌∙◌, inl, inr}
 use Rattle.outer_store.specs.declared.fault.StoreFault.{StoreFault}
 use Rattle.command_line.specs.declared.UsageKind.{UsageKind}
 use Rattle.command_line.specs.declared.Request.{Request}
@@ -14,6 +14,8 @@ use Rattle.align_top.specs.declared.Asking.{Asking}
 use Rattle.align_top.specs.declared.Order.{Order}
 use Rattle.align_top.specs.Output.{ComesTo, IsListingAnswer, written_names, names_of, answers_to, request_by, IsRun}
 use Rattle.align_top.specs.Steps.{order_answers}
+use Rattle.command_line.specs.Words.{request_of}
+use Rattle.align_top.specs.Steps.{IsMade}
 use Rattle.align_top.proofs.MadeLemmas.{made}
 
 -- an order that is carried out is what its words asked for, behind reads that left the store as it was
@@ -48,4 +50,20 @@ pub watched_names : {W : Type 0} (name : W → List ℕ) (text : W → Texts) (w
 watched_names name text [] = refl
 watched_names name text (w ∷ ws) = ap (λ names. name w ∷ names) (watched_names name text ws)
 
-pub ruleset words_rules = (made, words_asked, words_refused, words_starved, watched_names)
+request_named : {W : Type 0} (name : W → List ℕ) (text : W → Texts) (ws : List W) (words : List (List ℕ)) (r : Result Request UsageKind) → request_of (map name ws) words ≡ r
+    → request_by (watched name text ws) words ≡ r
+request_named name text ws words r e = ap (λ names. request_of names words) (watched_names name text ws) ∙ e
+
+-- the same of watchers as they are handed in
+pub made_by : {W : Type 0} (name : W → List ℕ) (text : W → Texts) (ws : List W) (words : List (List ℕ)) (r : Request) → request_of (map name ws) words ≡ Ok r → IsMade (watched name text ws) r
+made_by name text ws words r e = made (watched name text ws) words r (request_named name text ws words (Ok r) e)
+
+pub asked_by : {W : Type 0} (name : W → List ℕ) (text : W → Texts) (ws : List W) (words : List (List ℕ)) (r : Request) (s : Status) (one other : StoreState) (old new : SinkState)
+    → request_of (map name ws) words ≡ Ok r → IsRunOf (names_of (Ok r)) (answers_to (watched name text ws) (Ok r)) s one other old new → IsRun (watched name text ws) words s one other old new
+asked_by name text ws words r s one other old new e run = words_asked (watched name text ws) words r s one other old new (request_named name text ws words (Ok r) e) run
+
+pub refused_by : {W : Type 0} (name : W → List ℕ) (text : W → Texts) (ws : List W) (words : List (List ℕ)) (kind : UsageKind) (r : Status) (one : StoreState) (old new : SinkState)
+    → request_of (map name ws) words ≡ Err kind → IsLastPut (status.Usage kind) r (end_line (status.Usage kind)) old.bytes new.bytes old.faults new.faults → IsRun (watched name text ws) words r one one old new
+refused_by name text ws words kind r one old new e last = words_refused (watched name text ws) words kind r one old new (request_named name text ws words (Err kind) e) last
+
+pub ruleset words_rules = (made_by, asked_by, refused_by, words_starved)
