@@ -128,6 +128,12 @@ const SEVEN: &str = "taxonomy 1\n(A B C)\ntaxonomy 2\n(D E F)\narticulation\n[1.
 const SEVEN_LINES: &str =
     "=>><=!<!=>>!>>!\n=>><>x<!<>>!>>!\n=>><<!<x>>>!>>!\n=>><x><<!>>!>>!\n=>><xx<xx>>!>>!\n=>><!=<=!>>!>>!\n=>><!<<>x>>!>>!\n";
 
+// What the token's file holds is held as the one to go on from.
+fn hand_on(alloc: Global, store: &mut MemoryStore) -> Result<(), AllocError> {
+    let token = Vec::from_slice(alloc, store.bytes("t").unwrap_or(&[]))?;
+    store.hold("r", &token)
+}
+
 // The next run of a chain goes on from the token of the one before.
 fn go_on(
     alloc: Global,
@@ -135,9 +141,20 @@ fn go_on(
     budget: &str,
     out: &mut Vec<u8>,
 ) -> Result<u8, AllocError> {
-    let token = Vec::from_slice(alloc, store.bytes("t").unwrap_or(&[]))?;
-    store.hold("r", &token)?;
+    hand_on(alloc, store)?;
     let words = format!(in alloc; "align in=p {budget} token=t resume=r")?;
+    align_into(alloc, store, words.as_str(), out)
+}
+
+// The first run of a chain.
+fn begin(
+    alloc: Global,
+    store: &mut MemoryStore,
+    budget: &str,
+    out: &mut Vec<u8>,
+) -> Result<u8, AllocError> {
+    store.hold("p", SEVEN.as_bytes())?;
+    let words = format!(in alloc; "align in=p {budget} token=t")?;
     align_into(alloc, store, words.as_str(), out)
 }
 
@@ -148,15 +165,14 @@ fn put_chain(
     budget: &str,
     out: &mut Vec<u8>,
 ) -> Result<usize, AllocError> {
-    store.hold("p", SEVEN.as_bytes())?;
-    let words = format!(in alloc; "align in=p {budget} token=t")?;
-    let mut code = align_into(alloc, store, words.as_str(), out)?;
-    let mut runs = 1;
-    while code == 5 && runs < 1000 {
+    let mut code = begin(alloc, store, budget, out)?;
+    for runs in 1..1000 {
+        if code != 5 {
+            return Ok(runs);
+        }
         code = go_on(alloc, store, budget, out)?;
-        runs += 1;
     }
-    Ok(runs)
+    Ok(1000)
 }
 
 // The worlds that a chain of runs lists, and how many runs there were.
