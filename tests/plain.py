@@ -6,7 +6,6 @@ points, and prints reports, tokens, summaries and faults. `differential.py` sets
 
 import hashlib
 import itertools
-import json
 
 LETTERS = "=><x!"
 WORDS = {
@@ -350,7 +349,7 @@ class Reader:
         if tokens[0] == "taxonomy":
             return self.taxonomy(tokens)
         if tokens[0] in ("articulation", "articulations"):
-            self.in_rows, self.in_entries = False, bool(self.problem.taxonomies) or True
+            self.in_rows, self.in_entries = False, True
             return None
         if tokens[0] == "(":
             return self.row(tokens)
