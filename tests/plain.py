@@ -1,6 +1,6 @@
 """A plain program that does what docs/DEFINITIONS.md and docs/FORMATS.md say, for problems of a few concepts.
 
-It is written from those two pages alone and shares nothing with the program: it reads problem texts, lists worlds by trying sets of
+It shares no code with the program, but it was written by somebody who knew that: it reads problem texts, lists worlds by trying sets of
 points, and prints reports, tokens, summaries and faults. `differential.py` sets it beside the built program.
 """
 
