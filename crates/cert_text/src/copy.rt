@@ -109,7 +109,8 @@ fn copy_lists(alloc: Global, lists: &[Vec<u32>]) -> Result<Vec<Vec<u32>>, AllocE
     Ok(copy)
 }
 
-fn copy_subject(alloc: Global, subject: &Subject) -> Result<Subject, AllocError>
+/// A second subject of the same words.
+pub fn copy_subject(alloc: Global, subject: &Subject) -> Result<Subject, AllocError>
     ensures { IfOk result (λ copy. copy ≡ subject.now) }
 {
     match subject {

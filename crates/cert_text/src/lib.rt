@@ -13,7 +13,7 @@ mod printing;
 mod reading;
 mod store_log;
 
-pub use copy::copy_proof;
+pub use copy::{copy_proof, copy_subject};
 pub use kind::{LineKind, kind_in};
 pub use laws::{law_cert_lines_have_one_text, law_cert_lines_read_back, law_told_lines_are_texts};
 pub use line::{CertLine, Flags, RawFamily, Subject};

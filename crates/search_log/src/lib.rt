@@ -2,10 +2,12 @@
 #![tactic(auto)]
 
 mod copies;
+mod families;
 mod fault;
 mod idle;
 mod put;
 
+pub use families::raw_family;
 pub use fault::StepFault;
 pub use idle::{tidy, tidy_by_turns};
 pub use put::{put_one, put_waiting};

@@ -1,6 +1,5 @@
 //! The lines of nodes.
-ghost use Rattle.std.specs.Prelude.{◌≡◌, ◌<◌, ◌≤◌, ◌^◌, true, false, length, All, IfOk, OnOk, IsTrue};
-ghost use Rattle.rcc5_core.specs.Relation.{is_ascending};
+ghost use Rattle.std.specs.Prelude.{◌≡◌, ◌≤◌, true, false, length, IfOk, IsTrue};
 ghost use Rattle.world_model.specs.Problem.{pair_count};
 ghost use Rattle.world_model.specs.Family.{meets, table_of};
 ghost use Rattle.constraint_set.specs.Shape.{shape_of};
@@ -11,11 +10,12 @@ ghost use Rattle.cert_rules.specs.Trees.{last_of, is_branch};
 ghost use Rattle.cert_rules.specs.Writing.{TellsOf};
 ghost use Rattle.world_search.specs.Logging.{IsInnerOrDead};
 
-use cert_text::{CertLine, RawFamily};
+use cert_text::CertLine;
 use constraint_set::Problem;
 use dead_nodes::{Hints, WhyDead, why_dead};
 use point_query::Asker;
 use rcc5_core::{Position, Rel};
+use search_log::raw_family;
 use set_family::Family;
 use std::alloc::{AllocError, Global};
 
@@ -78,19 +78,6 @@ pub(crate) fn reason_line(
             clause: reason.clause,
         }),
     }
-}
-
-// The words of a family, which has a set for each of so many concepts.
-fn raw_family(alloc: Global, family: &Family) -> Result<RawFamily, AllocError>
-    requires { length family.now.sets < 2 ^ 32 }
-    ensures raw { IfOk result (λ raw. raw ≡ family.now) }
-    ensures ascend { OnOk result (All (λ set. IsTrue (is_ascending set)) family.now.sets) }
-{
-    let mut lists = Vec::new(alloc);
-    for concept in 0..family.count() {
-        lists.push(Vec::from_slice(alloc, family.set(concept))?)?;
-    }
-    Ok(RawFamily::new(family.universe(), lists))
 }
 
 /// The line of a world, which a family shows.

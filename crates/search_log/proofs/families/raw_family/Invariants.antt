@@ -1,6 +1,6 @@
 use Rattle.std.proofs.Common.{◌≡◌, ℕ, ◌<◌, List, map, take, get_or, IsTrue}
 use Rattle.rcc5_core.specs.Relation.{is_ascending}
-use Rattle.world_search.proofs.reasons.raw_family.Given as goal
+use Rattle.search_log.proofs.families.raw_family.Given as goal
 
 -- the sets so far are copied, and each is ascending
 abbrev pub invariant-loop-concept : goal.invariant-loop-concept
