@@ -14,7 +14,7 @@ use Rattle.command_line.specs.declared.Operand.{Operand}
 use Rattle.command_line.specs.declared.UsageKind.{UsageKind}
 use Rattle.command_line.specs.declared.UsageKind.TheVariants.{NoCommand, UnknownCommand, NotOperand, UnknownKey, KeyTwice, BadSwitch, BadNumber, ZeroBudget, EmptyName, UnknownKind, KindTwice, MissingKey, BudgetWithoutToken, SameName}
 use Rattle.command_line.specs.declared.Request.{Request}
-use Rattle.command_line.specs.declared.Request.TheVariants.{Align, Check, Report, Trial}
+use Rattle.command_line.specs.declared.Request.TheVariants.{Align, Check, Mir, Conflict, Report, Trial}
 use Rattle.command_line.specs.declared.WordsFault.{WordsFault}
 use Rattle.command_line.specs.declared.WordsFault.TheVariants.{Usage, NoMemory}
 
@@ -70,6 +70,16 @@ row_of command.Check = record {
   required = In ∷ Cert ∷ [];
   optional = Nonempty ∷ Sibling ∷ Coverage ∷ [];
 }
+row_of command.Mir = record {
+  name = codes "mir";
+  required = In ∷ [];
+  optional = Cert ∷ Nonempty ∷ Sibling ∷ Coverage ∷ [];
+}
+row_of command.Conflict = record {
+  name = codes "conflict";
+  required = In ∷ [];
+  optional = Cert ∷ Nonempty ∷ Sibling ∷ Coverage ∷ [];
+}
 row_of command.Report = record {
   name = codes "report";
   required = In ∷ Kinds ∷ [];
@@ -83,7 +93,7 @@ row_of command.Trial = record {
 
 -- the commands, in the order of the table
 abbrev pub all_commands : List Command
-all_commands = command.Align ∷ command.Check ∷ command.Report ∷ command.Trial ∷ []
+all_commands = command.Align ∷ command.Check ∷ command.Mir ∷ command.Conflict ∷ command.Report ∷ command.Trial ∷ []
 
 -- the command with this name
 abbrev pub command_named : List ℕ → Option Command
@@ -261,6 +271,8 @@ request_for command.Align operands =
     (value_of operands Token) (value_of operands Resume)
 request_for command.Check operands =
     Check (unwrap_or (value_of operands In) []) (unwrap_or (value_of operands Cert) []) (switches_of operands)
+request_for command.Mir operands = Mir (unwrap_or (value_of operands In) []) (value_of operands Cert) (switches_of operands)
+request_for command.Conflict operands = Conflict (unwrap_or (value_of operands In) []) (value_of operands Cert) (switches_of operands)
 request_for command.Report operands = Report (unwrap_or (value_of operands In) []) (kinds_of operands) (switches_of operands)
 request_for command.Trial operands = Trial (seed_in operands) (size_in operands)
 

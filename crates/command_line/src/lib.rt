@@ -95,6 +95,20 @@ pub enum Request {
         cert: Word,
         switches: Switches,
     },
+    /// Tell which relations of each pair some possible world has.
+    Mir {
+        input: Word,
+        /// The file for the certificate.
+        cert: Option<Word>,
+        switches: Switches,
+    },
+    /// Find the least set of statements that are in conflict.
+    Conflict {
+        input: Word,
+        /// The file for the certificate.
+        cert: Option<Word>,
+        switches: Switches,
+    },
     /// List the possible worlds, and let watchers report of them.
     Report {
         input: Word,
@@ -196,6 +210,8 @@ impl<T: Drop> From<AllocFailed<T>> for WordsFault {
 pub enum Command {
     Align,
     Check,
+    Mir,
+    Conflict,
     Report,
     Trial,
 }

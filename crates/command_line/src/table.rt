@@ -4,9 +4,11 @@ ghost use Rattle.command_line.specs.Words.{row_of, all_commands, key_name, kind_
 
 use crate::{Command, Key, KeyKind};
 
-static COMMANDS: [Command; 4] = [
+static COMMANDS: [Command; 6] = [
     Command::Align,
     Command::Check,
+    Command::Mir,
+    Command::Conflict,
     Command::Report,
     Command::Trial,
 ];
@@ -32,6 +34,8 @@ static LISTING: [Key; 8] = [
 
 static SWITCHES: [Key; 3] = [Key::Nonempty, Key::Sibling, Key::Coverage];
 
+static CERT_AND_SWITCHES: [Key; 4] = [Key::Cert, Key::Nonempty, Key::Sibling, Key::Coverage];
+
 static NONE: [Key; 0] = [];
 
 impl Command {
@@ -49,6 +53,8 @@ impl Command {
         match self {
             Command::Align => "align",
             Command::Check => "check",
+            Command::Mir => "mir",
+            Command::Conflict => "conflict",
             Command::Report => "report",
             Command::Trial => "trial",
         }
@@ -59,7 +65,7 @@ impl Command {
         ensures { result.now ≡ (row_of self).required }
     {
         match self {
-            Command::Align => &PROBLEM,
+            Command::Align | Command::Mir | Command::Conflict => &PROBLEM,
             Command::Check => &PROBLEM_AND_CERT,
             Command::Report => &PROBLEM_AND_KINDS,
             Command::Trial => &SEED_AND_SIZE,
@@ -72,8 +78,8 @@ impl Command {
     {
         match self {
             Command::Align => &LISTING,
-            Command::Check => &SWITCHES,
-            Command::Report => &SWITCHES,
+            Command::Check | Command::Report => &SWITCHES,
+            Command::Mir | Command::Conflict => &CERT_AND_SWITCHES,
             Command::Trial => &NONE,
         }
     }

@@ -68,7 +68,7 @@ fn the_first_usage_fault_is_answered(rt: HostRuntime) -> Result<(), Fail> {
         ("align sibling= in=", UsageKind::BadSwitch),
         ("align in= sibling=1", UsageKind::EmptyName),
         ("align in= f", UsageKind::EmptyName),
-        ("mir in=f", UsageKind::UnknownCommand),
+        ("lattice in=f", UsageKind::UnknownCommand),
         ("report in=f", UsageKind::MissingKey),
         ("report in=f kinds=", UsageKind::UnknownKind),
         ("report in=f kinds=count,", UsageKind::UnknownKind),

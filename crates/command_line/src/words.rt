@@ -324,6 +324,16 @@ fn make_request(
             cert: required_name(alloc, operands, Key::Cert)?,
             switches: switches_of(operands),
         }),
+        Command::Mir => Ok(Request::Mir {
+            input: required_name(alloc, operands, Key::In)?,
+            cert: name_of(alloc, operands, Key::Cert)?,
+            switches: switches_of(operands),
+        }),
+        Command::Conflict => Ok(Request::Conflict {
+            input: required_name(alloc, operands, Key::In)?,
+            cert: name_of(alloc, operands, Key::Cert)?,
+            switches: switches_of(operands),
+        }),
         Command::Report => Ok(Request::Report {
             input: required_name(alloc, operands, Key::In)?,
             kinds: kinds_of(alloc, operands)?,

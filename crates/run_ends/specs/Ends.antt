@@ -15,7 +15,7 @@ use Rattle.cert_rules.specs.declared.RejectKind.TheVariants as reject
 use Rattle.command_line.specs.declared.UsageKind.{UsageKind}
 use Rattle.command_line.specs.Words.{usage_name}
 use Rattle.run_ends.specs.declared.Status.{Status}
-use Rattle.run_ends.specs.declared.Status.TheVariants.{Done, RefusedText, Usage, ReadFault, WriteFault, Cut, NoWorld, RefusedToken, RefusedCert, Rejected, NoMemory}
+use Rattle.run_ends.specs.declared.Status.TheVariants.{Done, RefusedText, Usage, ReadFault, WriteFault, Cut, NoWorld, RefusedToken, RefusedCert, Rejected, NoMemory, Consistent}
 
 -- the exit code of a status
 abbrev pub code_of : Status → ℕ
@@ -30,6 +30,7 @@ code_of (RefusedToken kind) = 7
 code_of (RefusedCert line kind) = 7
 code_of (Rejected line kind) = 8
 code_of NoMemory = 9
+code_of Consistent = 10
 
 -- a line: its words, and its end
 abbrev pub line_of : List ℕ → List ℕ
@@ -118,6 +119,7 @@ end_line (RefusedToken kind) = line_of (token_words kind)
 end_line (RefusedCert line kind) = line_of (cert_words line kind)
 end_line (Rejected line kind) = line_of (rejected_words line kind)
 end_line NoMemory = line_of (codes "no memory")
+end_line Consistent = []
 
 -- the last line is put and the status answered; or its put was refused; or memory was wanting
 abbrev pub IsLastPut : Status → Status → List ℕ → Option (List ℕ) → Option (List ℕ) → ℕ → ℕ → Type 0

@@ -5,7 +5,7 @@ use Rattle.outer_store.specs.Contents.{Contents}
 use Rattle.outer_store.specs.Faults.{Counts, Rose, IfFailed}
 use Rattle.outer_store.specs.declared.fault.StoreFault.{StoreFault}
 use Rattle.run_ends.specs.declared.Status.{Status}
-use Rattle.run_ends.specs.declared.Status.TheVariants.{Done, RefusedText, Usage, ReadFault, WriteFault, Cut, NoWorld, RefusedToken, RefusedCert, Rejected, NoMemory}
+use Rattle.run_ends.specs.declared.Status.TheVariants.{Done, RefusedText, Usage, ReadFault, WriteFault, Cut, NoWorld, RefusedToken, RefusedCert, Rejected, NoMemory, Consistent}
 use Rattle.run_ends.specs.Ends.{end_line}
 
 -- the four ways in which a run ends: it answers, a read failed, a write failed, or memory was wanting
@@ -28,6 +28,7 @@ ending_of (RefusedToken kind) = Answered
 ending_of (RefusedCert line kind) = Answered
 ending_of (Rejected line kind) = Answered
 ending_of NoMemory = Starved
+ending_of Consistent = Answered
 
 -- what is told of a store at one moment: what it holds, and how many reads and writes failed under each name
 pub record StoreState : Type 0 where

@@ -34,4 +34,6 @@ pub enum Status {
     RefusedCert { line: u64, kind: CertTextKind },
     Rejected { line: u64, kind: RejectKind },
     NoMemory,
+    /// Nothing is in conflict.
+    Consistent,
 }

@@ -24,6 +24,7 @@ impl Status {
             Status::RefusedToken(_) | Status::RefusedCert { .. } => 7,
             Status::Rejected { .. } => 8,
             Status::NoMemory => 9,
+            Status::Consistent => 10,
         }
     }
 }

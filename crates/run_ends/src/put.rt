@@ -120,7 +120,11 @@ fn put_end_line<W: Sink>(alloc: Global, out: &mut W, status: &Status) -> Result<
     ensures { LeavesPiece result (end_line status.now) (sink_state (W.received out.old) (W.faults out.old)) (sink_state (W.received out.new) (W.faults out.new)) }
 {
     match status {
-        Status::Done | Status::NoWorld | Status::WriteFault | Status::Cut(_) => Ok(()),
+        Status::Done
+        | Status::NoWorld
+        | Status::WriteFault
+        | Status::Cut(_)
+        | Status::Consistent => Ok(()),
         Status::RefusedText { line, kind } => put_refused(alloc, out, *line, *kind),
         Status::RefusedToken(kind) => put_token_fault(alloc, out, *kind),
         Status::RefusedCert { line, kind } => put_cert_fault(alloc, out, *line, *kind),
@@ -131,8 +135,8 @@ fn put_end_line<W: Sink>(alloc: Global, out: &mut W, status: &Status) -> Result<
     }
 }
 
-/// Puts the last line of a status, and answers how the run ends. After `Done`, `NoWorld` and
-/// `Cut` the command has put its last line itself, and after `WriteFault` nothing further is put.
+/// Puts the last line of a status, and answers how the run ends. After `Done`, `NoWorld`,
+/// `Cut` and `Consistent` the command has put its last line itself, and after `WriteFault` nothing further is put.
 pub fn put_end<W: Sink>(alloc: Global, out: &mut W, status: Status) -> Status
     ensures put { IsLastPut status result (end_line status) (W.received out.old) (W.received out.new) (W.faults out.old) (W.faults out.new) }
     ensures later { W.faults out.old ≤ W.faults out.new }
