@@ -1,0 +1,123 @@
+//! The possible relations of the pairs across taxonomies.
+ghost use Rattle.std.specs.Prelude.{◌≡◌, ◌<◌, ◌↔◌, length, All, IfOk, OnOk, IsTrue, ⊤};
+ghost use Rattle.world_model.specs.Problem.{pair_count, cross_pairs};
+ghost use Rattle.world_model.specs.Questions.{IsMet, IsPossibleRelation};
+ghost use Rattle.constraint_set.specs.Shape.{shape_of};
+ghost use Rattle.cert_text.specs.declared.line.Subject.TheVariants.{Narrowed};
+ghost use Rattle.search_log.specs.Logging.{LogGoes};
+ghost use Rattle.split_search.specs.Choosing.{IsMetBy};
+ghost use Rattle.claim_blocks.specs.Blocks.{claimed, KeepsClaims};
+ghost use Rattle.mir_report.specs.Possible.{IsPossibleSet, ArePossibleSets, pair_claims, claims_from};
+
+use crate::found::shown_by;
+use cert_text::{Flags, Subject, TreeLog};
+use claim_blocks::{settle, show};
+use constraint_set::Problem;
+use point_query::Asker;
+use rcc5_core::{Rel, RelSet};
+use search_log::StepFault;
+use set_family::Family;
+use split_search::Choice;
+use std::alloc::Global;
+
+/// For each pair across taxonomies, in order, the relations that some possible world has there.
+#[derive(Debug, Drop)]
+pub struct MirSets {
+    pub sets: Vec<RelSet>,
+}
+
+// Whether a relation is possible at a pair, and the claim that says so. A family that was found for it is kept with the others.
+fn settle_rel<L: TreeLog>(
+    alloc: Global,
+    problem: &Problem,
+    pair: u32,
+    rel: Rel,
+    families: &mut Vec<Family>,
+    asker: &mut Asker,
+    log: &mut L,
+) -> Result<bool, StepFault>
+    requires shape { asker.old.shape ≡ shape_of problem.now }
+    requires within { pair < pair_count problem.now }
+    requires families { All (IsMetBy problem.now) families.old.items }
+    ensures shape { asker.new.shape ≡ asker.old.shape }
+    ensures families { OnOk result (All (IsMetBy problem.now) families.new.items) }
+    ensures answer { IfOk result (λ some. IsTrue some ↔ IsPossibleRelation problem.now pair rel) }
+    ensures keeps { KeepsClaims problem.now result (λ some more. more ≡ claimed (Narrowed pair rel) some) (L.lines log.old) (L.lines log.new) asker.old asker.new }
+    ensures log { LogGoes L.drops L.lines L.faults L.steady L.quiet result log.old log.new }
+{
+    let subject = Subject::Narrowed { pair, rel };
+    if let Some(family) = shown_by(families, problem, pair, rel) {
+        show(alloc, &subject, family, asker, log)?;
+        return Ok(true);
+    }
+    let narrowed = problem.narrowed(alloc, pair, RelSet::one(rel))?;
+    match settle(alloc, &subject, &narrowed, asker, log)? {
+        Choice::Met(family) => {
+            families.push(family)?;
+            Ok(true)
+        }
+        Choice::Refuted => Ok(false),
+    }
+}
+
+// The possible relations of a pair, and a claim for each that it allows.
+fn settle_pair<L: TreeLog>(
+    alloc: Global,
+    problem: &Problem,
+    pair: u32,
+    families: &mut Vec<Family>,
+    asker: &mut Asker,
+    log: &mut L,
+) -> Result<RelSet, StepFault>
+    requires shape { asker.old.shape ≡ shape_of problem.now }
+    requires within { pair < pair_count problem.now }
+    requires families { All (IsMetBy problem.now) families.old.items }
+    ensures shape { asker.new.shape ≡ asker.old.shape }
+    ensures families { OnOk result (All (IsMetBy problem.now) families.new.items) }
+    ensures answer { IfOk result (IsPossibleSet problem.now pair) }
+    ensures keeps { KeepsClaims problem.now result (λ set more. more ≡ pair_claims problem.now pair set) (L.lines log.old) (L.lines log.new) asker.old asker.new }
+    ensures log { LogGoes L.drops L.lines L.faults L.steady L.quiet result log.old log.new }
+{
+    Err(StepFault::NoMemory)
+}
+
+/// The possible relations of each pair across taxonomies, exactly.
+///
+/// A log is told a claim for each relation that such a pair allows, pair by pair, and no tree is left open.
+pub fn mir<L: TreeLog>(
+    alloc: Global,
+    problem: &Problem,
+    asker: &mut Asker,
+    log: &mut L,
+) -> Result<MirSets, StepFault>
+    requires shape { asker.old.shape ≡ shape_of problem.now }
+    ensures shape { asker.new.shape ≡ asker.old.shape }
+    ensures sets { IfOk result (λ mir. ArePossibleSets problem.now mir.sets.items) }
+    ensures keeps { KeepsClaims problem.now result (λ mir more. more ≡ claims_from problem.now 0 mir.sets.items) (L.lines log.old) (L.lines log.new) asker.old asker.new }
+    ensures log { LogGoes L.drops L.lines L.faults L.steady L.quiet result log.old log.new }
+{
+    let mut families = Vec::new(alloc);
+    let mut sets = Vec::new(alloc);
+    for pair in 0..problem.cross_count() {
+        sets.push(settle_pair(alloc, problem, pair, &mut families, asker, log)?)?;
+    }
+    Ok(MirSets { sets })
+}
+
+/// Whether there is a possible world, by the possible relations. Where there is no pair across taxonomies it is asked, and claimed.
+pub fn has_world<L: TreeLog>(
+    alloc: Global,
+    problem: &Problem,
+    mir: &MirSets,
+    asker: &mut Asker,
+    log: &mut L,
+) -> Result<bool, StepFault>
+    requires shape { asker.old.shape ≡ shape_of problem.now }
+    requires sets { ArePossibleSets problem.now mir.now.sets.items }
+    ensures shape { asker.new.shape ≡ asker.old.shape }
+    ensures answer { IfOk result (λ some. IsTrue some ↔ IsMet problem.now) }
+    ensures keeps { KeepsClaims problem.now result (λ _ _. ⊤) (L.lines log.old) (L.lines log.new) asker.old asker.new }
+    ensures log { LogGoes L.drops L.lines L.faults L.steady L.quiet result log.old log.new }
+{
+    Err(StepFault::NoMemory)
+}
