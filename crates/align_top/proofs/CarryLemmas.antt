@@ -15,12 +15,12 @@ use Rattle.world_model.specs.Problem.{Problem}
 use Rattle.world_model.specs.Listing.{IsListing}
 use Rattle.run_ends.specs.declared.Status.{Status}
 use Rattle.run_ends.specs.declared.Status.TheVariants as status
-use Rattle.run_ends.specs.Ends.{world_line}
+use Rattle.run_ends.specs.Ends.{world_line, complete_line}
 use Rattle.run_ends.specs.Runs.{StoreState, SinkState, File, HasFailed, AreKeptBut, IsHeld, AreWritten, Answered, ending_of, IsQuiet, IsWriteCause, IsByCause, IsPutPart, IsCarriedOut, LeavesPiece}
 use Rattle.run_ends.proofs.EndLemmas.{none_written}
 use Rattle.align_top.specs.declared.Order.{Order}
 use Rattle.resume_token.specs.Token.{token_text}
-use Rattle.align_top.specs.Output.{complete_line, last_line, count_of, listing_text, listing_status, file_under, token_under, IsCertOf, written_names}
+use Rattle.align_top.specs.Output.{last_line, count_of, listing_text, listing_status, file_under, token_under, IsCertOf, written_names}
 use Rattle.align_top.specs.Logged.{IsCertLeft, IsListedWith}
 use Rattle.align_top.specs.Putting.{IsPutPartly}
 use Rattle.align_top.specs.Steps.{status_at, AreApart, IsCutEnded, IsEnded, order_answers}

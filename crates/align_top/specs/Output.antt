@@ -16,7 +16,7 @@ use Rattle.command_line.specs.declared.Request.TheVariants.{Align, Check, Report
 use Rattle.command_line.specs.Words.{request_of}
 use Rattle.run_ends.specs.declared.Status.{Status}
 use Rattle.run_ends.specs.declared.Status.TheVariants.{Done, RefusedText, Usage, Cut, NoWorld, RefusedToken}
-use Rattle.run_ends.specs.Ends.{line_of, world_line, end_line}
+use Rattle.run_ends.specs.Ends.{line_of, world_line, complete_line, end_line}
 use Rattle.run_ends.specs.Reads.{AreHeld}
 use Rattle.run_ends.specs.Runs.{StoreState, SinkState, File, Answers, Names, IsRunOf}
 use Rattle.cert_rules.specs.Files.{Accepts, Listing}
@@ -25,10 +25,6 @@ use Rattle.report_run.specs.Reporting.{Watched, report_names, IsReportAnswer}
 use Rattle.trial_run.specs.Trials.{trial_names, IsTrialAnswer}
 use Rattle.align_top.specs.declared.Asking.{Asking}
 use Rattle.align_top.specs.declared.Order.{Order}
-
--- the last line of a listing of so many worlds
-abbrev pub complete_line : ℕ → List ℕ
-complete_line count = line_of (codes "complete " ++ decimal count)
 
 -- the last line of a listing of so many worlds that stopped before its end
 abbrev pub cut_line : ℕ → List ℕ

@@ -7,7 +7,8 @@ ghost use Rattle.world_model.specs.Problem.{pair_count};
 ghost use Rattle.world_model.specs.Node.{IsCut};
 ghost use Rattle.constraint_set.specs.Facts.{IsAsRead};
 ghost use Rattle.resume_token.specs.Token.{token_text};
-ghost use Rattle.align_top.specs.Output.{complete_line, cut_line, written_names};
+ghost use Rattle.align_top.specs.Output.{cut_line, written_names};
+ghost use Rattle.run_ends.specs.Ends.{complete_line};
 ghost use Rattle.run_ends.specs.Runs.{store_state, sink_state, IsQuiet, LeavesPiece, IsCarriedOut};
 ghost use Rattle.align_top.specs.Steps.{status_at, IsReady, IsCutEnded, IsEnded, order_answers};
 

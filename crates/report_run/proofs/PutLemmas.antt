@@ -5,13 +5,13 @@ use Rattle.std.proofs.lemmas.List.{length-map}
 use Rattle.outer_store.specs.Bytes.{GrownInPart, added}
 use Rattle.world_model.specs.Problem.{Problem}
 use Rattle.world_watch.specs.Steps.{Texts}
-use Rattle.run_ends.specs.Ends.{line_of}
+use Rattle.run_ends.specs.Ends.{line_of, in_lines, complete_line}
 use Rattle.outer_store.specs.declared.fault.StoreFault.{StoreFault}
 use Rattle.outer_store.proofs.BytesLemmas.{GrownInPart-kept}
 use Rattle.run_ends.specs.Runs.{SinkState, LeavesPiece}
-use Rattle.report_run.specs.Reporting.{watched, in_lines, report_of, complete_line}
+use Rattle.report_run.specs.Reporting.{watched, report_of}
 use Rattle.report_run.proofs.AskLemmas.{seen_as}
-use Rattle.report_run.proofs.PieceLemmas.{piece_after, part_of_more, line_put, line_refused, lines_put}
+use Rattle.run_ends.proofs.PieceLemmas.{piece_after, part_of_more, line_put, line_refused, lines_put}
 
 -- what the first of some watchers report is put
 pub record AreReportsPut {W : Type 0} (ws : List W) (name : W → List ℕ) (text : W → Texts) (p : Problem) (place : ℕ) (old new : Option (List ℕ)) : Type 0 where

@@ -18,12 +18,12 @@ use Rattle.world_watch.specs.Held.{held}
 use Rattle.world_watch.specs.Steps.{Texts}
 use Rattle.run_ends.specs.declared.Status.{Status}
 use Rattle.run_ends.specs.declared.Status.TheVariants as status
-use Rattle.run_ends.specs.Ends.{line_of, end_line}
+use Rattle.run_ends.specs.Ends.{line_of, in_lines, complete_line, end_line}
 use Rattle.run_ends.specs.Reads.{problem_by, problem_in, ComesOf, IsWithout}
 use Rattle.run_ends.specs.Runs.{StoreState, SinkState, LeavesPiece, IsQuiet, Answered, ending_of, IsEarlyEnd, IsCarriedOut}
 use Rattle.run_ends.proofs.ReadLemmas.{text_cut}
 use Rattle.run_ends.proofs.EndLemmas.{all_kept, none_written}
-use Rattle.report_run.specs.Reporting.{Watched, watched, asked, AreKinds, in_lines, report_of, complete_line, report_text, report_status, IsAnswerBy, IsReportAnswer, report_names}
+use Rattle.report_run.specs.Reporting.{Watched, watched, asked, AreKinds, report_of, report_text, report_status, IsAnswerBy, IsReportAnswer, report_names}
 use Rattle.report_run.specs.Steps.{all_worlds, HaveSeen, AreShownAll, status_at}
 use Rattle.report_run.proofs.AskLemmas.{asked_named, names_seen}
 

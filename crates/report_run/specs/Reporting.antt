@@ -1,5 +1,5 @@
 -- What the command that reports on all worlds answers.
-use Rattle.std.specs.Prelude.{◌≡◌, ◌≢◌, ℕ, ◌==◌, List, [], ◌∷◌, ◌++◌, length, map, flat_map, bytes_eq, Option, None, IfSome, Result, Ok, Err, All, AllPairs, Contains, codes, decimal, if◌then◌else◌}
+use Rattle.std.specs.Prelude.{◌≡◌, ◌≢◌, ℕ, List, [], ◌∷◌, ◌++◌, length, map, flat_map, bytes_eq, Option, None, IfSome, Result, Ok, Err, All, AllPairs, Contains, codes}
 use Rattle.std.specs.List.{find, filter_map}
 use Rattle.outer_store.specs.Contents.{Contents}
 use Rattle.rcc5_core.specs.declared.Rel.{Rel}
@@ -12,7 +12,7 @@ use Rattle.world_watch.specs.Held.{held}
 use Rattle.world_watch.specs.Steps.{Texts}
 use Rattle.run_ends.specs.declared.Status.{Status}
 use Rattle.run_ends.specs.declared.Status.TheVariants.{Done, RefusedText, NoWorld}
-use Rattle.run_ends.specs.Ends.{line_of, end_line}
+use Rattle.run_ends.specs.Ends.{line_of, in_lines, complete_line, end_line}
 use Rattle.run_ends.specs.Runs.{File, Names}
 
 -- a watcher as a run sees it: its name, and what it would report of a problem after a further list of worlds
@@ -36,19 +36,9 @@ pub record AreKinds (ws : List Watched) (kinds : List (List ℕ)) : Type 0 where
   pub named : All (λ kind. Contains (map (λ w. w.name) ws) kind) kinds
   pub once : AllPairs (λ one other. one ≢ other) kinds
 
--- a text in lines: where its last byte is no line feed, one is put behind it
-abbrev pub in_lines : List ℕ → List ℕ
-in_lines [] = []
-in_lines (byte ∷ []) = if byte == 10 then byte ∷ [] else line_of (byte ∷ [])
-in_lines (byte ∷ next ∷ bytes) = byte ∷ in_lines (next ∷ bytes)
-
 -- what is put of a watcher after some worlds: a line with its name, and the lines of its report
 abbrev pub report_of : Problem → List (List Rel) → Watched → List ℕ
 report_of p worlds w = line_of (codes "report " ++ w.name) ++ in_lines (w.text p worlds)
-
--- the last line of a listing of so many worlds
-abbrev pub complete_line : ℕ → List ℕ
-complete_line count = line_of (codes "complete " ++ decimal count)
 
 -- the reports of some watchers, and how many worlds there are
 abbrev pub report_text : Problem → List (List Rel) → List Watched → List ℕ

@@ -1,5 +1,5 @@
 -- The steps of a report: watchers are picked, see all worlds, and what they report is put.
-use Rattle.std.specs.Prelude.{◌≡◌, ◌≢◌, ◌<◌, ◌≤◌, ◌⊎◌, ℕ, ◌-◌, List, [], ◌++◌, length, slice_index_or, bytes_eq, true, false, ◌==◌, if◌then◌else◌, Option, None, Some}
+use Rattle.std.specs.Prelude.{◌≡◌, ◌<◌, ℕ, List, [], ◌++◌, length, slice_index_or, bytes_eq, true, false, ◌==◌, if◌then◌else◌, Option, None, Some}
 use Rattle.rcc5_core.specs.declared.Rel.{Rel}
 use Rattle.world_model.specs.Problem.{Problem}
 use Rattle.world_model.specs.Trial.{worlds_between}
@@ -35,10 +35,3 @@ AreShownAll name text p old new count = HaveSeen name text p (all_worlds p) old 
 -- a good end by the number of worlds
 abbrev pub status_at : ℕ → Status
 status_at count = if count == 0 then NoWorld else Done
-
--- where a line of a text ends that begins at a place: behind the first line feed from there on, or at the text's end
-pub record IsLineEnd (text : List ℕ) (from to : ℕ) : Type 0 where
-  pub beyond : from < to
-  pub within : to ≤ length text
-  pub first : (k : ℕ) → from ≤ k → k < to - 1 → slice_index_or text k 0 ≢ 10
-  pub ended : (to ≡ length text) ⊎ (slice_index_or text (to - 1) 0 ≡ 10)

@@ -6,5 +6,4 @@ mod putting;
 mod reporting;
 mod showing;
 
-pub use putting::put_lines;
 pub use reporting::run_report;

@@ -1,55 +1,16 @@
 //! The lines of reports.
-ghost use Rattle.std.specs.Prelude.{◌≡◌, ◌<◌, ◌++◌, [], codes, flat_map, length, map, string_bytes, IfOk};
+ghost use Rattle.std.specs.Prelude.{◌≡◌, ◌++◌, [], codes, flat_map, map, string_bytes, IfOk};
 ghost use Rattle.merge_print.specs.Json.{HasUtf8Names};
-ghost use Rattle.run_ends.specs.Ends.{line_of};
+ghost use Rattle.run_ends.specs.Ends.{line_of, in_lines, complete_line};
 ghost use Rattle.run_ends.specs.Runs.{sink_state, LeavesPiece};
-ghost use Rattle.report_run.specs.Reporting.{watched, in_lines, report_of, complete_line};
-ghost use Rattle.report_run.specs.Steps.{IsLineEnd};
+ghost use Rattle.report_run.specs.Reporting.{watched, report_of};
 
 use command_line::Word;
 use constraint_set::Problem;
 use outer_store::{Sink, StoreFault};
-use run_ends::put_line;
+use run_ends::{put_line, put_lines};
 use std::alloc::{AllocError, Global};
 use world_watch::WorldWatcher;
-
-// Where the line ends that begins at a place.
-fn line_end(text: &[u8], from: usize) -> usize
-    requires { from < length text.now }
-    ensures { IsLineEnd text.now from result }
-{
-    for place in from..text.len() {
-        if text[place] == b'\n' {
-            return place + 1;
-        }
-    }
-    text.len()
-}
-
-// Puts a piece of a text that has no line feed but at its end, as a line.
-fn put_piece<W: Sink>(alloc: Global, out: &mut W, piece: &[u8]) -> Result<(), StoreFault>
-    requires { 0 < length piece.now }
-    ensures { LeavesPiece result (in_lines piece.now) (sink_state (W.received out.old) (W.faults out.old)) (sink_state (W.received out.new) (W.faults out.new)) }
-{
-    if piece[piece.len() - 1] == b'\n' {
-        out.put(piece)
-    } else {
-        put_line(alloc, out, piece)
-    }
-}
-
-/// Puts a text, a line in each put. Where its last byte is no line feed, one is put behind it.
-pub fn put_lines<W: Sink>(alloc: Global, out: &mut W, text: &[u8]) -> Result<(), StoreFault>
-    ensures { LeavesPiece result (in_lines text.now) (sink_state (W.received out.old) (W.faults out.old)) (sink_state (W.received out.new) (W.faults out.new)) }
-{
-    let mut from = 0;
-    'lines: while from < text.len() {
-        let to = line_end(text, from);
-        put_piece(alloc, out, &text[from..to])?;
-        from = to;
-    }
-    Ok(())
-}
 
 // The words of the line above a report.
 fn heading(alloc: Global, kind: &Word) -> Result<Vec<u8>, AllocError>

@@ -1,8 +1,9 @@
 //! A report: its problem is read, the watchers see all worlds, and what they report is put.
 ghost use Rattle.std.specs.Prelude.{◌≡◌, ◌++◌, [], map, flat_map, IfOk};
 ghost use Rattle.merge_print.specs.Json.{HasUtf8Names};
+ghost use Rattle.run_ends.specs.Ends.{complete_line};
 ghost use Rattle.run_ends.specs.Runs.{store_state, sink_state, LeavesPiece, IsRunOf};
-ghost use Rattle.report_run.specs.Reporting.{watched, asked, AreKinds, report_of, complete_line, report_text, report_status, IsReportAnswer, report_names};
+ghost use Rattle.report_run.specs.Reporting.{watched, asked, AreKinds, report_of, report_text, report_status, IsReportAnswer, report_names};
 ghost use Rattle.report_run.specs.Steps.{all_worlds, status_at};
 
 use crate::asked::asked_for;

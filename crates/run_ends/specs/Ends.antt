@@ -1,5 +1,5 @@
 -- The status with which a run ends, its exit code, and the line that is put last.
-use Rattle.std.specs.Prelude.{◌≡◌, ℕ, List, [], ◌∷◌, ◌++◌, map, ◌⊎◌, Option, codes, decimal}
+use Rattle.std.specs.Prelude.{◌≡◌, ◌≢◌, ◌<◌, ◌≤◌, ℕ, ◌-◌, ◌==◌, List, [], ◌∷◌, ◌++◌, length, map, slice_index_or, ◌⊎◌, Option, if◌then◌else◌, codes, decimal}
 use Rattle.rcc5_core.specs.declared.Rel.{Rel}
 use Rattle.rcc5_core.specs.Relation.{letter_of}
 use Rattle.outer_store.specs.Bytes.{GrownInPart, added}
@@ -36,9 +36,19 @@ code_of Consistent = 10
 abbrev pub line_of : List ℕ → List ℕ
 line_of text = text ++ 10 ∷ []
 
+-- a text in lines: where its last byte is no line feed, one is put behind it
+abbrev pub in_lines : List ℕ → List ℕ
+in_lines [] = []
+in_lines (byte ∷ []) = if byte == 10 then byte ∷ [] else line_of (byte ∷ [])
+in_lines (byte ∷ next ∷ bytes) = byte ∷ in_lines (next ∷ bytes)
+
 -- a world's line: the letters of its table
 abbrev pub world_line : List Rel → List ℕ
 world_line table = line_of (map letter_of table)
+
+-- the last line of a listing of so many worlds
+abbrev pub complete_line : ℕ → List ℕ
+complete_line count = line_of (codes "complete " ++ decimal count)
 
 -- the names of faults, as they are printed
 abbrev pub text_name : TextKind → List ℕ
@@ -127,3 +137,10 @@ IsLastPut status result line old new before now =
     ((result ≡ status) × (new ≡ added old line) × (now ≡ before))
     ⊎ (((result ≡ WriteFault) × GrownInPart old new line × Rose before now)
     ⊎ ((result ≡ NoMemory) × GrownInPart old new line × (now ≡ before)))
+
+-- where a line of a text ends that begins at a place: behind the first line feed from there on, or at the text's end
+pub record IsLineEnd (text : List ℕ) (from to : ℕ) : Type 0 where
+  pub beyond : from < to
+  pub within : to ≤ length text
+  pub first : (k : ℕ) → from ≤ k → k < to - 1 → slice_index_or text k 0 ≢ 10
+  pub ended : (to ≡ length text) ⊎ (slice_index_or text (to - 1) 0 ≡ 10)

@@ -2,6 +2,7 @@
 #![tactic(auto)]
 
 mod help;
+mod lines;
 mod names;
 mod put;
 mod read;
@@ -12,6 +13,7 @@ use cert_rules::RejectKind;
 use cleantax_text::TextKind;
 use command_line::UsageKind;
 pub use help::text_help;
+pub use lines::put_lines;
 pub use names::{cert_name, reject_name, text_name, token_name};
 pub use put::{put_end, put_line};
 use rcc5_core::Position;

@@ -5,9 +5,8 @@ use Rattle.outer_store.specs.declared.fault.StoreFault.{StoreFault}
 use Rattle.std.specs.Prelude.{Result}
 use Rattle.rcc5_core.specs.declared.Rel.{Rel}
 use Rattle.world_model.specs.Problem.{Problem}
-use Rattle.run_ends.specs.Ends.{line_of}
+use Rattle.run_ends.specs.Ends.{line_of, in_lines}
 use Rattle.run_ends.specs.Runs.{SinkState, LeavesPiece}
-use Rattle.report_run.specs.Reporting.{in_lines}
 use Rattle.trial_make.specs.Made.{made}
 use Rattle.trial_run.specs.Trials.{count_of, count_line, varied_count, problem_lines, world_lines, summary, IsSummary}
 

@@ -7,8 +7,7 @@ ghost use Rattle.trial_run.specs.Trials.{IsSummary, IsTrialAnswer, trial_names};
 use crate::checked::checked_worlds;
 use crate::summary::summary;
 use outer_store::{Sink, StoreFault};
-use report_run::put_lines;
-use run_ends::{Status, put_end};
+use run_ends::{Status, put_end, put_lines};
 use std::alloc::{AllocError, Global};
 use trial_make::make_problem;
 

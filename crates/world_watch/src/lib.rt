@@ -15,7 +15,7 @@ pub use count::CountWatcher;
 pub use feeding::feed;
 pub use json::JsonWatcher;
 pub use merge::MergeWatcher;
-pub use seen::SeenWatcher;
+pub use seen::{SeenWatcher, put_sets};
 pub use tally::TallyWatcher;
 pub use watcher::WorldWatcher;
 

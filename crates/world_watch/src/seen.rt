@@ -1,12 +1,11 @@
 //! Which relations each pair has in some world.
 
-ghost use Rattle.std.specs.Prelude.{◌≡◌, ◌<◌, ◌≤◌, ◌++◌, ◌∷◌, [], ℕ, codes, filter, flat_map, length, map, slice_index_or, OnOk};
-ghost use Rattle.std.specs.List.{range_with_len};
+ghost use Rattle.std.specs.Prelude.{◌≡◌, ◌<◌, ◌≤◌, ◌++◌, ◌∷◌, [], ℕ, codes, filter, length, map, slice_index_or, OnOk};
 ghost use Rattle.rcc5_core.specs.declared.Rel.TheVariants.{Disjoint};
 ghost use Rattle.rcc5_core.specs.Relation.{all_rels, letter_of};
 ghost use Rattle.rcc5_core.specs.RelationSet.{adding, has};
 ghost use Rattle.world_model.specs.Problem.{cross_pairs};
-ghost use Rattle.world_watch.specs.Kinds.{cross_at, or_dot, pair_names, set_at, seen_line, seen_report};
+ghost use Rattle.world_watch.specs.Kinds.{cross_at, or_dot, pair_names, set_at, seen_line, seen_lines, seen_report};
 ghost use Rattle.world_watch.specs.Steps.{IsNew};
 
 use crate::pair_lines::{put_names, rel_at};
@@ -98,13 +97,15 @@ fn put_line(
     out.extend_from_slice(b"\n")
 }
 
-fn put_lines(
+/// Puts a line for each pair across taxonomies: the two names and the letters of its set, or a full stop for none. A pair without
+/// a set has none.
+pub fn put_sets(
     out: &mut Vec<u8>,
     alloc: Global,
     problem: &Problem,
     sets: &[RelSet],
 ) -> Result<(), AllocError>
-    ensures { OnOk result (out.new.items ≡ out.old.items ++ flat_map (λ k. seen_line problem.now (has (set_at sets.now k)) k) (range_with_len 0 (length (cross_pairs problem.now)))) }
+    ensures { OnOk result (out.new.items ≡ out.old.items ++ seen_lines problem.now (λ k. has (set_at sets.now k))) }
 {
     for pair in 0..problem.cross_count() {
         put_line(out, alloc, problem, pair, set_of(sets, pair as usize))?;
@@ -144,7 +145,7 @@ impl WorldWatcher for SeenWatcher {
 
     fn report(&self, alloc: Global, problem: &Problem) -> Result<Vec<u8>, AllocError> {
         let mut report = Vec::new(alloc);
-        put_lines(&mut report, alloc, problem, &self.sets)?;
+        put_sets(&mut report, alloc, problem, &self.sets)?;
         Ok(report)
     }
 }

@@ -1,7 +1,7 @@
 use Rattle.std.proofs.Common.{rules, flat_map, length}
 use Rattle.run_ends.specs.Runs.{sink_state}
 use Rattle.check_run.specs.Checking.{claim_line, accepted_line}
-use Rattle.check_run.proofs.PieceLemmas.{piece_after, part_of_more}
+use Rattle.run_ends.proofs.PieceLemmas.{piece_after, part_of_more}
 use Rattle.check_run.proofs.verdict.put_all_claims.Goals as goal
 
 pub returns-in_err-put_claims : goal.returns-in_err-put_claims

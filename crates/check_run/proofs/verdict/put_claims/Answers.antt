@@ -1,7 +1,7 @@
 use Rattle.std.proofs.Common.{rules, ℕ, List, arith, ap, subst, ◌∙◌}
 use Rattle.outer_store.specs.Bytes.{GrownInPart, added}
 use Rattle.check_run.specs.Checking.{claim_line}
-use Rattle.check_run.proofs.PieceLemmas.{line_put, line_refused, line_starved, lines_put}
+use Rattle.run_ends.proofs.PieceLemmas.{line_put, line_refused, line_starved, lines_put}
 use Rattle.check_run.proofs.verdict.put_claims.Goals as goal
 
 pub returns-in_err-line : goal.returns-in_err-line

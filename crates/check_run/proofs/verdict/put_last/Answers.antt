@@ -3,7 +3,7 @@ use Rattle.cert_text.specs.Lines.{end_word}
 use Rattle.run_ends.specs.Ends.{line_of}
 use Rattle.run_ends.specs.Runs.{sink_state}
 use Rattle.check_run.specs.Checking.{accepted_line}
-use Rattle.check_run.proofs.PieceLemmas.{piece_after, part_of_more}
+use Rattle.run_ends.proofs.PieceLemmas.{piece_after, part_of_more}
 use Rattle.check_run.proofs.verdict.put_last.Goals as goal
 
 pub returns-in_err-put : goal.returns-in_err-put

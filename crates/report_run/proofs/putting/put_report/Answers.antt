@@ -1,8 +1,7 @@
 use Rattle.std.proofs.Common.{rules, ◌++◌, [], codes}
-use Rattle.run_ends.specs.Ends.{line_of}
+use Rattle.run_ends.specs.Ends.{line_of, in_lines}
 use Rattle.run_ends.specs.Runs.{sink_state}
-use Rattle.report_run.specs.Reporting.{in_lines}
-use Rattle.report_run.proofs.PieceLemmas.{piece_after, part_of_more}
+use Rattle.run_ends.proofs.PieceLemmas.{piece_after, part_of_more}
 use Rattle.report_run.proofs.putting.put_report.Goals as goal
 
 pub returns-in_err-put_heading : goal.returns-in_err-put_heading

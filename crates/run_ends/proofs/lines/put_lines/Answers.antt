@@ -1,7 +1,7 @@
 use Rattle.std.proofs.Common.{rules, refl}
 use Rattle.std.specs.List.{slice_range}
-use Rattle.report_run.proofs.PieceLemmas.{put_next, put_refused}
-use Rattle.report_run.proofs.putting.put_lines.Goals as goal
+use Rattle.run_ends.proofs.PieceLemmas.{put_next, put_refused}
+use Rattle.run_ends.proofs.lines.put_lines.Goals as goal
 
 pub returns-in_err-put_piece : goal.returns-in_err-put_piece
 returns-in_err-put_piece g c = record {

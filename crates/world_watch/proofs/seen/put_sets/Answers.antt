@@ -2,7 +2,7 @@ use Rattle.std.proofs.Common.{◌++◌, ap, ◌∙◌}
 use Rattle.rcc5_core.specs.RelationSet.{has}
 use Rattle.world_watch.specs.Kinds.{seen_line, set_at}
 use Rattle.merge_print.proofs.ListLemmas.{range_put}
-use Rattle.world_watch.proofs.seen.put_lines.Goals as goal
+use Rattle.world_watch.proofs.seen.put_sets.Goals as goal
 
 pub loop-pair-preserved : goal.loop-pair-preserved
 loop-pair-preserved c =

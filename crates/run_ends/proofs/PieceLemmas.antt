@@ -1,4 +1,4 @@
--- Pieces that are put one behind the other. Those on lists of lines, and the first two, are copies of those in `check_run`.
+-- Pieces that are put one behind the other.
 use Rattle.std.proofs.Common.{◌≡◌, ◌≢◌, ℕ, zero, suc, ◌+◌, ◌-◌, ◌<◌, ◌≤◌, ◌==◌, ◌⊎◌, inl, inr, Bool, true, false, cond, List, [], ◌∷◌, ◌++◌, take, drop, length, flat_map, get_or, Option, None, Some, Result, Ok, Err, OnErr, refl, sym, ap, subst, ◌∙◌, append-nil, append_assoc, arith}
 use Rattle.std.proofs.lemmas.Bool.{eqb-true}
 use Rattle.std.specs.List.{slice_range}
@@ -10,11 +10,9 @@ use Rattle.outer_store.specs.Bytes.{GrownInPart, added}
 use Rattle.outer_store.specs.Faults.{Rose}
 use Rattle.outer_store.specs.declared.fault.StoreFault.{StoreFault}
 use Rattle.outer_store.specs.declared.fault.StoreFault.TheVariants as fault
-use Rattle.outer_store.proofs.BytesLemmas.{added-added, GrownInPart-longer, GrownInPart-after}
-use Rattle.run_ends.specs.Ends.{line_of}
+use Rattle.outer_store.proofs.BytesLemmas.{added-added, GrownInPart-longer, GrownInPart-after, GrownInPart-whole}
+use Rattle.run_ends.specs.Ends.{line_of, in_lines, IsLineEnd}
 use Rattle.run_ends.specs.Runs.{SinkState, LeavesPiece}
-use Rattle.report_run.specs.Reporting.{in_lines}
-use Rattle.report_run.specs.Steps.{IsLineEnd}
 
 -- a piece behind one that is put whole
 pub piece_after : {T : Type 0} (r : Result T StoreFault) (piece more : List ℕ) (old mid new : SinkState) → mid.bytes ≡ added old.bytes piece → mid.faults ≡ old.faults
@@ -74,6 +72,13 @@ line_refused (Err e) line xs i x old mid new within is so_far part =
     subst (GrownInPart old new) (lines_split line xs (i + 1))
     (GrownInPart-longer old new (flat_map line (take (i + 1) xs)) (flat_map line (drop (i + 1) xs))
     (subst (GrownInPart old new) (sym (lines_more line xs i x within is)) (GrownInPart-after old mid new (flat_map line (take i xs)) (line x) so_far part)))
+
+-- no memory for the next line
+pub line_starved : {X T E : Type 0} (r : Result T E) (line : X → List ℕ) (xs : List X) (i : ℕ) (old mid : Option (List ℕ)) → mid ≡ added old (flat_map line (take i xs))
+    → OnErr r (GrownInPart old mid (flat_map line xs))
+line_starved (Ok v) line xs i old mid so_far = tt
+line_starved (Err e) line xs i old mid so_far =
+    subst (GrownInPart old mid) (lines_split line xs i) (GrownInPart-whole old mid (flat_map line (take i xs)) (flat_map line (drop i xs)) so_far)
 
 -- all lines are put
 pub lines_put : {X : Type 0} (line : X → List ℕ) (xs : List X) (i : ℕ) (old new : Option (List ℕ)) → length xs ≤ i

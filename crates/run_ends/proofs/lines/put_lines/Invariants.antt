@@ -1,6 +1,6 @@
 use Rattle.std.proofs.Common.{◌≡◌, ◌-◌, length}
-use Rattle.report_run.proofs.PieceLemmas.{ArePutTo}
-use Rattle.report_run.proofs.putting.put_lines.Given as goal
+use Rattle.run_ends.proofs.PieceLemmas.{ArePutTo}
+use Rattle.run_ends.proofs.lines.put_lines.Given as goal
 
 abbrev pub decreases-lines : goal.decreases-lines
 decreases-lines g l = length l.text - l.from

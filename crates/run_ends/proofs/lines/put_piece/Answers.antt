@@ -1,7 +1,7 @@
 use Rattle.std.proofs.Common.{rules, arith, length, sym, subst, ◌-◌}
 use Rattle.run_ends.specs.Runs.{sink_state, LeavesPiece}
-use Rattle.report_run.proofs.PieceLemmas.{lines_whole, lines_open}
-use Rattle.report_run.proofs.putting.put_piece.Goals as goal
+use Rattle.run_ends.proofs.PieceLemmas.{lines_whole, lines_open}
+use Rattle.run_ends.proofs.lines.put_piece.Goals as goal
 
 pub returns-then-piece-eq10 : goal.returns-then-piece-eq10
 returns-then-piece-eq10 g c =

@@ -1,5 +1,5 @@
 use Rattle.std.proofs.Common.{◌≢◌, ◌<◌, ◌≤◌, ℕ, get_or}
-use Rattle.report_run.proofs.putting.line_end.Given as goal
+use Rattle.run_ends.proofs.lines.line_end.Given as goal
 
 abbrev pub invariant-loop-place : goal.invariant-loop-place
 invariant-loop-place l = (k : ℕ) → l.from ≤ k → k < l.place → get_or l.text k 0 ≢ 10
