@@ -111,20 +111,22 @@ none_certified (Some name) held P = by (held name)
 -- a first part of a listing is one of its answer
 partly : (order : Order) (cert token : Option (List ℕ)) (store : StoreState) (old new : SinkState) → IsPutPartly order old.bytes new.bytes → IsPutPart (order_answers order cert token) store old new
 partly order cert token store old new part = record {
-  status = listing_status order.start part.cut part.worlds;
   text = listing_text part.cut part.worlds;
-  files = file_under cert None ++ token_under order.problem token part.cut store.held;
-  asked = record {
-    cut = part.cut;
-    cut_is = part.cut_is;
-    worlds = part.worlds;
-    exactly = part.exactly;
-    put = refl;
-    ended = refl;
-    bytes = None;
-    certified = none_certified cert store.held (IsCertOf order.problem order.start part.cut part.worlds);
-    written = refl;
-  };
+  of_answer = inl (
+    listing_status order.start part.cut part.worlds,
+    file_under cert None ++ token_under order.problem token part.cut store.held,
+    record {
+      cut = part.cut;
+      cut_is = part.cut_is;
+      worlds = part.worlds;
+      exactly = part.exactly;
+      put = refl;
+      ended = refl;
+      bytes = None;
+      certified = none_certified cert store.held (IsCertOf order.problem order.start part.cut part.worlds);
+      written = refl;
+    },
+  );
   part = part.part;
 }
 

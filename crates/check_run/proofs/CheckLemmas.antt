@@ -147,10 +147,8 @@ carried input cert switches v (Ok s) one other old new found kept quiet put = re
 carried input cert switches v (Err store_fault.Failed) one other old new found kept quiet put = record {
   done = tt;
   refused = record {
-    status = status.Done;
     text = verdict_text v;
-    files = [];
-    asked = verdict_answer input cert switches one.held v found;
+    of_answer = inl (status.Done, [], verdict_answer input cert switches one.held v found);
     part = put.err;
   };
   by_cause = record { cause = inl (put.cause, quiet); kept = all_kept [] one.held other.held kept };
@@ -158,10 +156,8 @@ carried input cert switches v (Err store_fault.Failed) one other old new found k
 carried input cert switches v (Err store_fault.NoMemory) one other old new found kept quiet put = record {
   done = tt;
   refused = record {
-    status = status.Done;
     text = verdict_text v;
-    files = [];
-    asked = verdict_answer input cert switches one.held v found;
+    of_answer = inl (status.Done, [], verdict_answer input cert switches one.held v found);
     part = put.err;
   };
   by_cause = record { cause = (quiet, put.cause); kept = all_kept [] one.held other.held kept };

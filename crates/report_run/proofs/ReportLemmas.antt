@@ -119,10 +119,8 @@ carried input kinds switches ws p (Ok s) one other old new valid comes kept quie
 carried input kinds switches ws p (Err store_fault.Failed) one other old new valid comes kept quiet is put = record {
   done = tt;
   refused = record {
-    status = report_status (all_worlds p);
     text = report_text p (all_worlds p) (asked ws kinds);
-    files = [];
-    asked = report_answer input kinds switches ws p one.held valid comes;
+    of_answer = inl (report_status (all_worlds p), [], report_answer input kinds switches ws p one.held valid comes);
     part = put.err;
   };
   by_cause = record { cause = inl (put.cause, quiet); kept = all_kept [] one.held other.held kept };
@@ -130,10 +128,8 @@ carried input kinds switches ws p (Err store_fault.Failed) one other old new val
 carried input kinds switches ws p (Err store_fault.NoMemory) one other old new valid comes kept quiet is put = record {
   done = tt;
   refused = record {
-    status = report_status (all_worlds p);
     text = report_text p (all_worlds p) (asked ws kinds);
-    files = [];
-    asked = report_answer input kinds switches ws p one.held valid comes;
+    of_answer = inl (report_status (all_worlds p), [], report_answer input kinds switches ws p one.held valid comes);
     part = put.err;
   };
   by_cause = record { cause = (quiet, put.cause); kept = all_kept [] one.held other.held kept };

@@ -10,7 +10,7 @@ use Rattle.outer_store.proofs.BytesLemmas.{GrownInPart-kept, GrownInPart-whole}
 use Rattle.run_ends.specs.declared.Status.{Status}
 use Rattle.run_ends.specs.declared.Status.TheVariants as status
 use Rattle.run_ends.specs.Ends.{end_line, IsLastPut}
-use Rattle.run_ends.specs.Runs.{StoreState, SinkState, File, Answers, Names, IsHeld, AreWritten, AreKeptBut, IsPutInPart, IsInterrupted, IsRunBy, IsRunOf, IsEarlyEnd, IsPutPart, IsCarriedOut}
+use Rattle.run_ends.specs.Runs.{StoreState, SinkState, File, Answers, Names, IsHeld, AreWritten, AreKeptBut, IsAskedText, IsPutInPart, IsInterrupted, IsRunBy, IsRunOf, IsEarlyEnd, IsPutPart, IsCarriedOut}
 
 pub GrownInPart-all : (old new : Option (List ℕ)) (piece : List ℕ) → new ≡ added old piece → GrownInPart old new piece
 GrownInPart-all old new piece e = subst (GrownInPart old new) (append-nil piece) (GrownInPart-whole old new piece [] e)
@@ -24,11 +24,11 @@ pub none_written : (held held' : Contents) → held' ≡ held → AreWritten [] 
 none_written held held' e = record { each = All-nil (IsHeld held held'); others = all_kept [] held held' e }
 
 -- a first part of a text that is asked for, and then of the line that memory was wanting
-put_in_part : (answers : Answers) (held : Contents) (s : Status) (text : List ℕ) (files : List File) (old mid new : Option (List ℕ))
-    → answers held s text files → GrownInPart old mid text → GrownInPart mid new (end_line status.NoMemory) → IsPutInPart answers held old new
-put_in_part answers held s text files old mid new asked begun ended = record {
+put_in_part : (answers : Answers) (held : Contents) (text : List ℕ) (old mid new : Option (List ℕ))
+    → IsAskedText answers held text → GrownInPart old mid text → GrownInPart mid new (end_line status.NoMemory) → IsPutInPart answers held old new
+put_in_part answers held text old mid new asked begun ended = record {
   text = text;
-  of_answer = inl (s, files, asked);
+  of_answer = asked;
   cut = record { between = mid; begun = begun; ended = ended };
 }
 
@@ -76,7 +76,7 @@ run_early names answers s r one other old new early kept last = ⊎_elim
     }))
     (λ part. inr (
       refused.2,
-      put_in_part answers one.held s (end_line s) [] old.bytes new.bytes new.bytes refused.0 part
+      put_in_part answers one.held (end_line s) old.bytes new.bytes new.bytes (inl (s, [], refused.0)) part
           (GrownInPart-kept new.bytes new.bytes (end_line status.NoMemory) refl),
     ))
     kept)
@@ -115,7 +115,7 @@ run_done names answers s one other old new carried =
 
 partly : (answers : Answers) (one : StoreState) (old mid : SinkState) (new : Option (List ℕ)) → IsPutPart answers one old mid
     → GrownInPart mid.bytes new (end_line status.NoMemory) → IsPutInPart answers one.held old.bytes new
-partly answers one old mid new part ended = put_in_part answers one.held part.status part.text part.files old.bytes mid.bytes new part.asked part.part ended
+partly answers one old mid new part ended = put_in_part answers one.held part.text old.bytes mid.bytes new part.of_answer part.part ended
 
 -- one whose put or write is refused
 pub run_refused : (names : Names) (answers : Answers) (one other : StoreState) (old new : SinkState)
@@ -176,10 +176,8 @@ carried_as answers others (Ok s) names one other old new answer carried = record
 carried_as answers others (Err f) names one other old new answer carried = record {
   done = tt;
   refused = record {
-    status = carried.refused.status;
     text = carried.refused.text;
-    files = carried.refused.files;
-    asked = answer carried.refused.status carried.refused.text carried.refused.files carried.refused.asked;
+    of_answer = ⊎_elim (λ some. inl (some.0, some.1, answer some.0 carried.refused.text some.1 some.2)) (λ none. inr none) carried.refused.of_answer;
     part = carried.refused.part;
   };
   by_cause = carried.by_cause;

@@ -191,15 +191,13 @@ pub record IsPutWhole (answers : Answers) (status : Status) (store store' : Stor
   pub put : sink'.bytes ≡ added sink.bytes text
   pub written : AreWritten files store.held store'.held
 
--- a first part of an answer's text is put
+-- a first part of an answer's text is put, or nothing
 pub record IsPutPart (answers : Answers) (store : StoreState) (sink sink' : SinkState) : Type 0 where
-  pub status : Status
   pub text : List ℕ
-  pub files : List File
-  pub asked : answers store.held status text files
+  pub of_answer : IsAskedText answers store.held text
   pub part : GrownInPart sink.bytes sink'.bytes text
 
--- an answer is put and written, or a first part of its text is put
+-- an answer is put and written, or a first part of its text, or nothing, is put
 pub record IsCarriedOut (answers : Answers) (result : Result Status StoreFault) (names : List (List ℕ)) (store store' : StoreState) (sink sink' : SinkState) : Type 0 where
   pub done : IfOk result (λ status. IsPutWhole answers status store store' sink sink')
   pub refused : OnErr result (IsPutPart answers store sink sink')

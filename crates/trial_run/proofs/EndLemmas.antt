@@ -26,7 +26,7 @@ module _ (seed size : ℕ) (text : List ℕ) (is : IsSummary seed size text) (on
   pub trial_refused : GrownInPart old.bytes new.bytes text → Rose old.faults new.faults → IsRunOf trial_names (IsTrialAnswer seed size) status.WriteFault one one old new
   trial_refused part rose = run_refused trial_names (IsTrialAnswer seed size) one one old new (record {
     done = tt;
-    refused = record { status = status.Done; text = text; files = []; asked = answer; part = part };
+    refused = record { text = text; of_answer = inl (status.Done, [], answer); part = part };
     by_cause = record { cause = inl (rose, (refl, refl)); kept = all_kept [] one.held one.held refl };
   })
 
@@ -35,7 +35,7 @@ module _ (seed size : ℕ) (text : List ℕ) (is : IsSummary seed size text) (on
       → IsLastPut status.NoMemory r (end_line status.NoMemory) new.bytes last.bytes new.faults last.faults → IsRunOf trial_names (IsTrialAnswer seed size) r one one old last
   trial_starved r last part same put = run_starved trial_names (IsTrialAnswer seed size) r one one old new last (record {
     done = tt;
-    refused = record { status = status.Done; text = text; files = []; asked = answer; part = part };
+    refused = record { text = text; of_answer = inl (status.Done, [], answer); part = part };
     by_cause = record { cause = ((refl, refl), same); kept = all_kept [] one.held one.held refl };
   }) put
 
