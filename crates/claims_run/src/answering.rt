@@ -1,0 +1,102 @@
+//! Answers, and their claims in a log.
+ghost use Rattle.std.specs.Prelude.{◌≡◌, IfOk};
+ghost use Rattle.constraint_set.specs.Facts.{IsAsRead};
+ghost use Rattle.constraint_set.specs.Shape.{shape_of};
+ghost use Rattle.search_log.specs.Logging.{LogGoes};
+ghost use Rattle.claim_blocks.specs.Blocks.{KeepsClaims};
+ghost use Rattle.claims_run.specs.declared.question.Question.TheVariants as question;
+ghost use Rattle.claims_run.specs.Answering.{IsRight, IsClaimed};
+ghost use Rattle.claims_run.specs.Certifying.{IsToldWhole};
+
+use crate::question::{Answer, Question};
+use cert_text::{CertLine, Flags, TreeLog};
+use conflict_min::{ConflictFault, least_conflict};
+use constraint_set::Problem;
+use mir_report::{has_world, mir};
+use point_query::Asker;
+use search_log::{StepFault, put_one, put_waiting};
+use std::alloc::Global;
+
+// Which relations are possible, and whether there is a world.
+fn possible<L: TreeLog>(
+    alloc: Global,
+    problem: &Problem,
+    asker: &mut Asker,
+    log: &mut L,
+) -> Result<Answer, StepFault>
+    requires shape { asker.old.shape ≡ shape_of problem.now }
+    ensures right { IfOk result (IsRight problem.now question.Relations) }
+    ensures keeps { KeepsClaims problem.now result (IsClaimed problem.now) (L.lines log.old) (L.lines log.new) asker.old asker.new }
+    ensures log { LogGoes L.drops L.lines L.faults L.steady L.quiet result log.old log.new }
+{
+    let mir = mir(alloc, problem, asker, log)?;
+    let some = has_world(alloc, problem, &mir, asker, log)?;
+    Ok(Answer::Possible { mir, some })
+}
+
+// The least conflict, if there is one.
+fn conflict<L: TreeLog>(
+    alloc: Global,
+    problem: &Problem,
+    asker: &mut Asker,
+    log: &mut L,
+) -> Result<Answer, StepFault>
+    requires shape { asker.old.shape ≡ shape_of problem.now }
+    requires as_read { IsAsRead problem.now }
+    ensures right { IfOk result (IsRight problem.now question.Conflicts) }
+    ensures keeps { KeepsClaims problem.now result (IsClaimed problem.now) (L.lines log.old) (L.lines log.new) asker.old asker.new }
+    ensures log { LogGoes L.drops L.lines L.faults L.steady L.quiet result log.old log.new }
+{
+    match least_conflict(alloc, problem, asker, log) {
+        Ok(conflict) => Ok(Answer::Conflict(Flags::new(conflict.kept))),
+        Err(ConflictFault::Consistent(_)) => Ok(Answer::Consistent),
+        Err(ConflictFault::LogFailed) => Err(StepFault::LogFailed),
+        Err(ConflictFault::NoMemory) => Err(StepFault::NoMemory),
+    }
+}
+
+// The answer to a question.
+fn answer<L: TreeLog>(
+    alloc: Global,
+    problem: &Problem,
+    asked: Question,
+    asker: &mut Asker,
+    log: &mut L,
+) -> Result<Answer, StepFault>
+    requires shape { asker.old.shape ≡ shape_of problem.now }
+    requires as_read { IsAsRead problem.now }
+    ensures right { IfOk result (IsRight problem.now asked) }
+    ensures keeps { KeepsClaims problem.now result (IsClaimed problem.now) (L.lines log.old) (L.lines log.new) asker.old asker.new }
+    ensures log { LogGoes L.drops L.lines L.faults L.steady L.quiet result log.old log.new }
+{
+    match asked {
+        Question::Relations => possible(alloc, problem, asker, log),
+        Question::Conflicts => conflict(alloc, problem, asker, log),
+    }
+}
+
+/// The answer to a question. A log is told its claims as a whole certificate.
+pub(crate) fn tell<L: TreeLog>(
+    alloc: Global,
+    problem: &Problem,
+    asked: Question,
+    log: &mut L,
+) -> Result<Answer, StepFault>
+    requires { IsAsRead problem.now }
+    ensures right { IfOk result (IsRight problem.now asked) }
+    ensures told { IfOk result (λ answer. IsToldWhole problem.now (IsClaimed problem.now answer) (L.lines log.old) (L.lines log.new)) }
+    ensures log { LogGoes L.drops L.lines L.faults L.steady L.quiet result log.old log.new }
+    ensures steady { L.steady log.old log.new }
+{
+    put_one(
+        log,
+        &CertLine::Claims {
+            switches: problem.switches(),
+        },
+    )?;
+    let mut asker = Asker::new(alloc, problem)?;
+    let answer = answer(alloc, problem, asked, &mut asker, log)?;
+    put_waiting(alloc, &mut asker, log)?;
+    put_one(log, &CertLine::Done)?;
+    Ok(answer)
+}

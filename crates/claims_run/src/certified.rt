@@ -1,0 +1,71 @@
+//! An answer with its certificate.
+ghost use Rattle.std.specs.Prelude.{Some};
+ghost use Rattle.constraint_set.specs.Facts.{IsAsRead};
+ghost use Rattle.run_ends.specs.Runs.{store_state};
+ghost use Rattle.claims_run.specs.Certifying.{IsSettledWith};
+
+use crate::answering::tell;
+use crate::question::{Answer, Question};
+use cert_text::{NoLog, StoreLog};
+use command_line::Word;
+use constraint_set::Problem;
+use outer_store::{Store, StoreFault};
+use search_log::StepFault;
+use std::alloc::Global;
+
+// A fault of a step as one of the store.
+fn store_fault(fault: StepFault) -> StoreFault
+    ensures { result ≡ store_fault fault }
+{
+    match fault {
+        StepFault::LogFailed => StoreFault::Failed,
+        StepFault::NoMemory => StoreFault::NoMemory,
+    }
+}
+
+// Answers, and the certificate is what the name then holds.
+fn settle_certified<S: Store>(
+    alloc: Global,
+    store: &mut S,
+    problem: &Problem,
+    asked: Question,
+    name: &str,
+) -> Result<Answer, StoreFault>
+    requires { IsAsRead problem.now }
+    ensures { IsSettledWith problem.now asked (Some name.now) result (store_state (S.held store.old) (S.read_faults store.old) (S.write_faults store.old)) (store_state (S.held store.new) (S.read_faults store.new) (S.write_faults store.new)) }
+{
+    store.create(name)?;
+    let mut log = StoreLog::new(alloc, store, name);
+    match tell(alloc, problem, asked, &mut log) {
+        Ok(answer) => Ok(answer),
+        Err(fault) => Err(store_fault(fault)),
+    }
+}
+
+// Answers without a certificate.
+fn settle_bare(alloc: Global, problem: &Problem, asked: Question) -> Result<Answer, AllocError>
+    requires { IsAsRead problem.now }
+    ensures { IfOk result (IsRight problem.now asked) }
+{
+    match tell(alloc, problem, asked, &mut NoLog) {
+        Ok(answer) => Ok(answer),
+        Err(_) => Err(AllocError),
+    }
+}
+
+/// The answer to a question. Its certificate is written where there is a name for one.
+pub(crate) fn settled<S: Store>(
+    alloc: Global,
+    store: &mut S,
+    problem: &Problem,
+    asked: Question,
+    cert: &Option<Word>,
+) -> Result<Answer, StoreFault>
+    requires { IsAsRead problem.now }
+    ensures { IsSettledWith problem.now asked cert.now result (store_state (S.held store.old) (S.read_faults store.old) (S.write_faults store.old)) (store_state (S.held store.new) (S.read_faults store.new) (S.write_faults store.new)) }
+{
+    match cert {
+        None => Ok(settle_bare(alloc, problem, asked)?),
+        Some(name) => settle_certified(alloc, store, problem, asked, name.text()),
+    }
+}

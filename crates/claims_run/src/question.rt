@@ -1,0 +1,23 @@
+//! Questions, and what is answered.
+use cert_text::Flags;
+use mir_report::MirSets;
+
+/// What is asked of a problem.
+#[derive(Clone, Copy, Debug, PartialEq, Eq)]
+pub enum Question {
+    /// Which relations remain possible.
+    Relations,
+    /// What is in conflict.
+    Conflicts,
+}
+
+/// What is answered.
+#[derive(Debug, Drop)]
+pub enum Answer {
+    /// The possible relations of each pair across taxonomies, and whether there is a world.
+    Possible { mir: MirSets, some: bool },
+    /// All articulations hold together.
+    Consistent,
+    /// The articulations whose flag is true are the least conflict.
+    Conflict(Flags),
+}
