@@ -1,15 +1,19 @@
 -- What the claims of an answer leave in a log and in the file of a certificate.
-use Rattle.std.specs.Prelude.{◌≡◌, ℕ, List, [], ◌∷◌, Option, Some, None, IfSome, IfOk, Result, Ok, Err, ◌⊎◌, ⊤}
+use Rattle.std.specs.Prelude.{◌≡◌, ℕ, List, [], ◌∷◌, ◌++◌, Option, Some, None, IfSome, IfOk, Result, ⊤}
 use Rattle.std.specs.Option.{option_to_list}
 use Rattle.outer_store.specs.Contents.{Contents}
 use Rattle.outer_store.specs.Faults.{IfFailed}
 use Rattle.outer_store.specs.declared.fault.StoreFault.{StoreFault}
+use Rattle.outer_store.specs.declared.fault.StoreFault.TheVariants.{Failed, NoMemory}
+use Rattle.lits_core.specs.Derivation.{State}
 use Rattle.world_model.specs.Problem.{Problem}
 use Rattle.cert_text.specs.declared.line.CertLine.{CertLine}
-use Rattle.cert_text.specs.declared.line.CertLine.TheVariants.{Claims}
+use Rattle.cert_text.specs.declared.line.CertLine.TheVariants.{Done}
 use Rattle.cert_text.specs.Logs.{Told}
-use Rattle.cert_rules.specs.Listings.{Ended}
-use Rattle.cert_rules.specs.ClaimLists.{Claim, claims_status}
+use Rattle.cert_rules.specs.ClaimLists.{Claim}
+use Rattle.search_log.specs.declared.fault.StepFault.{StepFault}
+use Rattle.search_log.specs.declared.fault.StepFault.TheVariants as step
+use Rattle.split_search.specs.Claiming.{ClaimsBegin}
 use Rattle.run_ends.specs.Runs.{StoreState, HasFailed, AreKeptBut, IsQuiet}
 use Rattle.claims_run.specs.declared.question.Question.{Question}
 use Rattle.claims_run.specs.declared.question.Answer.{Answer}
@@ -18,10 +22,11 @@ use Rattle.claims_run.specs.Answering.{IsRight, IsClaimed, IsCertOf}
 -- a whole list of claims is told, of which some fact is so
 pub record AreAllTold (p : Problem) (IsMade : List Claim → Type 0) (told : Told) : Type 0 where
   pub lines : List CertLine
+  pub state : State
   pub claims : List Claim
   pub made : IsMade claims
-  pub are : told ≡ Some (Claims p.switches ∷ lines)
-  pub ended : claims_status p p.switches lines ≡ Ended claims
+  pub are : told ≡ Some (lines ++ Done ∷ [])
+  pub begins : ClaimsBegin p [] state None claims lines
 
 -- it is told where no line was told before
 abbrev pub IsToldWhole : Problem → (List Claim → Type 0) → Told → Told → Type 0
@@ -38,3 +43,8 @@ pub record IsSettledWith (p : Problem) (asked : Question) (cert : Option (List �
   pub left : IfOk result (λ answer. IsCertLeft p (IsClaimed p answer) cert store.held store'.held)
   pub kept : AreKeptBut (option_to_list cert) store.held store'.held
   pub cause : IfFailed result (HasFailed (option_to_list cert) store.writes store'.writes) (IsQuiet store store')
+
+-- a fault of a step as one of the store
+abbrev pub store_fault : StepFault → StoreFault
+store_fault step.LogFailed = Failed
+store_fault step.NoMemory = NoMemory

@@ -1,8 +1,9 @@
 //! An answer with its certificate.
-ghost use Rattle.std.specs.Prelude.{Some};
+ghost use Rattle.std.specs.Prelude.{◌≡◌, Some, IfOk};
 ghost use Rattle.constraint_set.specs.Facts.{IsAsRead};
 ghost use Rattle.run_ends.specs.Runs.{store_state};
-ghost use Rattle.claims_run.specs.Certifying.{IsSettledWith};
+ghost use Rattle.claims_run.specs.Answering.{IsRight};
+ghost use Rattle.claims_run.specs.Certifying.{IsSettledWith, store_fault};
 
 use crate::answering::tell;
 use crate::question::{Answer, Question};
@@ -11,7 +12,7 @@ use command_line::Word;
 use constraint_set::Problem;
 use outer_store::{Store, StoreFault};
 use search_log::StepFault;
-use std::alloc::Global;
+use std::alloc::{AllocError, Global};
 
 // A fault of a step as one of the store.
 fn store_fault(fault: StepFault) -> StoreFault

@@ -1,9 +1,11 @@
 //! The lines of answers.
-ghost use Rattle.std.specs.Prelude.{◌≡◌, ◌++◌, length, string_bytes, IfOk};
+ghost use Rattle.std.specs.Prelude.{◌≡◌, ◌++◌, ◌+◌, ◌<◌, ◌≤◌, [], length, drop, string_bytes, IfOk, OnOk};
+ghost use Rattle.world_model.specs.Problem.{cross_pairs};
 ghost use Rattle.world_model.specs.Questions.{HasFlags};
 ghost use Rattle.conflict_min.specs.Conflicts.{places_from};
 ghost use Rattle.run_ends.specs.Runs.{sink_state, LeavesPiece};
-ghost use Rattle.claims_run.specs.Answering.{mir_line, conflict_line, numbered_lines, answer_text};
+ghost use Rattle.claims_run.specs.Answering.{mir_line, conflict_line, numbered_lines, answer_text, IsFlagged};
+ghost use Rattle.claims_run.specs.declared.question.Answer.TheVariants.{Possible, Conflict};
 
 use crate::question::Answer;
 use cleantax_text::articulation_text;
@@ -13,3 +15,99 @@ use outer_store::{Sink, StoreFault};
 use run_ends::put_lines;
 use std::alloc::{AllocError, Global};
 use world_watch::put_sets;
+
+// The last line of possible relations.
+fn mir_line(alloc: Global, count: u32) -> Result<String, AllocError>
+    ensures { IfOk result (λ line. string_bytes line ≡ mir_line count) }
+{
+    format!(in alloc; "mir {count}\n")
+}
+
+// The lines of possible relations.
+fn mir_text(alloc: Global, problem: &Problem, mir: &MirSets) -> Result<Vec<u8>, AllocError>
+    ensures { IfOk result (λ text. (some : _) → text.items ≡ answer_text problem.now (Possible mir.now some)) }
+{
+    let mut text = Vec::new(alloc);
+    put_sets(&mut text, alloc, problem, &mir.sets)?;
+    let last = mir_line(alloc, problem.cross_count())?;
+    text.extend_from_slice(last.as_bytes())?;
+    Ok(text)
+}
+
+// How many flags are true.
+fn count_kept(kept: &[bool]) -> usize
+    ensures { result ≡ length (places_from 0 kept.now) }
+{
+    let mut count = 0;
+    for flag in kept {
+        if *flag {
+            count += 1;
+        }
+    }
+    count
+}
+
+// The first line of a conflict.
+fn conflict_line(alloc: Global, count: usize) -> Result<String, AllocError>
+    ensures { IfOk result (λ line. string_bytes line ≡ conflict_line count) }
+{
+    format!(in alloc; "conflict {count}\n")
+}
+
+// Puts the number of an articulation, from 1, and its canonical text.
+fn put_articulation(
+    alloc: Global,
+    problem: &Problem,
+    index: u32,
+    text: &mut Vec<u8>,
+) -> Result<(), AllocError>
+    requires { index < length problem.now.articulations }
+    ensures { OnOk result (IsNumberedAt problem.now index text.old.items text.new.items) }
+{
+    let number = index + 1;
+    let number = format!(in alloc; "{number} ")?;
+    text.extend_from_slice(number.as_bytes())?;
+    text.extend_from_slice(&articulation_text(alloc, problem, index)?)?;
+    text.push(b'\n')
+}
+
+// The lines of a conflict.
+fn conflict_text(alloc: Global, problem: &Problem, kept: &[bool]) -> Result<Vec<u8>, AllocError>
+    requires { HasFlags problem.now kept.now }
+    ensures { IfOk result (λ text. text.items ≡ answer_text problem.now (Conflict kept.now)) }
+{
+    let first = conflict_line(alloc, count_kept(kept))?;
+    let mut text = Vec::from_slice(alloc, first.as_bytes())?;
+    for index in 0..problem.articulation_count() {
+        if kept[index as usize] {
+            put_articulation(alloc, problem, index, &mut text)?;
+        }
+    }
+    Ok(text)
+}
+
+// The text of an answer.
+fn text_of(alloc: Global, problem: &Problem, answer: &Answer) -> Result<Vec<u8>, AllocError>
+    requires { IsFlagged problem.now answer.now }
+    ensures { IfOk result (λ text. text.items ≡ answer_text problem.now answer.now) }
+{
+    match answer {
+        Answer::Possible { mir, .. } => mir_text(alloc, problem, mir),
+        Answer::Consistent => Vec::from_slice(alloc, b"consistent\n"),
+        Answer::Conflict(kept) => conflict_text(alloc, problem, kept.list()),
+    }
+}
+
+/// Puts an answer, a line in each put.
+pub(crate) fn put_answer<W: Sink>(
+    alloc: Global,
+    out: &mut W,
+    problem: &Problem,
+    answer: &Answer,
+) -> Result<(), StoreFault>
+    requires { IsFlagged problem.now answer.now }
+    ensures { LeavesPiece result (answer_text problem.now answer.now) (sink_state (W.received out.old) (W.faults out.old)) (sink_state (W.received out.new) (W.faults out.new)) }
+{
+    let text = text_of(alloc, problem, answer)?;
+    put_lines(alloc, out, &text)
+}

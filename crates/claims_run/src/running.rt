@@ -1,0 +1,68 @@
+//! A question, from its words to its status.
+ghost use Rattle.std.specs.Prelude.{◌≡◌};
+ghost use Rattle.constraint_set.specs.Facts.{IsAsRead};
+ghost use Rattle.std.specs.Option.{option_to_list};
+ghost use Rattle.run_ends.specs.Runs.{store_state, sink_state, IsCarriedOut, IsRunOf};
+ghost use Rattle.claims_run.specs.Answering.{answer_status, IsSettled, IsClaimsAnswer, claims_names};
+
+use crate::certified::settled;
+use crate::putting::put_answer;
+use crate::question::{Answer, Question};
+use command_line::Word;
+use constraint_set::Problem;
+use outer_store::{Sink, Store, StoreFault};
+use run_ends::{Status, problem_under, put_end};
+use std::alloc::Global;
+use world_model::Switches;
+
+// A good end by the answer.
+fn status_of(answer: &Answer) -> Status
+    ensures { result ≡ answer_status answer.now }
+{
+    match answer {
+        Answer::Possible { some: false, .. } => Status::NoWorld,
+        Answer::Possible { .. } | Answer::Conflict(_) => Status::Done,
+        Answer::Consistent => Status::Consistent,
+    }
+}
+
+// Answers a question about a problem, with its certificate, and puts the answer.
+fn carry_out<S: Store, W: Sink>(
+    alloc: Global,
+    store: &mut S,
+    out: &mut W,
+    problem: &Problem,
+    asked: Question,
+    cert: &Option<Word>,
+) -> Result<Status, StoreFault>
+    requires { IsAsRead problem.now }
+    ensures { IsCarriedOut (IsSettled problem.now asked cert.now) result (option_to_list cert.now) (store_state (S.held store.old) (S.read_faults store.old) (S.write_faults store.old)) (store_state (S.held store.new) (S.read_faults store.new) (S.write_faults store.new)) (sink_state (W.received out.old) (W.faults out.old)) (sink_state (W.received out.new) (W.faults out.new)) }
+{
+    let answer = settled(alloc, store, problem, asked, cert)?;
+    put_answer(alloc, out, problem, &answer)?;
+    Ok(status_of(&answer))
+}
+
+/// Answers a question about the problem under a name, writes the certificate of its claims where there is a name for one, puts the
+/// answer, and answers how the run ended.
+pub fn run_claims<S: Store, W: Sink>(
+    alloc: Global,
+    store: &mut S,
+    out: &mut W,
+    asked: Question,
+    input: &str,
+    cert: &Option<Word>,
+    switches: Switches,
+) -> Status
+    ensures { IsRunOf (claims_names input.now cert.now) (IsClaimsAnswer asked input.now cert.now switches) result (store_state (S.held store.old) (S.read_faults store.old) (S.write_faults store.old)) (store_state (S.held store.new) (S.read_faults store.new) (S.write_faults store.new)) (sink_state (W.received out.old) (W.faults out.old)) (sink_state (W.received out.new) (W.faults out.new)) }
+{
+    let problem = match problem_under(alloc, store, input, switches) {
+        Ok(problem) => problem,
+        Err(status) => return put_end(alloc, out, status),
+    };
+    match carry_out(alloc, store, out, &problem, asked, cert) {
+        Ok(status) => status,
+        Err(StoreFault::Failed) => Status::WriteFault,
+        Err(StoreFault::NoMemory) => put_end(alloc, out, Status::NoMemory),
+    }
+}
