@@ -1,12 +1,12 @@
 -- What the commands answer that settle questions by claims: what remains possible, and what is in conflict.
-use Rattle.std.specs.Prelude.{◌≡◌, ◌↔◌, ◌≤◌, ℕ, ◌+◌, ◌^◌, Bool, true, false, List, [], ◌∷◌, ◌++◌, length, Option, None, Some, IfSome, IsTrue, ⊥, Result, Ok, Err, All, Contains, ⊤, codes, decimal}
+use Rattle.std.specs.Prelude.{◌≡◌, ◌↔◌, ◌≤◌, ℕ, ◌+◌, ◌^◌, Bool, true, false, List, [], ◌∷◌, ◌++◌, length, Option, None, Some, IfSome, IsTrue, ⊥, Result, Ok, Err, All, Contains, codes, decimal}
 use Rattle.std.specs.Option.{option_to_list}
 use Rattle.outer_store.specs.Contents.{Contents}
 use Rattle.rcc5_core.specs.RelationSet.{has}
 use Rattle.world_model.specs.declared.Switches.{Switches}
 use Rattle.world_model.specs.declared.Articulation.{Articulation}
 use Rattle.world_model.specs.Problem.{Problem, cross_pairs}
-use Rattle.world_model.specs.Questions.{IsMet, HasFlags, IsLeastConflict}
+use Rattle.world_model.specs.Questions.{IsMet, IsLeastConflict}
 use Rattle.cleantax_text.specs.declared.TextKind.{TextKind}
 use Rattle.cleantax_text.specs.Reading.{text_result}
 use Rattle.cleantax_text.specs.Canonical.{articulation_text}
@@ -109,9 +109,3 @@ pub record IsClaimsAnswer (asked : Question) (input : List ℕ) (cert : Option (
 -- the name that it reads, and the one that it may write
 abbrev pub claims_names : List ℕ → Option (List ℕ) → Names
 claims_names input cert = record { read = input ∷ []; written = option_to_list cert }
-
--- the flags of a conflict are one for each articulation
-abbrev pub IsFlagged : Problem → Answer → Type 0
-IsFlagged p (Possible mir some) = ⊤
-IsFlagged p Consistent = ⊤
-IsFlagged p (Conflict kept) = HasFlags p kept

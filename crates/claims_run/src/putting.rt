@@ -1,10 +1,10 @@
 //! The lines of answers.
-ghost use Rattle.std.specs.Prelude.{◌≡◌, ◌++◌, ◌+◌, ◌<◌, ◌≤◌, [], length, drop, string_bytes, IfOk, OnOk};
-ghost use Rattle.world_model.specs.Problem.{cross_pairs};
+ghost use Rattle.std.specs.Prelude.{◌≡◌, ◌<◌, length, string_bytes, IfOk, OnOk};
 ghost use Rattle.world_model.specs.Questions.{HasFlags};
 ghost use Rattle.conflict_min.specs.Conflicts.{places_from};
 ghost use Rattle.run_ends.specs.Runs.{sink_state, LeavesPiece};
-ghost use Rattle.claims_run.specs.Answering.{mir_line, conflict_line, numbered_lines, answer_text, IsFlagged};
+ghost use Rattle.claims_run.specs.Answering.{mir_line, conflict_line, answer_text};
+ghost use Rattle.claims_run.specs.Putting.{IsFlagged, IsNumberedAt};
 ghost use Rattle.claims_run.specs.declared.question.Answer.TheVariants.{Possible, Conflict};
 
 use crate::question::Answer;
