@@ -20,7 +20,8 @@ use Rattle.run_ends.specs.Runs.{StoreState, SinkState, File, HasFailed, AreKeptB
 use Rattle.run_ends.proofs.EndLemmas.{none_written}
 use Rattle.align_top.specs.declared.Order.{Order}
 use Rattle.resume_token.specs.Token.{token_text}
-use Rattle.align_top.specs.Output.{last_line, count_of, listing_text, listing_status, file_under, token_under, IsCertOf, written_names}
+use Rattle.claims_run.specs.Answering.{file_under}
+use Rattle.align_top.specs.Output.{last_line, count_of, listing_text, listing_status, token_under, IsCertOf, written_names}
 use Rattle.align_top.specs.Logged.{IsCertLeft, IsListedWith}
 use Rattle.align_top.specs.Putting.{IsPutPartly}
 use Rattle.align_top.specs.Steps.{status_at, AreApart, IsCutEnded, IsEnded, order_answers}

@@ -12,7 +12,8 @@ use Rattle.rcc5_core.specs.declared.Rel.{Rel}
 use Rattle.world_model.specs.Problem.{Problem}
 use Rattle.resume_token.specs.Token.{token_text}
 use Rattle.run_ends.specs.Runs.{StoreState, SinkState, File, HasFailed, AreKeptBut, IsHeld, AreWritten, IsQuiet, IsWriteCause}
-use Rattle.align_top.specs.Output.{file_under, token_under, written_names}
+use Rattle.claims_run.specs.Answering.{file_under}
+use Rattle.align_top.specs.Output.{token_under, written_names}
 use Rattle.align_top.specs.Steps.{AreApart}
 
 -- no name stands in an empty list, and one alone in a list of one

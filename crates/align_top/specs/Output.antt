@@ -12,7 +12,7 @@ use Rattle.resume_token.specs.declared.TokenKind.{TokenKind}
 use Rattle.resume_token.specs.Token.{token_text, token_result}
 use Rattle.command_line.specs.declared.UsageKind.{UsageKind}
 use Rattle.command_line.specs.declared.Request.{Request}
-use Rattle.command_line.specs.declared.Request.TheVariants.{Align, Check, Report, Trial}
+use Rattle.command_line.specs.declared.Request.TheVariants.{Align, Check, Mir, Conflict, Report, Trial}
 use Rattle.command_line.specs.Words.{request_of}
 use Rattle.run_ends.specs.declared.Status.{Status}
 use Rattle.run_ends.specs.declared.Status.TheVariants.{Done, RefusedText, Usage, Cut, NoWorld, RefusedToken}
@@ -21,6 +21,8 @@ use Rattle.run_ends.specs.Reads.{AreHeld}
 use Rattle.run_ends.specs.Runs.{StoreState, SinkState, File, Answers, Names, IsRunOf}
 use Rattle.cert_rules.specs.Files.{Accepts, Listing}
 use Rattle.check_run.specs.Checking.{cert_answer, check_names, IsCheckAnswer}
+use Rattle.claims_run.specs.declared.question.Question.TheVariants as question
+use Rattle.claims_run.specs.Answering.{file_under, claims_names, IsClaimsAnswer}
 use Rattle.report_run.specs.Reporting.{Watched, report_names, IsReportAnswer}
 use Rattle.trial_run.specs.Trials.{trial_names, IsTrialAnswer}
 use Rattle.align_top.specs.declared.Asking.{Asking}
@@ -49,11 +51,6 @@ listing_status start (Some cut) worlds = Cut cut
 listing_status [] None [] = NoWorld
 listing_status [] None (world ∷ worlds) = Done
 listing_status (rel ∷ rels) None worlds = Done
-
--- a file under a name, where there is one
-abbrev pub file_under : Option (List ℕ) → Option (List ℕ) → List File
-file_under None bytes = []
-file_under (Some name) bytes = record { name = name; bytes = bytes } ∷ []
 
 -- the token of a cut under its name, told where the name tells its bytes
 abbrev pub token_under : Problem → Option (List ℕ) → Option (List Rel) → Contents → List File
@@ -121,6 +118,8 @@ abbrev pub names_of : Result Request UsageKind → Names
 names_of (Ok (Align input cert switches nodes worlds token resume)) =
     listing_names (record { input = input; cert = cert; switches = switches; nodes = nodes; worlds = worlds; token = token; resume = resume })
 names_of (Ok (Check input cert switches)) = check_names input cert
+names_of (Ok (Mir input cert switches)) = claims_names input cert
+names_of (Ok (Conflict input cert switches)) = claims_names input cert
 names_of (Ok (Report input kinds switches)) = report_names input
 names_of (Ok (Trial seed size)) = trial_names
 names_of (Err kind) = record { read = []; written = [] }
@@ -130,6 +129,8 @@ abbrev pub answers_to : List Watched → Result Request UsageKind → Answers
 answers_to watchers (Ok (Align input cert switches nodes worlds token resume)) held status text files =
     IsListingAnswer (record { input = input; cert = cert; switches = switches; nodes = nodes; worlds = worlds; token = token; resume = resume }) held status text files
 answers_to watchers (Ok (Check input cert switches)) held status text files = IsCheckAnswer input cert switches held status text files
+answers_to watchers (Ok (Mir input cert switches)) held status text files = IsClaimsAnswer question.Relations input cert switches held status text files
+answers_to watchers (Ok (Conflict input cert switches)) held status text files = IsClaimsAnswer question.Conflicts input cert switches held status text files
 answers_to watchers (Ok (Report input kinds switches)) held status text files = IsReportAnswer input kinds switches watchers held status text files
 answers_to watchers (Ok (Trial seed size)) held status text files = IsTrialAnswer seed size held status text files
 answers_to watchers (Err kind) held status text files = (status ≡ Usage kind) × (text ≡ end_line (Usage kind)) × (files ≡ [])

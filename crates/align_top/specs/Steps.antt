@@ -1,5 +1,5 @@
 -- The steps of a listing: an order is read, and then carried out.
-use Rattle.std.specs.Prelude.{◌≡◌, ◌≢◌, ℕ, ◌==◌, ◌&&◌, if◌then◌else◌, bytes_eq, false, List, [], ◌∷◌, length, Option, None, Some, option_map, IfSome, IfNone, IfOk, OnErr, Result, Ok, Err, ⊤}
+use Rattle.std.specs.Prelude.{◌≡◌, ◌≢◌, ℕ, ◌==◌, ◌&&◌, if◌then◌else◌, bytes_eq, Bool, true, false, List, [], ◌∷◌, length, Option, None, Some, option_map, IfSome, IfNone, IfOk, OnErr, Result, Ok, Err, ⊤, ⊥, ◌⊎◌}
 use Rattle.std.specs.Option.{option_to_list}
 use Rattle.outer_store.specs.Bytes.{GrownInPart, added}
 use Rattle.outer_store.specs.Contents.{Contents, OthersKept}
@@ -11,7 +11,7 @@ use Rattle.constraint_set.specs.Facts.{IsAsRead}
 use Rattle.resume_token.specs.declared.TokenKind.{TokenKind}
 use Rattle.resume_token.specs.Token.{token_text, token_result}
 use Rattle.command_line.specs.declared.Request.{Request}
-use Rattle.command_line.specs.declared.Request.TheVariants.{Align, Check, Report, Trial}
+use Rattle.command_line.specs.declared.Request.TheVariants.{Align, Check, Mir, Conflict, Report, Trial}
 use Rattle.report_run.specs.Reporting.{Watched, AreKinds}
 use Rattle.trial_make.specs.Made.{IsSize}
 use Rattle.run_ends.specs.declared.Status.{Status}
@@ -58,13 +58,29 @@ pub record IsAskable (asking : Asking) : Type 0 where
   pub limited : IfNone asking.token ((asking.nodes ≡ None) × (asking.worlds ≡ None))
   pub two : AreApart asking.cert asking.token
 
--- a request that words can make, by the watchers that there are
-abbrev pub IsMade : List Watched → Request → Type 0
-IsMade watchers (Align input cert switches nodes worlds token resume) =
+-- a request that words can make, and that asks for no report
+abbrev pub IsPlain : Request → Type 0
+IsPlain (Align input cert switches nodes worlds token resume) =
     IsAskable (record { input = input; cert = cert; switches = switches; nodes = nodes; worlds = worlds; token = token; resume = resume })
-IsMade watchers (Check input cert switches) = ⊤
-IsMade watchers (Report input kinds switches) = AreKinds watchers kinds
-IsMade watchers (Trial seed size) = IsSize size
+IsPlain (Check input cert switches) = ⊤
+IsPlain (Mir input cert switches) = ⊤
+IsPlain (Conflict input cert switches) = ⊤
+IsPlain (Report input kinds switches) = ⊥
+IsPlain (Trial seed size) = IsSize size
+
+-- a request that words can make for a report, by the watchers that there are
+abbrev pub IsReporting : List Watched → Request → Type 0
+IsReporting watchers (Report input kinds switches) = AreKinds watchers kinds
+IsReporting watchers request = ⊥
+
+-- a request that words can make
+abbrev pub IsMade : List Watched → Request → Type 0
+IsMade watchers request = IsReporting watchers request ⊎ IsPlain request
+
+-- whether a request asks for a report
+abbrev pub is_report : Request → Bool
+is_report (Report input kinds switches) = true
+is_report request = false
 
 -- an order that can be carried out, with the names for its certificate and its token
 pub record IsReady (order : Order) (cert token : Option (List ℕ)) : Type 0 where

@@ -1,14 +1,15 @@
 //! All that the program does with its words, a store and a sink.
-ghost use Rattle.std.specs.Prelude.{map, string_bytes, Ok};
+ghost use Rattle.std.specs.Prelude.{◌≡◌, List, map, string_bytes, Ok};
 ghost use Rattle.run_ends.specs.Runs.{store_state, sink_state, IsRunOf};
-ghost use Rattle.report_run.specs.Reporting.{watched};
+ghost use Rattle.report_run.specs.Reporting.{Watched, watched};
 ghost use Rattle.align_top.specs.Output.{listing_names, IsListingAnswer, names_of, answers_to, IsRun};
-ghost use Rattle.align_top.specs.Steps.{IsAskable, IsMade};
+ghost use Rattle.align_top.specs.Steps.{IsAskable, IsPlain, IsReporting, IsMade, is_report};
 
 use crate::Asking;
 use crate::carry::carry_out;
 use crate::reading::order_of;
 use check_run::run_check;
+use claims_run::{Question, run_claims};
 use command_line::{Request, WordsFault, read_words};
 use outer_store::{Sink, Store, StoreFault};
 use report_run::run_report;
@@ -38,16 +39,22 @@ fn run_align<S: Store, W: Sink>(
     }
 }
 
-// Does what a request asks for. Where no report is asked for, the watchers go first.
-fn run_request<S: Store, W: Sink>(
+// Whether a request asks for a report.
+fn is_report(request: &Request) -> bool
+    ensures { result ≡ is_report request.now }
+{
+    matches!(request, Request::Report { .. })
+}
+
+// Does what a request asks for that asks for no report.
+fn run_plain<S: Store, W: Sink>(
     alloc: Global,
     store: &mut S,
     out: &mut W,
     request: Request,
-    watchers: Vec<Box<dyn WorldWatcher>>,
 ) -> Status
-    requires { IsMade (watched name text watchers.items) request }
-    ensures { IsRunOf (names_of (Ok request)) (answers_to (watched name text watchers.items) (Ok request)) result (store_state (S.held store.old) (S.read_faults store.old) (S.write_faults store.old)) (store_state (S.held store.new) (S.read_faults store.new) (S.write_faults store.new)) (sink_state (W.received out.old) (W.faults out.old)) (sink_state (W.received out.new) (W.faults out.new)) }
+    requires { IsPlain request }
+    ensures { (watchers : List Watched) → IsRunOf (names_of (Ok request)) (answers_to watchers (Ok request)) result (store_state (S.held store.old) (S.read_faults store.old) (S.write_faults store.old)) (store_state (S.held store.new) (S.read_faults store.new) (S.write_faults store.new)) (sink_state (W.received out.old) (W.faults out.old)) (sink_state (W.received out.new) (W.faults out.new)) }
 {
     match request {
         Request::Align {
@@ -59,7 +66,6 @@ fn run_request<S: Store, W: Sink>(
             token,
             resume,
         } => {
-            drop(watchers);
             let asking = Asking {
                 input,
                 cert,
@@ -75,28 +81,68 @@ fn run_request<S: Store, W: Sink>(
             input,
             cert,
             switches,
-        } => {
-            drop(watchers);
-            run_check(alloc, store, out, input.text(), cert.text(), switches)
-        }
-        Request::Report {
+        } => run_check(alloc, store, out, input.text(), cert.text(), switches),
+        Request::Mir {
             input,
-            kinds,
+            cert,
             switches,
-        } => run_report(
-            alloc,
-            store,
-            out,
-            input.text(),
-            kinds.list(),
+        } => run_claims(alloc, store, out, Question::Relations, input.text(), &cert, switches),
+        Request::Conflict {
+            input,
+            cert,
             switches,
-            watchers,
-        ),
-        Request::Trial { seed, size } => {
-            drop(watchers);
-            run_trial(alloc, out, seed, size)
-        }
+        } => run_claims(alloc, store, out, Question::Conflicts, input.text(), &cert, switches),
+        Request::Trial { seed, size } => run_trial(alloc, out, seed, size),
+        Request::Report { .. } => unreachable!(),
     }
+}
+
+// Does what a request asks for that asks for a report.
+fn run_reporting<S: Store, W: Sink>(
+    alloc: Global,
+    store: &mut S,
+    out: &mut W,
+    request: Request,
+    watchers: Vec<Box<dyn WorldWatcher>>,
+) -> Status
+    requires { IsReporting (watched name text watchers.items) request }
+    ensures { IsRunOf (names_of (Ok request)) (answers_to (watched name text watchers.items) (Ok request)) result (store_state (S.held store.old) (S.read_faults store.old) (S.write_faults store.old)) (store_state (S.held store.new) (S.read_faults store.new) (S.write_faults store.new)) (sink_state (W.received out.old) (W.faults out.old)) (sink_state (W.received out.new) (W.faults out.new)) }
+{
+    let Request::Report {
+        input,
+        kinds,
+        switches,
+    } = request
+    else {
+        unreachable!()
+    };
+    run_report(
+        alloc,
+        store,
+        out,
+        input.text(),
+        kinds.list(),
+        switches,
+        watchers,
+    )
+}
+
+// Does what a request asks for. Where no report is asked for, the watchers go first.
+fn run_request<S: Store, W: Sink>(
+    alloc: Global,
+    store: &mut S,
+    out: &mut W,
+    request: Request,
+    watchers: Vec<Box<dyn WorldWatcher>>,
+) -> Status
+    requires { IsMade (watched name text watchers.items) request }
+    ensures { IsRunOf (names_of (Ok request)) (answers_to (watched name text watchers.items) (Ok request)) result (store_state (S.held store.old) (S.read_faults store.old) (S.write_faults store.old)) (store_state (S.held store.new) (S.read_faults store.new) (S.write_faults store.new)) (sink_state (W.received out.old) (W.faults out.old)) (sink_state (W.received out.new) (W.faults out.new)) }
+{
+    if is_report(&request) {
+        return run_reporting(alloc, store, out, request, watchers);
+    }
+    drop(watchers);
+    run_plain(alloc, store, out, request)
 }
 
 /// Does what the words ask for, and answers how the run ended. The watchers are those that a report may ask for.

@@ -1,36 +1,10 @@
-use Rattle.std.proofs.Common.{ℕ, List, Ok, sym, subst}
-use Rattle.check_run.specs.Checking.{check_names, IsCheckAnswer}
-use Rattle.run_ends.specs.Runs.{store_state, sink_state, IsRunOf}
-use Rattle.report_run.specs.Reporting.{watched, report_names, IsReportAnswer}
-use Rattle.align_top.specs.Output.{names_of, answers_to}
+use Rattle.std.proofs.Common.{rules}
+use Rattle.report_run.specs.Reporting.{watched}
+use Rattle.align_top.proofs.MadeLemmas.{made_for_report, made_plain}
 use Rattle.align_top.proofs.top.run_request.Goals as goal
 
-pub returns-in-Align : goal.returns-in-Align
-returns-in-Align g c =
-    subst (λ r. IsRunOf (names_of (Ok r)) (answers_to (watched (λ z. (goal.WorldWatcher-dyn g (z.vtable, z.value)).name z.value) (λ z. (goal.WorldWatcher-dyn g (z.vtable, z.value)).text z.value) c.args.watchers.items) (Ok r)) c.run_align.result
-    (store_state (g.S.Store.held c.args.store.now) (g.S.Store.read_faults c.args.store.now) (g.S.Store.write_faults c.args.store.now)) (store_state (g.S.Store.held c.run_align.new.store) (g.S.Store.read_faults c.run_align.new.store) (g.S.Store.write_faults c.run_align.new.store))
-    (sink_state (g.W.Sink.received c.args.out.now) (g.W.Sink.faults c.args.out.now)) (sink_state (g.W.Sink.received c.run_align.new.out) (g.W.Sink.faults c.run_align.new.out))) (sym c.in-Align.is) c.run_align.ensures
+pub run_reporting-requires : goal.run_reporting-requires
+run_reporting-requires g c = made_for_report (watched (λ z. (goal.WorldWatcher-dyn g (z.vtable, z.value)).name z.value) (λ z. (goal.WorldWatcher-dyn g (z.vtable, z.value)).text z.value) c.args.watchers.items) c.args.request (search rules) c.requires
 
-pub returns-in-Check : goal.returns-in-Check
-returns-in-Check g c =
-    subst (λ r. IsRunOf (names_of (Ok r)) (answers_to (watched (λ z. (goal.WorldWatcher-dyn g (z.vtable, z.value)).name z.value) (λ z. (goal.WorldWatcher-dyn g (z.vtable, z.value)).text z.value) c.args.watchers.items) (Ok r)) c.run_check.result
-    (store_state (g.S.Store.held c.args.store.now) (g.S.Store.read_faults c.args.store.now) (g.S.Store.write_faults c.args.store.now)) (store_state (g.S.Store.held c.run_check.new.store) (g.S.Store.read_faults c.run_check.new.store) (g.S.Store.write_faults c.run_check.new.store))
-    (sink_state (g.W.Sink.received c.args.out.now) (g.W.Sink.faults c.args.out.now)) (sink_state (g.W.Sink.received c.run_check.new.out) (g.W.Sink.faults c.run_check.new.out))) (sym c.in-Check.is)
-    (subst (λ (input : List ℕ). IsRunOf (check_names input c.in-Check.cert) (IsCheckAnswer input c.in-Check.cert c.in-Check.switches) c.run_check.result
-    (store_state (g.S.Store.held c.args.store.now) (g.S.Store.read_faults c.args.store.now) (g.S.Store.write_faults c.args.store.now)) (store_state (g.S.Store.held c.run_check.new.store) (g.S.Store.read_faults c.run_check.new.store) (g.S.Store.write_faults c.run_check.new.store))
-    (sink_state (g.W.Sink.received c.args.out.now) (g.W.Sink.faults c.args.out.now)) (sink_state (g.W.Sink.received c.run_check.new.out) (g.W.Sink.faults c.run_check.new.out))) c.text.ensures
-    (subst (λ (cert : List ℕ). IsRunOf (check_names c.text.result.now cert) (IsCheckAnswer c.text.result.now cert c.in-Check.switches) c.run_check.result
-    (store_state (g.S.Store.held c.args.store.now) (g.S.Store.read_faults c.args.store.now) (g.S.Store.write_faults c.args.store.now)) (store_state (g.S.Store.held c.run_check.new.store) (g.S.Store.read_faults c.run_check.new.store) (g.S.Store.write_faults c.run_check.new.store))
-    (sink_state (g.W.Sink.received c.args.out.now) (g.W.Sink.faults c.args.out.now)) (sink_state (g.W.Sink.received c.run_check.new.out) (g.W.Sink.faults c.run_check.new.out))) c.text-in-Check.ensures c.run_check.ensures))
-
-pub returns-in-Report : goal.returns-in-Report
-returns-in-Report g c =
-    subst (λ r. IsRunOf (names_of (Ok r)) (answers_to (watched (λ z. (goal.WorldWatcher-dyn g (z.vtable, z.value)).name z.value) (λ z. (goal.WorldWatcher-dyn g (z.vtable, z.value)).text z.value) c.args.watchers.items) (Ok r)) c.run_report.result
-    (store_state (g.S.Store.held c.args.store.now) (g.S.Store.read_faults c.args.store.now) (g.S.Store.write_faults c.args.store.now)) (store_state (g.S.Store.held c.run_report.new.store) (g.S.Store.read_faults c.run_report.new.store) (g.S.Store.write_faults c.run_report.new.store))
-    (sink_state (g.W.Sink.received c.args.out.now) (g.W.Sink.faults c.args.out.now)) (sink_state (g.W.Sink.received c.run_report.new.out) (g.W.Sink.faults c.run_report.new.out))) (sym c.in-Report.is)
-    (subst (λ (input : List ℕ). IsRunOf (report_names input) (IsReportAnswer input c.in-Report.kinds c.in-Report.switches (watched (λ z. (goal.WorldWatcher-dyn g (z.vtable, z.value)).name z.value) (λ z. (goal.WorldWatcher-dyn g (z.vtable, z.value)).text z.value) c.args.watchers.items)) c.run_report.result
-    (store_state (g.S.Store.held c.args.store.now) (g.S.Store.read_faults c.args.store.now) (g.S.Store.write_faults c.args.store.now)) (store_state (g.S.Store.held c.run_report.new.store) (g.S.Store.read_faults c.run_report.new.store) (g.S.Store.write_faults c.run_report.new.store))
-    (sink_state (g.W.Sink.received c.args.out.now) (g.W.Sink.faults c.args.out.now)) (sink_state (g.W.Sink.received c.run_report.new.out) (g.W.Sink.faults c.run_report.new.out))) c.text-in-Report.ensures
-    (subst (λ (kinds : List (List ℕ)). IsRunOf (report_names c.text-in-Report.result.now) (IsReportAnswer c.text-in-Report.result.now kinds c.in-Report.switches (watched (λ z. (goal.WorldWatcher-dyn g (z.vtable, z.value)).name z.value) (λ z. (goal.WorldWatcher-dyn g (z.vtable, z.value)).text z.value) c.args.watchers.items)) c.run_report.result
-    (store_state (g.S.Store.held c.args.store.now) (g.S.Store.read_faults c.args.store.now) (g.S.Store.write_faults c.args.store.now)) (store_state (g.S.Store.held c.run_report.new.store) (g.S.Store.read_faults c.run_report.new.store) (g.S.Store.write_faults c.run_report.new.store))
-    (sink_state (g.W.Sink.received c.args.out.now) (g.W.Sink.faults c.args.out.now)) (sink_state (g.W.Sink.received c.run_report.new.out) (g.W.Sink.faults c.run_report.new.out))) c.list.ensures c.run_report.ensures))
+pub run_plain-requires : goal.run_plain-requires
+run_plain-requires g c = made_plain (watched (λ z. (goal.WorldWatcher-dyn g (z.vtable, z.value)).name z.value) (λ z. (goal.WorldWatcher-dyn g (z.vtable, z.value)).text z.value) c.args.watchers.items) c.args.request (search rules) c.requires
