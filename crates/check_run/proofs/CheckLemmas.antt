@@ -20,60 +20,23 @@ use Rattle.run_ends.specs.declared.Status.TheVariants as status
 use Rattle.run_ends.specs.Ends.{end_line}
 use Rattle.run_ends.specs.Reads.{problem_by, problem_in, ComesOf, IsWithout}
 use Rattle.run_ends.specs.Runs.{StoreState, SinkState, IsQuiet, Answered, ending_of, IsEarlyEnd, IsCarriedOut}
-use Rattle.run_ends.proofs.ReadLemmas.{text_cut}
+use Rattle.run_ends.proofs.TextLemmas.{says_problem, without_text}
 use Rattle.run_ends.proofs.EndLemmas.{all_kept, none_written}
 use Rattle.check_run.specs.Checking.{verdict_text, status_by, text_by, IsCertAnswer, IsAnswerBy, IsCheckAnswer, check_names}
 use Rattle.check_run.specs.Steps.{status_of, IsAccepted, IsNotAccepted, IsVerdictOf, IsPutAnswer}
 
--- bytes that agree with what is told of a name, and say the same as its front does
-record IsText (told : Option (List ℕ)) (switches : Switches) (front : List ℕ) : Type 0 where
-  bytes : List ℕ
-  told_are : IfSome told (λ all. bytes ≡ all)
-  same : text_result bytes switches ≡ text_result front switches
-
-text_of : (told : Option (List ℕ)) (switches : Switches) (front : List ℕ) → IfSome told (λ all. front ≡ take 1048577 all) → IsText told switches front
-text_of None switches front is = record { bytes = front; told_are = tt; same = refl }
-text_of (Some all) switches front is = record {
-  bytes = all;
-  told_are = refl;
-  same = sym (ap (λ (bs : List ℕ). text_result bs switches) is ∙ text_cut all switches);
-}
-
--- what a text says by how a run goes on
-said_ok : (r : Result Problem (ℕ × TextKind)) (p : Problem) → problem_by r ≡ Ok p → r ≡ Ok p
-said_ok (Ok q) p e = cc
-said_ok (Err f) p e = cc
-
-err_same : {X E : Type 0} (a b : E) (x : Result X E) → x ≡ Err a → x ≡ Err b → a ≡ b
-err_same a b x p q = cc
-
-said_err : (r : Result Problem (ℕ × TextKind)) (told : Option (List ℕ)) (s : Status) → problem_by r ≡ Err s → IsAnswerBy r told s (end_line s) × (ending_of s ≡ Answered)
-said_err (Ok q) told s e = cc
-said_err (Err f) told s e =
-    let same : s ≡ status.RefusedText f.0 f.1 = sym (err_same (status.RefusedText f.0 f.1) s (Err (status.RefusedText f.0 f.1)) refl e) in
-    ((same, ap end_line same), ap ending_of same)
-
 -- a run that has no problem
 pub without_problem : (input cert : List ℕ) (switches : Switches) (s : Status) (one other : StoreState) → IsWithout input (problem_in switches) s one other
     → IsEarlyEnd (check_names input cert) (IsCheckAnswer input cert switches) s one other
-without_problem input cert switches s one other end = ⊎_elim
-    (λ refused.
-    let text = text_of (one.held input) switches refused.0.bytes refused.0.front in
-    let said = said_err (text_result refused.0.bytes switches) (one.held cert) s refused.0.judged in
-    inl (
-      record {
-        bytes = text.bytes;
-        told = text.told_are;
-        answer = subst (λ r. IsAnswerBy r (one.held cert) s (end_line s)) (sym text.same) said.0;
-        none_written = refl;
-      },
-      said.1,
-      refused.1,
-    ))
-    (λ unread. ⊎_elim
-    (λ failed. inr (inl (failed.0, record { name = input; named = (0, omega arith, refl); rose = failed.1 })))
-    (λ starved. inr (inr starved))
-    unread)
+without_problem input cert switches s one other end =
+    without_text (check_names input cert) (IsCheckAnswer input cert switches) input switches s one other (0, omega arith, refl)
+    (λ fault text. record {
+      bytes = text.bytes;
+      told = text.told_are;
+      answer =
+          subst (λ r. IsAnswerBy r (one.held cert) (status.RefusedText fault.0 fault.1) (end_line (status.RefusedText fault.0 fault.1))) (sym text.is) (refl, refl);
+      none_written = refl;
+    })
     end
 
 -- one whose certificate is not accepted
@@ -85,13 +48,12 @@ without_cert input cert switches p s one mid other same comes end = by (subst (�
     by : IsNotAccepted p cert s one other → IsEarlyEnd (check_names input cert) (IsCheckAnswer input cert switches) s one other
     by end = ⊎_elim
         (λ refused.
-        let text = text_of (one.held input) switches comes.bytes comes.front in
-        let is = text.same ∙ said_ok (text_result comes.bytes switches) p comes.judged in
+        let text = says_problem one.held input switches p comes in
         inl (
           record {
             bytes = text.bytes;
             told = text.told_are;
-            answer = subst (λ r. IsAnswerBy r (one.held cert) s (end_line s)) (sym is) refused.answer;
+            answer = subst (λ r. IsAnswerBy r (one.held cert) s (end_line s)) (sym text.is) refused.answer;
             none_written = refl;
           },
           refused.answered,

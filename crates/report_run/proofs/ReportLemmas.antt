@@ -21,77 +21,39 @@ use Rattle.run_ends.specs.declared.Status.TheVariants as status
 use Rattle.run_ends.specs.Ends.{line_of, in_lines, complete_line, end_line}
 use Rattle.run_ends.specs.Reads.{problem_by, problem_in, ComesOf, IsWithout}
 use Rattle.run_ends.specs.Runs.{StoreState, SinkState, LeavesPiece, IsQuiet, Answered, ending_of, IsEarlyEnd, IsCarriedOut}
-use Rattle.run_ends.proofs.ReadLemmas.{text_cut}
+use Rattle.run_ends.proofs.TextLemmas.{says_problem, without_text}
 use Rattle.run_ends.proofs.EndLemmas.{all_kept, none_written}
 use Rattle.report_run.specs.Reporting.{Watched, watched, asked, AreKinds, report_of, report_text, report_status, IsAnswerBy, IsReportAnswer, report_names}
 use Rattle.report_run.specs.Steps.{all_worlds, HaveSeen, AreShownAll, status_at}
 use Rattle.report_run.proofs.AskLemmas.{asked_named, names_seen}
 
--- bytes that agree with what is told of a name, and say the same as its front does (a copy of the lemma in `check_run`)
-record IsText (told : Option (List ℕ)) (switches : Switches) (front : List ℕ) : Type 0 where
-  bytes : List ℕ
-  told_are : IfSome told (λ all. bytes ≡ all)
-  same : text_result bytes switches ≡ text_result front switches
-
-text_of : (told : Option (List ℕ)) (switches : Switches) (front : List ℕ) → IfSome told (λ all. front ≡ take 1048577 all) → IsText told switches front
-text_of None switches front is = record { bytes = front; told_are = tt; same = refl }
-text_of (Some all) switches front is = record {
-  bytes = all;
-  told_are = refl;
-  same = sym (ap (λ (bs : List ℕ). text_result bs switches) is ∙ text_cut all switches);
-}
-
--- what a text says by how a run goes on
-said_ok : (r : Result Problem (ℕ × TextKind)) (p : Problem) → problem_by r ≡ Ok p → r ≡ Ok p
-said_ok (Ok q) p e = cc
-said_ok (Err f) p e = cc
-
-err_same : {X E : Type 0} (a b : E) (x : Result X E) → x ≡ Err a → x ≡ Err b → a ≡ b
-err_same a b x p q = cc
-
-said_err : (r : Result Problem (ℕ × TextKind)) (ws : List Watched) (s : Status) → problem_by r ≡ Err s → IsAnswerBy r ws s (end_line s) × (ending_of s ≡ Answered)
-said_err (Ok q) ws s e = cc
-said_err (Err f) ws s e =
-    let same : s ≡ status.RefusedText f.0 f.1 = sym (err_same (status.RefusedText f.0 f.1) s (Err (status.RefusedText f.0 f.1)) refl e) in
-    ((same, ap end_line same), ap ending_of same)
-
 -- a run that has no problem
 pub without_problem : (input : List ℕ) (kinds : List (List ℕ)) (switches : Switches) (ws : List Watched) (s : Status) (one other : StoreState) → IsWithout input (problem_in switches) s one other
     → IsEarlyEnd (report_names input) (IsReportAnswer input kinds switches ws) s one other
-without_problem input kinds switches ws s one other end = ⊎_elim
-    (λ refused.
-    let text = text_of (one.held input) switches refused.0.bytes refused.0.front in
-    let said = said_err (text_result refused.0.bytes switches) (asked ws kinds) s refused.0.judged in
-    inl (
-      record {
-        bytes = text.bytes;
-        told = text.told_are;
-        answer = subst (λ r. IsAnswerBy r (asked ws kinds) s (end_line s)) (sym text.same) said.0;
-        none_written = refl;
-      },
-      said.1,
-      refused.1,
-    ))
-    (λ unread. ⊎_elim
-    (λ failed. inr (inl (failed.0, record { name = input; named = (0, omega arith, refl); rose = failed.1 })))
-    (λ starved. inr (inr starved))
-    unread)
+without_problem input kinds switches ws s one other end =
+    without_text (report_names input) (IsReportAnswer input kinds switches ws) input switches s one other (0, omega arith, refl)
+    (λ fault text. record {
+      bytes = text.bytes;
+      told = text.told_are;
+      answer =
+          subst (λ r. IsAnswerBy r (asked ws kinds) (status.RefusedText fault.0 fault.1) (end_line (status.RefusedText fault.0 fault.1))) (sym text.is) (refl, refl);
+      none_written = refl;
+    })
     end
 
 -- the names of a problem that is read are UTF-8
 pub names_utf8 : (held : Contents) (input : List ℕ) (switches : Switches) (p : Problem) → ReadNamesAreUtf8 → ComesOf held input (problem_in switches) (Ok p) → HasUtf8Names p
-names_utf8 held input switches p law comes = law comes.bytes switches p (said_ok (text_result comes.bytes switches) p comes.judged)
+names_utf8 held input switches p law comes = let text = says_problem held input switches p comes in law text.bytes switches p text.is
 
 -- the reports on a problem are the answer
 report_answer : (input : List ℕ) (kinds : List (List ℕ)) (switches : Switches) (ws : List Watched) (p : Problem) (one : Contents) → IsTrue (is_problem p) → ComesOf one input (problem_in switches) (Ok p)
     → IsReportAnswer input kinds switches ws one (report_status (all_worlds p)) (report_text p (all_worlds p) (asked ws kinds)) []
 report_answer input kinds switches ws p one valid comes =
-    let text = text_of (one input) switches comes.bytes comes.front in
-    let is = text.same ∙ said_ok (text_result comes.bytes switches) p comes.judged in
+    let text = says_problem one input switches p comes in
     record {
       bytes = text.bytes;
       told = text.told_are;
-      answer = subst (λ r. IsAnswerBy r (asked ws kinds) (report_status (all_worlds p)) (report_text p (all_worlds p) (asked ws kinds))) (sym is)
+      answer = subst (λ r. IsAnswerBy r (asked ws kinds) (report_status (all_worlds p)) (report_text p (all_worlds p) (asked ws kinds))) (sym text.is)
           (record { worlds = all_worlds p; all = trial_is_right_law.worlds p valid [] None; put = refl; ended = refl });
       none_written = refl;
     }
