@@ -69,12 +69,12 @@ without_cert input cert switches p s one mid other same comes end = by (subst (�
 pub verdict_found : (input cert : List ℕ) (switches : Switches) (p : Problem) (v : Verdict) (one mid : Contents) → mid ≡ one
     → ComesOf one input (problem_in switches) (Ok p) → IsAccepted p (mid cert) v → IsVerdictOf input cert switches one v
 verdict_found input cert switches p v one mid same comes accepted =
-    let text = text_of (one input) switches comes.bytes comes.front in
+    let text = says_problem one input switches p comes in
     record {
       bytes = text.bytes;
       told = text.told_are;
       problem = p;
-      is = text.same ∙ said_ok (text_result comes.bytes switches) p comes.judged;
+      is = text.is;
       accepted = subst (λ (held : Contents). IsAccepted p (held cert) v) same accepted;
     }
 

@@ -39,8 +39,8 @@ fn count_kept(kept: &[bool]) -> usize
     ensures { result ≡ length (places_from 0 kept.now) }
 {
     let mut count = 0;
-    for flag in kept {
-        if *flag {
+    for place in 0..kept.len() {
+        if kept[place] {
             count += 1;
         }
     }

@@ -174,3 +174,25 @@ put_refused r text from to piece old mid new so_far end is part =
 pub put_all : (text : List ℕ) (from : ℕ) (old new : Option (List ℕ)) → ArePutTo text from old new → length text ≤ from → new ≡ added old (in_lines text)
 put_all text from old new so_far end =
     so_far.put ∙ ap (added old) (sym (append-nil so_far.lines) ∙ ap (λ xs. so_far.lines ++ in_lines xs) (sym (drop_all from text end)) ∙ sym so_far.whole)
+
+-- a text that ends with a line feed is as it is in lines
+ends_lines : (front : List ℕ) → in_lines (front ++ 10 ∷ []) ≡ front ++ 10 ∷ []
+ends_lines [] = refl
+ends_lines (x ∷ []) = refl
+ends_lines (x ∷ y ∷ front) = ap (λ (rest : List ℕ). x ∷ rest) (ends_lines (y ∷ front))
+
+-- a text that does
+pub IsEnded : List ℕ → Type 0
+IsEnded text = (front : List ℕ) × (text ≡ front ++ 10 ∷ [])
+
+pub ended_line : (words : List ℕ) → IsEnded (line_of words)
+unfolding IsEnded
+ended_line words = (words, refl)
+
+pub ended_behind : (before text : List ℕ) → IsEnded text → IsEnded (before ++ text)
+unfolding IsEnded
+ended_behind before text ended = (before ++ ended.0, ap (λ (rest : List ℕ). before ++ rest) ended.1 ∙ sym (append_assoc before ended.0 (10 ∷ [])))
+
+pub ended_lines : (text : List ℕ) → IsEnded text → in_lines text ≡ text
+unfolding IsEnded
+ended_lines text ended = ap in_lines ended.1 ∙ ends_lines ended.0 ∙ sym ended.1

@@ -1,5 +1,5 @@
 -- A summary is whole lines.
-use Rattle.std.proofs.Common.{◌≡◌, ℕ, List, [], ◌∷◌, ◌++◌, refl, sym, ap, subst, ◌∙◌, append_assoc}
+use Rattle.std.proofs.Common.{◌≡◌, ℕ, List, ◌∷◌, ◌++◌, subst, sym}
 use Rattle.std.specs.Prelude.{codes, decimal}
 use Rattle.outer_store.specs.declared.fault.StoreFault.{StoreFault}
 use Rattle.std.specs.Prelude.{Result}
@@ -7,30 +7,13 @@ use Rattle.rcc5_core.specs.declared.Rel.{Rel}
 use Rattle.world_model.specs.Problem.{Problem}
 use Rattle.run_ends.specs.Ends.{line_of, in_lines}
 use Rattle.run_ends.specs.Runs.{SinkState, LeavesPiece}
+use Rattle.run_ends.proofs.PieceLemmas.{IsEnded, ended_line, ended_behind, ended_lines}
 use Rattle.trial_make.specs.Made.{made}
 use Rattle.trial_run.specs.Trials.{count_of, count_line, varied_count, problem_lines, world_lines, summary, IsSummary}
 
--- a text that ends with a line feed is as it is in lines
-ends_lines : (front : List ℕ) → in_lines (front ++ 10 ∷ []) ≡ front ++ 10 ∷ []
-ends_lines [] = refl
-ends_lines (x ∷ []) = refl
-ends_lines (x ∷ y ∷ front) = ap (λ (rest : List ℕ). x ∷ rest) (ends_lines (y ∷ front))
-
--- a text that does
-IsEnded : List ℕ → Type 0
-IsEnded text = (front : List ℕ) × (text ≡ front ++ 10 ∷ [])
-
-ended_behind : (before text : List ℕ) → IsEnded text → IsEnded (before ++ text)
-unfolding IsEnded
-ended_behind before text ended = (before ++ ended.0, ap (λ (rest : List ℕ). before ++ rest) ended.1 ∙ sym (append_assoc before ended.0 (10 ∷ [])))
-
-ended_lines : (text : List ℕ) → IsEnded text → in_lines text ≡ text
-unfolding IsEnded
-ended_lines text ended = ap in_lines ended.1 ∙ ends_lines ended.0 ∙ sym ended.1
-
+-- the lines of a summary end with a line feed
 ended_count : (word : List ℕ) (count : ℕ) → IsEnded (count_line word count)
-unfolding IsEnded
-ended_count word count = (word ++ 32 ∷ decimal count, refl)
+ended_count word count = ended_line (word ++ 32 ∷ decimal count)
 
 ended_worlds : (p : Problem) (found : ℕ) (worlds : List (List Rel)) → IsEnded (world_lines p found worlds)
 ended_worlds p found worlds =
