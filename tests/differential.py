@@ -22,7 +22,7 @@ import plain
 SWITCHES = [(a, b, c) for a in (True, False) for b in (True, False) for c in (True, False)]
 KINDS = ["count", "tally", "seen", "merge", "json"]
 USAGE_WORDS = [
-    "align", "check", "report", "trial", "mir", "in=p", "in=", "in=q", "cert=c", "cert=p", "token=t", "token=p", "resume=r", "nodes=1",
+    "align", "check", "report", "trial", "mir", "conflict", "lattice", "in=p", "in=", "in=q", "cert=c", "cert=p", "token=t", "token=p", "resume=r", "nodes=1",
     "nodes=0", "nodes=01", "worlds=2", "worlds=-1", "nonempty=on", "nonempty=On", "sibling=off", "coverage=1", "kinds=count", "kinds=",
     "kinds=count,seen", "kinds=count,count", "kinds=seen,x", "seed=3", "seed=+3", "size=14", "size=15", "size=300", "x", "=x", "y=z",
 ]
@@ -231,11 +231,62 @@ def check_reports(runner, problem, words, worlds, rng):
         raise Difference(f"report {kinds}: {code}\n{text}\nwanted {wanted}")
 
 
+def claims_of(runner, words):
+    """The claims that the checker accepts of the certificate `c`."""
+    code, text = runner.run(["check", "in=p", "cert=c"] + words)
+    rows = text.split("\n")[:-1]
+    if code != 0 or rows[-1] != f"accepted {len(rows) - 1}":
+        raise Difference(f"the claims are not accepted: {code}\n{text}")
+    return rows[:-1]
+
+
+def check_possible(runner, problem, words, worlds):
+    sets = plain.possible(problem, worlds)
+    text = "".join(row + "\n" for row in plain.possible_lines(problem, sets))
+    code = 0 if worlds else 6
+    runner.same(["mir", "in=p"] + words, code, text)
+    runner.drop("c")
+    runner.same(["mir", "in=p", "cert=c"] + words, code, text)
+    wanted = [
+        f"{'some' if r in letters else 'none'} m {k} {r}"
+        for k, letters in enumerate(sets)
+        for r in plain.LETTERS
+        if r in problem.allowed[k]
+    ]
+    claims = claims_of(runner, words)
+    if claims[: len(wanted)] != wanted or (problem.cross and claims != wanted):
+        raise Difference(f"mir claims {claims}\nwanted {wanted}")
+
+
+def check_conflict(runner, problem, words):
+    count = len(problem.articulations)
+    if count > 6:
+        return
+    bits = plain.least_conflict(problem)
+    text = "".join(row + "\n" for row in plain.conflict_lines(problem, bits))
+    code = 10 if bits is None else 0
+    runner.same(["conflict", "in=p"] + words, code, text)
+    runner.drop("c")
+    runner.same(["conflict", "in=p", "cert=c"] + words, code, text)
+    claims = claims_of(runner, words)
+    if bits is None:
+        wanted = [f"some a {'1' * count or '.'}"]
+        if claims != wanted:
+            raise Difference(f"conflict claims {claims}\nwanted {wanted}")
+        return
+    losses = [bits[:k] + "0" + bits[k + 1 :] for k in range(count) if bits[k] == "1"]
+    wanted = [f"none a {bits}"] + [f"some a {loss}" for loss in losses]
+    if not set(wanted) <= set(claims):
+        raise Difference(f"conflict claims {claims}\nwanted {wanted}")
+
+
 def usage_of(words):
     """The first usage fault of words, or None."""
     rows = {
         "align": (["in"], ["cert", "nonempty", "sibling", "coverage", "nodes", "worlds", "token", "resume"]),
         "check": (["in", "cert"], ["nonempty", "sibling", "coverage"]),
+        "mir": (["in"], ["cert", "nonempty", "sibling", "coverage"]),
+        "conflict": (["in"], ["cert", "nonempty", "sibling", "coverage"]),
         "report": (["in", "kinds"], ["nonempty", "sibling", "coverage"]),
         "trial": (["seed", "size"], []),
     }
@@ -326,6 +377,8 @@ def case(runner, rng):
     check_cuts(runner, problem, words, rng)
     check_tokens(runner, problem, words, rng)
     check_reports(runner, problem, words, worlds, rng)
+    check_possible(runner, problem, words, worlds)
+    check_conflict(runner, problem, words)
     check_damage(runner, text, switches, rng)
     check_words(runner, rng)
     if rng.random() < 0.1:

@@ -438,6 +438,53 @@ def read_token(problem, data):
     return position, None
 
 
+# What follows, and what conflicts.
+
+
+def possible(problem, worlds):
+    """For each pair across taxonomies the letters of the relations that it has in some world."""
+    return ["".join(r for r in LETTERS if any(w[k] == r for w in worlds)) for k in range(len(problem.cross))]
+
+
+def possible_lines(problem, sets):
+    rows = [f"{problem.text_name(x)} {problem.text_name(y)} {letters or '.'}" for (x, y), letters in zip(problem.cross, sets)]
+    return rows + [f"mir {len(rows)}"]
+
+
+def restricted(problem, bits):
+    """The problem with the articulations kept whose bit is 1."""
+    q = Problem(problem.switches)
+    q.taxonomies, q.names, q.owners = problem.taxonomies, problem.names, problem.owners
+    q.parents, q.children = problem.parents, problem.children
+    q.articulations = [a for a, bit in zip(problem.articulations, bits) if bit == "1"]
+    return q.finish()
+
+
+def is_consistent(problem, bits):
+    return any(is_world for _, is_world in restricted(problem, bits).walk(""))
+
+
+def least_conflict(problem):
+    """The least list of bits among the subsets that are in conflict, by trying all of them; None where all hold together."""
+    count = len(problem.articulations)
+    if is_consistent(problem, "1" * count):
+        return None
+    return next(
+        bits for bits in map("".join, itertools.product("01", repeat=count)) if not is_consistent(problem, bits)
+    )
+
+
+def conflict_lines(problem, bits):
+    if bits is None:
+        return ["consistent"]
+    rows = [
+        f"{k} {problem.articulation_text(a)}"
+        for k, (a, bit) in enumerate(zip(problem.articulations, bits), 1)
+        if bit == "1"
+    ]
+    return [f"conflict {len(rows)}"] + rows
+
+
 # Reports.
 
 

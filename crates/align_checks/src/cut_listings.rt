@@ -1,6 +1,6 @@
 //! Listings that are cut and go on, and their tokens.
 
-use crate::transcript::played;
+use run_scenes::played;
 use std::test::Fail;
 
 // Listings that are cut, and their tokens.

@@ -1,6 +1,6 @@
 //! Runs in which a call fails.
 
-use crate::transcript::played;
+use run_scenes::played;
 use std::test::Fail;
 
 // Runs in which a call fails.

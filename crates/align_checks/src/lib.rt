@@ -4,18 +4,12 @@
 #[cfg(test)]
 mod budgets;
 #[cfg(test)]
-mod certificates;
-#[cfg(test)]
 mod cut_listings;
 #[cfg(test)]
 mod faults;
-#[cfg(test)]
-mod reports;
 #[cfg(test)]
 mod runs;
 #[cfg(test)]
 mod small_problems;
 #[cfg(test)]
 mod tokens;
-#[cfg(test)]
-mod transcript;

@@ -1,6 +1,6 @@
 //! Runs over small texts, last lines, and what people are told.
 
-use crate::transcript::align_into;
+use run_scenes::align_into;
 use align_top::{Status, UsageKind, fault_place, put_end, read_front, text_help, usage_help};
 use cleantax_text::TextKind;
 use outer_store::{MemorySink, MemoryStore, StoreFault};
@@ -104,7 +104,7 @@ fn people_are_told_the_words_and_the_place(rt: HostRuntime) -> Result<(), Fail> 
     let help = usage_help(alloc)?;
     assert_eq!(rt;
         help.as_str(),
-        "the words are a command and its keys; keys in brackets may be left out:\n  align in=FILE [cert=FILE] [nonempty=on|off] [sibling=on|off] [coverage=on|off] [nodes=NUMBER] [worlds=NUMBER] [token=FILE] [resume=FILE]\n  check in=FILE cert=FILE [nonempty=on|off] [sibling=on|off] [coverage=on|off]\n  report in=FILE kinds=KIND,.. [nonempty=on|off] [sibling=on|off] [coverage=on|off]\n  trial seed=NUMBER size=NUMBER\n"
+        "the words are a command and its keys; keys in brackets may be left out:\n  align in=FILE [cert=FILE] [nonempty=on|off] [sibling=on|off] [coverage=on|off] [nodes=NUMBER] [worlds=NUMBER] [token=FILE] [resume=FILE]\n  check in=FILE cert=FILE [nonempty=on|off] [sibling=on|off] [coverage=on|off]\n  mir in=FILE [cert=FILE] [nonempty=on|off] [sibling=on|off] [coverage=on|off]\n  conflict in=FILE [cert=FILE] [nonempty=on|off] [sibling=on|off] [coverage=on|off]\n  report in=FILE kinds=KIND,.. [nonempty=on|off] [sibling=on|off] [coverage=on|off]\n  trial seed=NUMBER size=NUMBER\n"
     );
     let place = fault_place(alloc, "a.txt", 12)?;
     assert_eq!(rt; place.as_str(), "a.txt:12: ");

@@ -1,6 +1,6 @@
 //! Small problems and their worlds, and texts and words that are refused.
 
-use crate::transcript::played;
+use run_scenes::played;
 use std::test::Fail;
 
 // Small problems and their worlds.

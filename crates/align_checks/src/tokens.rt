@@ -1,6 +1,6 @@
 //! Runs that stop and go on: tokens of other positions and other problems, tokens that are cut off, and chains of runs.
 
-use crate::transcript::{align_into, played};
+use run_scenes::{align_into, played};
 use outer_store::MemoryStore;
 use std::alloc::{AllocError, Global};
 use std::test::Fail;

@@ -39,7 +39,7 @@ fn run_into(
 }
 
 /// A run with these words over a store. What it puts goes behind what was put before, and its exit code is answered.
-pub(crate) fn align_into(
+pub fn align_into(
     alloc: Global,
     store: &mut MemoryStore,
     text: &str,
@@ -164,7 +164,7 @@ impl Scene {
 }
 
 /// A transcript played again. It comes out as it went in where the program does what it says.
-pub(crate) fn played(alloc: Global, text: &str) -> Result<String, AllocError> {
+pub fn played(alloc: Global, text: &str) -> Result<String, AllocError> {
     let mut scene = Scene::new(alloc);
     for line in text.lines() {
         match line.split_once(' ') {

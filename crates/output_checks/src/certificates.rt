@@ -1,6 +1,6 @@
 //! Certificates that are written and then checked.
 
-use crate::transcript::played;
+use run_scenes::played;
 use std::test::Fail;
 
 // Certificates, of whole listings and of cut ones, and what the checker puts.

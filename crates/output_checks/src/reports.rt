@@ -1,6 +1,6 @@
 //! Reports on all worlds, and trials.
 
-use crate::transcript::played;
+use run_scenes::played;
 use std::test::Fail;
 
 // A taxonomy of a parent and two children beside another whose parent equals it: seven worlds. Then a problem with one world,

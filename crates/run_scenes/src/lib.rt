@@ -1,0 +1,6 @@
+//! Whole runs as transcripts, for tests.
+#![tactic(auto)]
+
+mod transcript;
+
+pub use transcript::{align_into, played};
