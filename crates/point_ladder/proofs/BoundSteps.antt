@@ -33,7 +33,7 @@ use Rattle.point_ladder.proofs.InForce.{shows_pair}
 use Rattle.point_ladder.proofs.Bounding.{said_at, said_is_narrower, said_is_same, said_is_dead, narrowed_there, narrowed_other, alive_allows, alive_wider}
 
 -- no pair is narrowed
-none_bound : (p : Problem) (sets : List RelSet) → bound_to p sets 0 ≡ p
+pub none_bound : (p : Problem) (sets : List RelSet) → bound_to p sets 0 ≡ p
 none_bound p sets = ap {B = Problem} (λ ns. record p { narrowings = ns }) (append-nil p.narrowings)
 
 pub first_bounds : (p : Problem) (b : Bounds) → b.count ≡ 0 → AreAllowed p b.sets.items → (IsTrue b.alive ↔ IsAlive p) → IsFrame p (points_by_trial p) b.frame → AreBounds p b

@@ -9,3 +9,4 @@ pub mod Along
 pub mod Climbing
 pub mod Bounding
 pub mod BoundSteps
+pub mod ByItself

@@ -1,3 +1,4 @@
 pub mod Ladders
 pub mod Bounds
 pub mod Stretches
+pub mod Alone

@@ -53,7 +53,7 @@ impl Model for Ladder {
 }
 
 // The rows of a problem's points, and its pairs before any is narrowed.
-fn begin(
+pub(crate) fn begin(
     alloc: Global,
     problem: &Problem,
     most: usize,

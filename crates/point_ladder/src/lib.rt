@@ -2,10 +2,12 @@
 //! step which relations lead on.
 #![tactic(auto)]
 
+mod alone;
 mod bounds;
 mod frame;
 mod ladder;
 mod start;
 mod stretches;
 
+pub use alone::alive_alone;
 pub use ladder::Ladder;

@@ -1,0 +1,74 @@
+-- What the frame of a problem says of each pair by itself.
+use Rattle.std.proofs.Common.{◌≡◌, ℕ, ◌+◌, ◌<◌, ◌≤◌, ◌↔◌, true, false, List, ◌∷◌, [], ◌++◌, length, get_or, refl, sym, ap, subst, ◌∙◌, inl, inr, arith}
+use Rattle.std.specs.Prelude.{IsTrue}
+use Rattle.std.proofs.lemmas.Bool.{cases_eq, false≢true}
+use Rattle.rcc5_core.specs.declared.Rel.{Rel}
+use Rattle.rcc5_core.specs.declared.RelSet.{RelSet}
+use Rattle.rcc5_core.specs.Region.{row_of}
+use Rattle.rcc5_core.specs.RelationSet.{has, only, no_rels}
+use Rattle.world_model.specs.Problem.{Problem, pair_count, concept_count, narrowed}
+use Rattle.world_model.specs.Node.{pair_at}
+use Rattle.world_model.specs.Alive.{allowed, IsAlive}
+use Rattle.world_model.specs.Trial.{points_by_trial}
+use Rattle.bit_rows.specs.Rows.{BitRows, bit_in}
+use Rattle.point_table.specs.Table.{AreRowsOf}
+use Rattle.point_ladder.specs.declared.bounds.Bounds.{Bounds}
+use Rattle.point_ladder.specs.Bounds.{bound_to, IsAliveIn, AreBounds, HoldsPoints}
+use Rattle.point_ladder.specs.Ladders.{LeadsOn, IsFrame}
+use Rattle.point_ladder.specs.Alone.{IsAliveAlone}
+use Rattle.point_ladder.proofs.Narrowing.{forced_only, only_some, only_inside}
+use Rattle.point_ladder.proofs.Alike.{alive_same}
+use Rattle.point_ladder.proofs.Serving.{alive_next}
+use Rattle.point_ladder.proofs.InForce.{shows_pair}
+use Rattle.point_ladder.proofs.BoundSteps.{none_bound}
+use Rattle.point_ladder.proofs.Bounding.{said_is_narrower, said_is_same, alive_allows, alive_wider}
+
+-- a problem that is alive where a pair is narrowed is alive
+pub alive_before : (p : Problem) (k : ℕ) (rel : Rel) → k < pair_count p → IsAlive (narrowed p (pair_at p k) (only rel)) → IsAlive p
+alive_before p k rel within alive =
+    (alive_same p p.narrowings _ (said_is_same p p.narrowings k (allowed p (pair_at p k)) within refl)).0
+    (alive_wider p p.narrowings k (allowed p (pair_at p k)) rel (alive_allows p p.narrowings k rel within alive) alive)
+
+-- so nothing is left of the pairs of a dead one
+pub none_alone : (p : Problem) (k : ℕ) (set : RelSet) → k < pair_count p → set ≡ no_rels → (IsAlive p → ⊥) → IsAliveAlone p k set
+none_alone p k set within none dead rel = (
+  λ h. absurd (false≢true (sym (empty rel) ∙ subst (λ s. has s rel ≡ true) none h)),
+  λ alive. absurd (dead (alive_before p k rel within alive)),
+)
+  where
+    empty : (rel : Rel) → has no_rels rel ≡ false
+    empty rel = search
+
+-- the bounds before any pair is narrowed are of the problem itself
+pub unbound : (p : Problem) (b : Bounds) → b.count ≡ 0 → bound_to p b.sets.items b.count ≡ p
+unbound p b none = ap (bound_to p b.sets.items) none ∙ none_bound p b.sets.items
+
+-- with a relation that a pair allows a problem is alive just where its frame says so
+pub some_alone : (p : Problem) (rows : BitRows) (b : Bounds) (k : ℕ) (sides : ℕ × ℕ) (l r : ℕ → Bool) (old set : RelSet) → AreRowsOf p rows → AreBounds p b → b.count ≡ 0 → b.alive ≡ true → k < pair_count p
+    → sides ≡ pair_at p k → sides.0 < sides.1 → sides.1 < concept_count p → ((i : ℕ) → l i ≡ bit_in rows sides.0 i) → ((i : ℕ) → r i ≡ bit_in rows sides.1 i) → old ≡ get_or b.sets.items k old
+    → ((rel : Rel) → IsTrue (has set rel) ↔ IsAliveIn b.frame l r old rel) → IsAliveAlone p k set
+some_alone p rows b k sides l r old set shows are none alive within is order inside left right read has_alive rel = (
+  λ h. let there = (has_alive rel).0 h in (tested there.0).0 there.1,
+  λ lives. let allows : has old rel ≡ true = ap (λ s. has s rel) was ∙ alive_allows p p.narrowings k rel within lives in (has_alive rel).1 (allows, (tested allows).1 lives),
+)
+  where
+    here : bound_to p b.sets.items b.count ≡ p
+    here = unbound p b none
+
+    frame : IsFrame p (points_by_trial p) b.frame
+    frame = subst (λ q. IsFrame q (points_by_trial p) b.frame) here (are.frame alive)
+
+    holds : HoldsPoints p (points_by_trial p)
+    holds = subst (λ q. HoldsPoints q (points_by_trial p)) here (are.holds alive)
+
+    lives : IsAlive p
+    lives = subst IsAlive here (are.lives.0 alive)
+
+    was : old ≡ allowed p (pair_at p k)
+    was = read ∙ are.sets_are.each k old within ∙ ap (λ q. allowed q (pair_at p k)) here
+
+    tested : has old rel ≡ true → LeadsOn b.frame l r (row_of rel) ↔ IsAlive (narrowed p (pair_at p k) (only rel))
+    tested allows =
+        let narrower = said_is_narrower p p.narrowings k (only rel) within (λ other h. only_inside (allowed p (pair_at p k)) rel other (ap (λ s. has s rel) (sym was) ∙ allows) h) (only_some rel) in
+        subst (λ words. LeadsOn b.frame l r words ↔ IsAlive (narrowed p (pair_at p k) (only rel))) (forced_only rel)
+        (alive_next p p.narrowings _ k (only rel) b.frame (points_by_trial p) l r narrower frame (shows_pair p rows l r sides (pair_at p k) shows is order inside left right) lives.allow holds)
