@@ -45,8 +45,8 @@ fn all_worlds(accepted: Accepted) -> Option<Worlds>
     }
 }
 
-// The worlds with which the certificate under a name is accepted. What was written is accepted with all worlds wherever it has no
-// more bytes than a certificate may have. One that is longer is refused, and that is answered like want of memory.
+// The worlds with which the certificate under a name is accepted. What was written is meant to be accepted with all worlds, unless it
+// has more bytes than a certificate may have; no clause says so here, and any other answer is told as want of memory.
 fn check_cert(
     alloc: Global,
     problem: &Problem,
