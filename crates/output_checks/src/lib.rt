@@ -7,3 +7,5 @@ mod certificates;
 mod claims;
 #[cfg(test)]
 mod reports;
+#[cfg(test)]
+mod watchers;

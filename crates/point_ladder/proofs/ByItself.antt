@@ -1,8 +1,12 @@
 -- What the frame of a problem says of each pair by itself.
-use Rattle.std.proofs.Common.{◌≡◌, ℕ, ◌+◌, ◌<◌, ◌≤◌, ◌↔◌, true, false, List, ◌∷◌, [], ◌++◌, length, get_or, refl, sym, ap, subst, ◌∙◌, inl, inr, arith}
+use Rattle.std.proofs.Common.{◌≡◌, ℕ, ◌+◌, ◌<◌, ◌≤◌, ◌↔◌, Bool, true, false, List, ◌∷◌, [], ◌++◌, length, get_or, refl, sym, ap, subst, ◌∙◌, inl, inr, arith}
 use Rattle.std.specs.Prelude.{IsTrue}
 use Rattle.std.proofs.lemmas.Bool.{cases_eq, false≢true}
+use Rattle.std.proofs.Math.ListN.{get_or-append}
+use Rattle.std.proofs.Math.Seq.{get_or-append_seam}
+use Rattle.std.proofs.lemmas.List.{length-append}
 use Rattle.rcc5_core.specs.declared.Rel.{Rel}
+use Rattle.rcc5_core.specs.declared.Rel.TheVariants.{Equals, Includes, IncludedIn, Overlaps, Disjoint}
 use Rattle.rcc5_core.specs.declared.RelSet.{RelSet}
 use Rattle.rcc5_core.specs.Region.{row_of}
 use Rattle.rcc5_core.specs.RelationSet.{has, only, no_rels}
@@ -15,18 +19,18 @@ use Rattle.point_table.specs.Table.{AreRowsOf}
 use Rattle.point_ladder.specs.declared.bounds.Bounds.{Bounds}
 use Rattle.point_ladder.specs.Bounds.{bound_to, IsAliveIn, AreBounds, HoldsPoints}
 use Rattle.point_ladder.specs.Ladders.{LeadsOn, IsFrame}
-use Rattle.point_ladder.specs.Alone.{IsAliveAlone}
+use Rattle.point_ladder.specs.Alone.{IsAliveAlone, AreAliveAlone}
 use Rattle.point_ladder.proofs.Narrowing.{forced_only, only_some, only_inside}
-use Rattle.point_ladder.proofs.Alike.{alive_same}
+use Rattle.point_ladder.proofs.Alike.{same_back, alive_same}
 use Rattle.point_ladder.proofs.Serving.{alive_next}
 use Rattle.point_ladder.proofs.InForce.{shows_pair}
 use Rattle.point_ladder.proofs.BoundSteps.{none_bound}
-use Rattle.point_ladder.proofs.Bounding.{said_is_narrower, said_is_same, alive_allows, alive_wider}
+use Rattle.point_ladder.proofs.Bounding.{said_at, said_is_narrower, said_is_same, alive_allows, alive_wider}
 
 -- a problem that is alive where a pair is narrowed is alive
 pub alive_before : (p : Problem) (k : ℕ) (rel : Rel) → k < pair_count p → IsAlive (narrowed p (pair_at p k) (only rel)) → IsAlive p
 alive_before p k rel within alive =
-    (alive_same p p.narrowings _ (said_is_same p p.narrowings k (allowed p (pair_at p k)) within refl)).0
+    alive_same p (p.narrowings ++ said_at p k (allowed p (pair_at p k)) ∷ []) p.narrowings (same_back p p.narrowings _ (said_is_same p p.narrowings k (allowed p (pair_at p k)) within refl))
     (alive_wider p p.narrowings k (allowed p (pair_at p k)) rel (alive_allows p p.narrowings k rel within alive) alive)
 
 -- so nothing is left of the pairs of a dead one
@@ -37,7 +41,11 @@ none_alone p k set within none dead rel = (
 )
   where
     empty : (rel : Rel) → has no_rels rel ≡ false
-    empty rel = search
+    empty Equals = refl
+    empty Includes = refl
+    empty IncludedIn = refl
+    empty Overlaps = refl
+    empty Disjoint = refl
 
 -- the bounds before any pair is narrowed are of the problem itself
 pub unbound : (p : Problem) (b : Bounds) → b.count ≡ 0 → bound_to p b.sets.items b.count ≡ p
@@ -72,3 +80,16 @@ some_alone p rows b k sides l r old set shows are none alive within is order ins
         let narrower = said_is_narrower p p.narrowings k (only rel) within (λ other h. only_inside (allowed p (pair_at p k)) rel other (ap (λ s. has s rel) (sym was) ∙ allows) h) (only_some rel) in
         subst (λ words. LeadsOn b.frame l r words ↔ IsAlive (narrowed p (pair_at p k) (only rel))) (forced_only rel)
         (alive_next p p.narrowings _ k (only rel) b.frame (points_by_trial p) l r narrower frame (shows_pair p rows l r sides (pair_at p k) shows is order inside left right) lives.allow holds)
+
+at_end : (sets : List RelSet) (set : RelSet) (k : ℕ) (d : RelSet) → length sets ≡ k → get_or (sets ++ set ∷ []) k d ≡ set
+at_end sets set k d counted = ap (λ n. get_or (sets ++ set ∷ []) n d) (sym counted) ∙ get_or-append_seam sets set [] d
+
+-- one pair more
+pub alone_more : (p : Problem) (k : ℕ) (sets more : List RelSet) (set : RelSet) → AreAliveAlone p k sets → IsAliveAlone p k set → more ≡ sets ++ set ∷ [] → AreAliveAlone p (k + 1) more
+alone_more p k sets more set are is put = subst (AreAliveAlone p (k + 1)) (sym put) (record {
+  counted = length-append sets (set ∷ []) ∙ (let n = are.counted in omega (arith, n));
+  each = λ i d small. elim (cases_eq i k) [
+    | inl last ↦ subst (λ j. IsAliveAlone p j (get_or (sets ++ set ∷ []) j d)) (sym last) (subst (IsAliveAlone p k) (sym (at_end sets set k d are.counted)) is)
+    | inr before ↦ subst (IsAliveAlone p i) (sym (get_or-append sets (set ∷ []) d i (let n = are.counted in omega (arith, n, small, before)))) (are.each i d (omega (arith, small, before)))
+  ];
+})

@@ -11,3 +11,9 @@ mod stretches;
 
 pub use alone::alive_alone;
 pub use ladder::Ladder;
+
+/// A hint for who wants a ladder: a table of more points than these takes too long.
+pub const MOST_POINTS: usize = 65_536;
+
+/// A hint too: the search for points ends after so many tries.
+pub const MOST_TRIES: usize = 10_000_000;

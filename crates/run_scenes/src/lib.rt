@@ -3,4 +3,4 @@
 
 mod transcript;
 
-pub use transcript::{align_into, played};
+pub use transcript::{align_into, played, words_of};

@@ -6,16 +6,10 @@ ghost use Rattle.table_walk.specs.Tables.{IsNewListing, IsAtWorld, PassedTold, K
 use crate::start::way_from;
 use crate::way::{Way, next_world};
 use constraint_set::Problem;
-use point_ladder::Ladder;
+use point_ladder::{Ladder, MOST_POINTS, MOST_TRIES};
 use rcc5_core::{Position, Rel};
 use std::alloc::{AllocError, Global};
 use std::marker::Model;
-
-/// A table of more points than these is not made.
-const MOST_POINTS: usize = 65_536;
-
-/// The search for points ends after so many steps.
-const MOST_TRIES: usize = 10_000_000;
 
 /// The possible worlds of a problem, one after the other, by a table of all its points.
 ///

@@ -10,17 +10,11 @@ ghost use Rattle.world_search.specs.Guiding.{IsLadderOf, IsGuideOf};
 
 use constraint_set::Problem;
 use dead_nodes::Hints;
-use point_ladder::Ladder;
+use point_ladder::{Ladder, MOST_POINTS, MOST_TRIES};
 use point_query::Asker;
 use rcc5_core::{Position, RelSet};
 use std::alloc::{AllocError, Global};
 use world_model::prefixes_of_the_alive_are_alive;
-
-/// A table of more points than these is not made.
-const MOST_POINTS: usize = 65_536;
-
-/// The search for points ends after so many steps.
-const MOST_TRIES: usize = 10_000_000;
 
 /// Tells which prefixes are alive: by a table of all points, where the problem has one, and else by an asker.
 ///

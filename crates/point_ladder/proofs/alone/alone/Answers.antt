@@ -1,8 +1,33 @@
-use Rattle.std.proofs.Common.{refl, sym, subst}
+use Rattle.std.proofs.Common.{◌≡◌, true, sym, subst}
 use Rattle.bit_rows.specs.Rows.{has_bit}
-use Rattle.point_ladder.specs.Bounds.{bound_to}
-use Rattle.world_model.specs.Alive.{IsAlive}
 use Rattle.world_model.specs.Trial.{points_by_trial}
-use Rattle.point_ladder.proofs.ByItself.{none_alone, some_alone, unbound}
+use Rattle.world_model.specs.Alive.{IsAlive}
+use Rattle.point_ladder.specs.Bounds.{bound_to}
 use Rattle.point_ladder.proofs.Serving.{alive_here}
+use Rattle.point_ladder.proofs.ByItself.{none_alone, some_alone, unbound}
 use Rattle.point_ladder.proofs.alone.alone.Goals as goal
+
+pub returns-then-not-bounds : goal.returns-then-not-bounds
+returns-then-not-bounds c =
+    let p = c.args.problem.now in
+    let b = c.args.bounds.now in
+    none_alone p c.args.pair c.none.result c.requires.within c.none.ensures
+    (λ alive. let lives = c.requires.bounds.lives.1 (subst IsAlive (sym (unbound p b c.requires.none)) alive) in let dead = c.if-not-bounds.true in cc)
+
+pub bound-requires-clause-lives : goal.bound-requires-clause-lives
+bound-requires-clause-lives c =
+    let p = c.args.problem.now in
+    let b = c.args.bounds.now in
+    let is = c.if-not-bounds.false in
+    let lives : b.alive ≡ true = cc in
+    let alive = c.requires.bounds.lives.0 lives in
+    (alive_here (bound_to p b.sets.items b.count) (points_by_trial p) b.frame alive.allow (c.requires.bounds.holds lives) (c.requires.bounds.frame lives)).1 alive
+
+pub returns : goal.returns
+returns c =
+    let b = c.args.bounds.now in
+    let is = c.if-not-bounds.false in
+    let lives : b.alive ≡ true = cc in
+    some_alone c.args.problem.now c.args.rows.now b c.args.pair c.pair_at-left.result (has_bit c.row-left.result.now) (has_bit c.row-right.result.now) c.index.result.now c.bound.result
+    c.requires.rows c.requires.bounds c.requires.none lives c.requires.within c.pair_at-left.ensures.value c.pair_at-left.ensures.order c.pair_at-left.ensures.within
+    c.row-left.ensures.bits c.row-right.ensures.bits c.index.ensures c.bound.ensures
