@@ -107,3 +107,8 @@ pub keeps_after : {T : Type 0} (r : Result T StepFault) (p : Problem) (IsMade : 
     KeepsClaims p r IsMade old new two three → KeepsClaims p r IsMade old new one three
 keeps_after (Ok value) p IsMade old new one two three goes step lines claims is k = step lines claims is (begins_goes p one two None claims lines goes k)
 keeps_after (Err fault) p IsMade old new one two three goes step lines claims is k = step lines claims is (begins_goes p one two None claims lines goes k)
+
+-- where nothing was told before
+pub keeps_untold : {T : Type 0} (r : Result T StepFault) (p : Problem) (IsMade : T → List Claim → Type 0) (old new : Told) (one other : AskerState) → old ≡ None → KeepsClaims p r IsMade old new one other
+keeps_untold (Ok value) p IsMade old new one other none lines claims is k = let no : None ≡ Some lines = sym none ∙ is in absurd (cc)
+keeps_untold (Err fault) p IsMade old new one other none lines claims is k = let no : None ≡ Some lines = sym none ∙ is in absurd (cc)

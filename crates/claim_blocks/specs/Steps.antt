@@ -9,6 +9,7 @@ use Rattle.cert_rules.specs.ClaimLists.{Claim, Block}
 use Rattle.cert_rules.specs.ClaimWriting.{ClaimsKeepUp}
 use Rattle.search_log.specs.declared.fault.StepFault.{StepFault}
 use Rattle.split_search.specs.Claiming.{ClaimsBegin, ToldClaims}
+use Rattle.claim_blocks.specs.Blocks.{AreClaimsTold}
 
 -- a line leads from one tree, or none, and some claims to others, whatever lines came before it
 abbrev pub LineLeads : Problem → State → CertLine → Option Block → List Claim → Option Block → List Claim → Type 0
@@ -21,8 +22,12 @@ LeadsTo p old new one other block claims next more =
     (lines : List CertLine) → old ≡ Some lines → ClaimsBegin p one.solver.waiting one.solver.state block claims lines →
     ToldClaims p new other.solver.waiting other.solver.state next more
 
--- so they are after Ok, and after a fault with some tree and some claims
+-- told lines with this tree open and these claims are later ones that keep up, with some tree and some claims
+abbrev pub LeadsSomewhere : Problem → Told → Told → AskerState → AskerState → Option Block → List Claim → Type 0
+LeadsSomewhere p old new one other block claims =
+    (lines : List CertLine) → old ≡ Some lines → ClaimsBegin p one.solver.waiting one.solver.state block claims lines → AreClaimsTold p new other
+
+-- after Ok with that tree and those claims, and after a fault with some
 abbrev pub LeadsIf : {T : Type 0} → Problem → Result T StepFault → Told → Told → AskerState → AskerState → Option Block → List Claim → Option Block → List Claim → Type 0
 LeadsIf p (Ok value) old new one other block claims next more = LeadsTo p old new one other block claims next more
-LeadsIf p (Err fault) old new one other block claims next more =
-    (some_block : Option Block) × (some_claims : List Claim) × LeadsTo p old new one other block claims some_block some_claims
+LeadsIf p (Err fault) old new one other block claims next more = LeadsSomewhere p old new one other block claims
