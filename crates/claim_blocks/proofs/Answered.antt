@@ -1,5 +1,5 @@
 -- Whole claims, from what is told while a tree is open.
-use Rattle.std.proofs.Common.{◌≡◌, ◌<◌, ◌≤◌, ◌^◌, List, [], ◌++◌, length, Option, Some, None, Result, Ok, Err, sym, subst, arith, IsTrue}
+use Rattle.std.proofs.Common.{◌≡◌, ◌<◌, ◌≤◌, ◌^◌, List, [], ◌++◌, length, Option, Some, None, Result, Ok, Err, refl, sym, subst, arith, IsTrue}
 use Rattle.std.specs.Prelude.{◌==◌, nat_lt}
 use Rattle.std.specs.List.{list_all}
 use Rattle.std.proofs.lemmas.Bool.{and_parts, eqb-true}
@@ -15,10 +15,12 @@ use Rattle.cert_rules.specs.ClaimLists.{subject_problem, Claim}
 use Rattle.cert_rules.specs.ClaimWriting.{ShowsSubject, open_at}
 use Rattle.search_log.specs.declared.fault.StepFault.{StepFault}
 use Rattle.search_log.specs.Logging.{AddsLines}
+use Rattle.split_search.specs.declared.choice.Choice.{Choice}
+use Rattle.split_search.specs.declared.choice.Choice.TheVariants.{Met, Refuted}
 use Rattle.split_search.specs.Choosing.{IsMetBy}
-use Rattle.split_search.specs.Claiming.{ToldClaims, KeepsOpen, KeepsSomewhere}
+use Rattle.split_search.specs.Claiming.{ToldClaims, KeepsOpen, KeepsSomewhere, KeepsWithin}
 use Rattle.claim_blocks.specs.Blocks.{IsProblemOf, AreClaimsTold, AreClaimsMade, FromClaims, KeepsClaims}
-use Rattle.claim_blocks.specs.Steps.{LeadsTo, LeadsSomewhere, LeadsIf}
+use Rattle.claim_blocks.specs.Steps.{LeadsTo, LeadsSomewhere, LeadsIf, MayEndAt}
 use Rattle.claim_blocks.proofs.Steps.{leads_join, leads_behind}
 
 -- claims are made after Ok, and told after a fault
@@ -63,6 +65,12 @@ few_sets q f built met =
     let full = eqb-true (length f.sets) (concept_count q) (and_parts (length f.sets == concept_count q) (list_all (list_all (λ x. nat_lt x f.universe)) f.sets) fits).0 in
     let few = built.concepts in
     omega (arith, full, few)
+
+-- where a search that ended well leaves its tree
+pub searched : (choice : Choice) (p : Problem) (subject : Subject) (claims : List Claim) (old new : Told) (one other : AskerState) → KeepsWithin p subject claims (Ok choice) old new one other →
+    (at : Option (List Rel)) × MayEndAt choice at × KeepsOpen p subject claims old new one other (Some []) at
+searched (Met f) p subject claims old new one other k = (k.0, tt, k.1)
+searched Refuted p subject claims old new one other k = (None, refl, k)
 
 -- a tree that was opened, searched up to some node or its end, and then ended or left
 pub finished : {T : Type 0} (r : Result T StepFault) (p : Problem) (subject : Subject) (made claims : List Claim) (at : Option (List Rel)) (a b c d : Told) (one two three four : AskerState) → AddsLines a b → AddsLines b c →

@@ -55,6 +55,12 @@ pub keeps_err : {T : Type 0} (Q : StepFault → Type 0) (r : Result T StepFault)
 keeps_err Q (Ok value) p IsMade old new one other h first = absurd h
 keeps_err Q (Err fault) p IsMade old new one other h first = first
 
+-- claims that are made are told, where a fault comes after them
+pub made_told : (p : Problem) (IsMade : List Claim → Type 0) (old new : Told) (one other : AskerState) → FromClaims p old one (λ claims. AreClaimsMade p IsMade claims new other) →
+    FromClaims p old one (λ claims. AreClaimsTold p new other)
+made_told p IsMade old new one other first lines claims is k =
+    let made = first lines claims is k in record { block = None; claims = claims ++ made.more; told_claims = made.told_claims }
+
 -- the beginning of a list of claims, with further lines that wait
 begins_goes : (p : Problem) (one other : AskerState) (block : Option Block) (claims : List Claim) (told : List CertLine) → AskerGoes one other →
     ClaimsBegin p one.solver.waiting one.solver.state block claims told → ClaimsBegin p other.solver.waiting other.solver.state block claims told

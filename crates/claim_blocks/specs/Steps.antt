@@ -1,5 +1,6 @@
 -- What a line, and a call, makes of told claims with a tree open or none.
-use Rattle.std.specs.Prelude.{◌≡◌, List, [], ◌∷◌, ◌++◌, Option, Some, Result, Ok, Err}
+use Rattle.std.specs.Prelude.{◌≡◌, List, [], ◌∷◌, ◌++◌, Option, Some, None, Result, Ok, Err, ⊤}
+use Rattle.rcc5_core.specs.declared.Rel.{Rel}
 use Rattle.lits_core.specs.Derivation.{State}
 use Rattle.world_model.specs.Problem.{Problem}
 use Rattle.point_query.specs.Asking.{AskerState}
@@ -8,6 +9,8 @@ use Rattle.cert_text.specs.Logs.{Told}
 use Rattle.cert_rules.specs.ClaimLists.{Claim, Block}
 use Rattle.cert_rules.specs.ClaimWriting.{ClaimsKeepUp}
 use Rattle.search_log.specs.declared.fault.StepFault.{StepFault}
+use Rattle.split_search.specs.declared.choice.Choice.{Choice}
+use Rattle.split_search.specs.declared.choice.Choice.TheVariants.{Met, Refuted}
 use Rattle.split_search.specs.Claiming.{ClaimsBegin, ToldClaims}
 use Rattle.claim_blocks.specs.Blocks.{AreClaimsTold}
 
@@ -31,3 +34,8 @@ LeadsSomewhere p old new one other block claims =
 abbrev pub LeadsIf : {T : Type 0} → Problem → Result T StepFault → Told → Told → AskerState → AskerState → Option Block → List Claim → Option Block → List Claim → Type 0
 LeadsIf p (Ok value) old new one other block claims next more = LeadsTo p old new one other block claims next more
 LeadsIf p (Err fault) old new one other block claims next more = LeadsSomewhere p old new one other block claims
+
+-- after a refutation a tree is whole, so that no node is expected; a family may turn up anywhere
+abbrev pub MayEndAt : Choice → Option (List Rel) → Type 0
+MayEndAt (Met f) at = ⊤
+MayEndAt Refuted at = at ≡ None

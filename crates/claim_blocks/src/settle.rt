@@ -11,7 +11,7 @@ ghost use Rattle.cert_rules.specs.ClaimWriting.{ShowsSubject, open_at};
 ghost use Rattle.search_log.specs.Logging.{LogGoes, IsSameButLines};
 ghost use Rattle.split_search.specs.Choosing.{IsChoice, IsTidy};
 ghost use Rattle.claim_blocks.specs.Blocks.{IsProblemOf, claimed, settled, KeepsClaims};
-ghost use Rattle.claim_blocks.specs.Steps.{LineLeads, LeadsIf};
+ghost use Rattle.claim_blocks.specs.Steps.{LineLeads, LeadsIf, MayEndAt};
 
 use cert_text::{CertLine, Subject, TreeLog, copy_subject};
 use constraint_set::Problem;
@@ -111,6 +111,29 @@ fn leave_tree<L: TreeLog>(
     show(alloc, subject, family, asker, log)
 }
 
+// Ends the tree of a subject with what was found: it is whole, or it is left.
+fn end_tree<L: TreeLog>(
+    alloc: Global,
+    subject: &Subject,
+    problem: &Problem,
+    choice: &Choice,
+    asker: &mut Asker,
+    log: &mut L,
+) -> Result<(), StepFault>
+    requires { IsChoice problem.now choice.now }
+    ensures same { IsSameButLines asker.old asker.new }
+    ensures ready { OnOk result (asker.new.solver.waiting ≡ []) }
+    ensures keeps { (p : Problem) (at : Option (List Rel)) (claims : List Claim) → IsProblemOf p subject.now problem.now → MayEndAt choice.now at →
+        LeadsIf p result (L.lines log.old) (L.lines log.new) asker.old asker.new (open_at subject.now at) claims None (claims ++ settled subject.now choice.now) }
+    ensures log { LogGoes L.drops L.lines L.faults L.steady L.quiet result log.old log.new }
+{
+    problem.facts();
+    match choice {
+        Choice::Met(family) => leave_tree(alloc, subject, family, asker, log),
+        Choice::Refuted => put_behind(alloc, asker, log, &CertLine::End(None)),
+    }
+}
+
 /// Whether a family meets the problem of a subject, and the claim that says so.
 ///
 /// The tree of the subject is put while it is searched: where it turns out that a family meets the problem, it is left, and claims nothing.
@@ -129,19 +152,11 @@ pub fn settle<L: TreeLog>(
         KeepsClaims p result (λ choice more. more ≡ settled subject.now choice) (L.lines log.old) (L.lines log.new) asker.old asker.new }
     ensures log { LogGoes L.drops L.lines L.faults L.steady L.quiet result log.old log.new }
 {
-    problem.facts();
     if log.is_dropping() {
         return choose(alloc, problem, asker, log);
     }
     begin_tree(alloc, subject, asker, log)?;
-    match choose(alloc, problem, asker, log)? {
-        Choice::Met(family) => {
-            leave_tree(alloc, subject, &family, asker, log)?;
-            Ok(Choice::Met(family))
-        }
-        Choice::Refuted => {
-            put_behind(alloc, asker, log, &CertLine::End(None))?;
-            Ok(Choice::Refuted)
-        }
-    }
+    let choice = choose(alloc, problem, asker, log)?;
+    end_tree(alloc, subject, problem, &choice, asker, log)?;
+    Ok(choice)
 }
