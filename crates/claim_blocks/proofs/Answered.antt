@@ -40,9 +40,9 @@ keeps_from (Err fault) p IsMade made old new one other is_made leads = told_from
 -- and back, with the claims that there were
 pub leads_from : {T : Type 0} (r : Result T StepFault) (p : Problem) (made claims : List Claim) (old new : Told) (one other : AskerState) → KeepsClaims p r (λ _ more. more ≡ made) old new one other →
     LeadsIf p r old new one other None claims None (claims ++ made)
-leads_from (Ok value) p made claims old new one other keeps lines is k =
+leads_from (Ok value) p made claims old new one other keeps = λ lines is k.
     let now = keeps lines claims is k in subst (λ more. ToldClaims p new other.solver.waiting other.solver.state None (claims ++ more)) now.made now.told_claims
-leads_from (Err fault) p made claims old new one other keeps lines is k = keeps lines claims is k
+leads_from (Err fault) p made claims old new one other keeps = λ lines is k. keeps lines claims is k
 
 -- a tree that was opened and then searched is open somewhere
 pub somewhere : (p : Problem) (subject : Subject) (claims : List Claim) (a b c : Told) (one two three : AskerState) → AddsLines a b →

@@ -29,7 +29,7 @@ fn put_behind<L: TreeLog>(
     line: &CertLine,
 ) -> Result<(), StepFault>
     requires ids { IdsFromOne line.now }
-    requires other { is_branch line.now ≡ false }
+    requires no_branch { is_branch line.now ≡ false }
     ensures same { IsSameButLines asker.old asker.new }
     ensures ready { OnOk result (asker.new.solver.waiting ≡ []) }
     ensures keeps { (p : Problem) (block next : Option Block) (claims more : List Claim) → LineLeads p asker.old.solver.state line.now block claims next more →

@@ -21,7 +21,7 @@ returns-clause-keeps g c = λ p block next claims more leads.
     let line = c.args.line.now in
     leads_behind c.put_one.result p old mid new one two two block block next claims claims more c.in_ok-put_waiting.ensures.log.told
     (leads_flushed c.put_waiting.result p old mid one two block claims c.put_waiting.ensures.same c.put_waiting.ensures.flushed)
-    (leads_put_if c.put_one.result p mid new two line block next claims more c.in_ok-put_waiting.ensures.flushed.ok.none_waits c.requires.other
+    (leads_put_if c.put_one.result p mid new two line block next claims more c.in_ok-put_waiting.ensures.flushed.ok.none_waits c.requires.no_branch
     (leads_alike p one two line block next claims more c.put_waiting.ensures.same leads) c.put_one.ensures.told c.put_one.ensures.err)
 
 pub returns-clause-log : goal.returns-clause-log
