@@ -5,7 +5,7 @@ use Rattle.claim_blocks.specs.Blocks.{settled}
 use Rattle.claim_blocks.proofs.Answered.{made_from, told_from, somewhere, searched, finished}
 use Rattle.claim_blocks.proofs.Joins.{keeps_err, keeps_untold}
 use Rattle.claim_blocks.proofs.Steps.{leads_some}
-use Rattle.claim_blocks.proofs.settle.settle.Goals as goal
+use Rattle.claim_blocks.proofs.claims.settle.Goals as goal
 
 pub returns-then-is_dropping-clause-keeps : goal.returns-then-is_dropping-clause-keeps
 returns-then-is_dropping-clause-keeps g c = λ p is.

@@ -5,7 +5,7 @@ use Rattle.search_log.proofs.Logs.{log_joins}
 use Rattle.claim_blocks.specs.Blocks.{claimed}
 use Rattle.claim_blocks.proofs.Answered.{leads_from}
 use Rattle.claim_blocks.proofs.Steps.{leads_err, leads_behind}
-use Rattle.claim_blocks.proofs.settle.leave_tree.Goals as goal
+use Rattle.claim_blocks.proofs.claims.leave_tree.Goals as goal
 
 pub returns-in_err-put_behind-clause-keeps : goal.returns-in_err-put_behind-clause-keeps
 returns-in_err-put_behind-clause-keeps g c = λ p at claims shows.

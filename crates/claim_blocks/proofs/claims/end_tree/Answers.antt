@@ -5,7 +5,7 @@ use Rattle.split_search.specs.Choosing.{IsChoice}
 use Rattle.claim_blocks.specs.Blocks.{claimed, settled}
 use Rattle.claim_blocks.specs.Steps.{LeadsIf, MayEndAt}
 use Rattle.claim_blocks.proofs.Answered.{shown, few_sets}
-use Rattle.claim_blocks.proofs.settle.end_tree.Goals as goal
+use Rattle.claim_blocks.proofs.claims.end_tree.Goals as goal
 
 pub leave_tree-in-Met-requires : goal.leave_tree-in-Met-requires
 leave_tree-in-Met-requires g c = few_sets c.args.problem.now c.in-Met.family.now c.facts.ensures (subst (IsChoice c.args.problem.now) c.in-Met.is c.requires)

@@ -6,7 +6,7 @@ use Rattle.claim_blocks.specs.Blocks.{claimed}
 use Rattle.claim_blocks.specs.Steps.{LineLeads}
 use Rattle.claim_blocks.proofs.Answered.{keeps_from}
 use Rattle.claim_blocks.proofs.Joins.{keeps_err, keeps_untold, nothing_told}
-use Rattle.claim_blocks.proofs.settle.show.Goals as goal
+use Rattle.claim_blocks.proofs.claims.show.Goals as goal
 
 pub returns-then-is_dropping-clause-keeps : goal.returns-then-is_dropping-clause-keeps
 returns-then-is_dropping-clause-keeps g c = λ p shows.
