@@ -38,7 +38,7 @@ says_problem held input switches p comes =
     subst (SaysText (held input) switches) (said_ok (text_result comes.bytes switches) p comes.judged) (text_of (held input) switches comes.bytes comes.front)
 
 -- so is the fault of one that is refused
-err_same : {X E : Type 0} (a b : E) (x : Result X E) → x ≡ Err a → x ≡ Err b → a ≡ b
+pub err_same : {X E : Type 0} (a b : E) (x : Result X E) → x ≡ Err a → x ≡ Err b → a ≡ b
 err_same a b x p q = cc
 
 said_err : (r : Result Problem (ℕ × TextKind)) (s : Status) → problem_by r ≡ Err s → (fault : ℕ × TextKind) × (r ≡ Err fault) × (s ≡ status.RefusedText fault.0 fault.1)
