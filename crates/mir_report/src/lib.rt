@@ -5,3 +5,6 @@ mod found;
 mod mir;
 
 pub use mir::{MirSets, has_world, mir};
+
+#[cfg(test)]
+mod tests;
