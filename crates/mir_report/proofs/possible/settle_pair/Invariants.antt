@@ -6,7 +6,7 @@ use Rattle.search_log.specs.Logging.{LogGoes}
 use Rattle.split_search.specs.Choosing.{IsMetBy}
 use Rattle.claim_blocks.specs.Blocks.{KeepsClaims}
 use Rattle.mir_report.specs.Steps.{claims_of}
-use Rattle.mir_report.proofs.mir.settle_pair.Given as goal
+use Rattle.mir_report.proofs.possible.settle_pair.Given as goal
 
 -- the set has the possible ones among the relations so far, and these are claimed
 abbrev pub invariant-rels : goal.invariant-rels

@@ -4,7 +4,7 @@ use Rattle.search_log.specs.Logging.{LogGoes}
 use Rattle.split_search.specs.Choosing.{IsMetBy}
 use Rattle.claim_blocks.specs.Blocks.{KeepsClaims}
 use Rattle.mir_report.specs.Possible.{IsPossibleSet, claims_from}
-use Rattle.mir_report.proofs.mir.mir.Given as goal
+use Rattle.mir_report.proofs.possible.mir.Given as goal
 
 -- the sets of the pairs so far, and their claims
 abbrev pub invariant-pairs : goal.invariant-pairs
