@@ -62,7 +62,7 @@ claims_step p pair set other rels rel some old new known =
     (same_truth (has other rel) some (λ h. known.1 ((new rel).0 h).1) (λ h. (new rel).1 (Contains-push rels rel, known.0 h)))
 
 -- one more pair
-pub claims_from_more : (p : Problem) (pair : ℕ) (sets : List RelSet) (set : RelSet) → claims_from p pair (sets ++ set ∷ []) ≡ claims_from p pair sets ++ pair_claims p (pair + length sets) set
+claims_from_more : (p : Problem) (pair : ℕ) (sets : List RelSet) (set : RelSet) → claims_from p pair (sets ++ set ∷ []) ≡ claims_from p pair sets ++ pair_claims p (pair + length sets) set
 claims_from_more p pair [] set =
     let same : pair ≡ pair + length {X = RelSet} [] = omega arith in
     append-nil (pair_claims p pair set) ∙ ap (λ k. pair_claims p k set) same
@@ -70,6 +70,11 @@ claims_from_more p pair (first ∷ sets) set =
     let same : pair + 1 + length sets ≡ pair + length (first ∷ sets) = omega arith in
     ap (λ claims. pair_claims p pair first ++ claims) (claims_from_more p (pair + 1) sets set ∙ ap (λ k. claims_from p (pair + 1) sets ++ pair_claims p k set) same)
     ∙ sym (append_assoc (pair_claims p pair first) (claims_from p (pair + 1) sets) (pair_claims p (pair + length (first ∷ sets)) set))
+
+pub claims_next : (p : Problem) (pair : ℕ) (sets : List RelSet) (set : RelSet) → length sets ≡ pair → claims_from p 0 (sets ++ set ∷ []) ≡ claims_from p 0 sets ++ pair_claims p pair set
+claims_next p pair sets set counted =
+    let same : 0 + length sets ≡ pair = omega (arith, counted) in
+    claims_from_more p 0 sets set ∙ ap (λ k. claims_from p 0 sets ++ pair_claims p k set) same
 
 -- what stands in a list with one more behind
 got_more : (sets : List RelSet) (set : RelSet) (k : ℕ) (one : RelSet) → slice_get (sets ++ set ∷ []) k ≡ Some one → (slice_get sets k ≡ Some one) ⊎ ((k ≡ length sets) × (set ≡ one))

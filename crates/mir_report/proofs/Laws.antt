@@ -45,8 +45,7 @@ pub met_is_shown : (p : Problem) (pair : ℕ × ℕ) (rel : Rel) (f : Family) �
 met_is_shown p pair rel f met =
     let m = met_parts (narrowed p pair (only rel)) f met in
     let last : Constraint = record { left = pair.0; right = pair.1; set = only rel } in
-    let stated = filter_map as_constraint (kept_articulations p) in
-    (
+    let stated = filter_map as_constraint (kept_articulations p) in (
       met_whole p f (record {
         fits = m.fits;
         within = m.within;
@@ -59,7 +58,7 @@ met_is_shown p pair rel f met =
         ]));
         summed = m.summed;
       }),
-      sym (one_rel rel (relation_in f pair) (sym (only_has rel (relation_in f pair)) ∙ all_at (holds f) m.said (In-right stated (In-right p.narrowings (here refl)))))
+      sym (one_rel rel (relation_in f pair) (sym (only_has rel (relation_in f pair)) ∙ all_at (holds f) m.said (In-right stated (In-right p.narrowings (here refl))))),
     )
 
 -- the relation of a pair in the table of a family
