@@ -27,8 +27,8 @@ same_claims p pair set other [] agree = refl
 same_claims p pair set other (rel ∷ rels) agree =
     by (has (allowed p (pair_at p pair)) rel) (filter (has (allowed p (pair_at p pair))) rels) (agree rel (here refl)) (same_claims p pair set other rels (λ q i. agree q (there i)))
   where
-    by : (b : Bool) (rest : List Rel) → has set rel ≡ has other rel → map (λ rel. record { subject = Narrowed pair rel; holds = has set rel }) rest ≡ map (λ rel. record { subject = Narrowed pair rel; holds = has other rel }) rest →
-        map (λ rel. record { subject = Narrowed pair rel; holds = has set rel }) (cond b (rel ∷ rest) rest) ≡ map (λ rel. record { subject = Narrowed pair rel; holds = has other rel }) (cond b (rel ∷ rest) rest)
+    by : (b : Bool) (rest : List Rel) → has set rel ≡ has other rel → map {A = Rel} {B = Claim} (λ rel. record { subject = Narrowed pair rel; holds = has set rel }) rest ≡ map {A = Rel} {B = Claim} (λ rel. record { subject = Narrowed pair rel; holds = has other rel }) rest →
+        map {A = Rel} {B = Claim} (λ rel. record { subject = Narrowed pair rel; holds = has set rel }) (cond b (rel ∷ rest) rest) ≡ map {A = Rel} {B = Claim} (λ rel. record { subject = Narrowed pair rel; holds = has other rel }) (cond b (rel ∷ rest) rest)
     by true rest one more = ap₂ (λ (holds : Bool) (claims : List Claim). record { subject = Narrowed pair rel; holds = holds } ∷ claims) one more
     by false rest one more = more
 
@@ -37,15 +37,15 @@ claims_more : (p : Problem) (pair : ℕ) (set : RelSet) (rels : List Rel) (rel :
     claims_of p pair set (rels ++ rel ∷ []) ≡ claims_of p pair set rels ++ claim_if_allowed p pair rel (has set rel)
 claims_more p pair set [] rel = by (has (allowed p (pair_at p pair)) rel)
   where
-    by : (b : Bool) → map (λ rel. record { subject = Narrowed pair rel; holds = has set rel }) (cond b (rel ∷ []) []) ≡ cond b (record { subject = Narrowed pair rel; holds = has set rel } ∷ []) []
+    by : (b : Bool) → map {A = Rel} {B = Claim} (λ rel. record { subject = Narrowed pair rel; holds = has set rel }) (cond b (rel ∷ []) []) ≡ cond b (record { subject = Narrowed pair rel; holds = has set rel } ∷ []) []
     by true = refl
     by false = refl
 claims_more p pair set (first ∷ rels) rel =
     by (has (allowed p (pair_at p pair)) first) (filter (has (allowed p (pair_at p pair))) (rels ++ rel ∷ [])) (filter (has (allowed p (pair_at p pair))) rels) (claims_more p pair set rels rel)
   where
-    by : (b : Bool) (all rest : List Rel) → map (λ rel. record { subject = Narrowed pair rel; holds = has set rel }) all ≡ map (λ rel. record { subject = Narrowed pair rel; holds = has set rel }) rest ++ claim_if_allowed p pair rel (has set rel) →
-        map (λ rel. record { subject = Narrowed pair rel; holds = has set rel }) (cond b (first ∷ all) all)
-        ≡ map (λ rel. record { subject = Narrowed pair rel; holds = has set rel }) (cond b (first ∷ rest) rest) ++ claim_if_allowed p pair rel (has set rel)
+    by : (b : Bool) (all rest : List Rel) → map {A = Rel} {B = Claim} (λ rel. record { subject = Narrowed pair rel; holds = has set rel }) all ≡ map {A = Rel} {B = Claim} (λ rel. record { subject = Narrowed pair rel; holds = has set rel }) rest ++ claim_if_allowed p pair rel (has set rel) →
+        map {A = Rel} {B = Claim} (λ rel. record { subject = Narrowed pair rel; holds = has set rel }) (cond b (first ∷ all) all)
+        ≡ map {A = Rel} {B = Claim} (λ rel. record { subject = Narrowed pair rel; holds = has set rel }) (cond b (first ∷ rest) rest) ++ claim_if_allowed p pair rel (has set rel)
     by true all rest more = ap (λ (claims : List Claim). record { subject = Narrowed pair first; holds = has set first } ∷ claims) more
     by false all rest more = more
 
@@ -64,7 +64,7 @@ claims_step p pair set other rels rel some old new known =
 -- one more pair
 claims_from_more : (p : Problem) (pair : ℕ) (sets : List RelSet) (set : RelSet) → claims_from p pair (sets ++ set ∷ []) ≡ claims_from p pair sets ++ pair_claims p (pair + length sets) set
 claims_from_more p pair [] set =
-    let same : pair ≡ pair + length {X = RelSet} [] = omega arith in
+    let same : pair ≡ pair + length {A = RelSet} [] = omega arith in
     append-nil (pair_claims p pair set) ∙ ap (λ k. pair_claims p k set) same
 claims_from_more p pair (first ∷ sets) set =
     let same : pair + 1 + length sets ≡ pair + length (first ∷ sets) = omega arith in

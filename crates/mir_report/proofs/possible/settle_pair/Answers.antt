@@ -1,4 +1,4 @@
-use Rattle.std.proofs.Common.{◌≡◌, ◌<◌, ◌∙◌, ◌∷◌, ◌++◌, [], List, take, get_or, length, All, Ok, Err, true≢false, refl, sym, ap, ap₂, subst, arith}
+use Rattle.std.proofs.Common.{◌≡◌, ◌<◌, ◌∙◌, ◌∷◌, ◌+◌, ◌++◌, [], List, take, get_or, length, All, Ok, Err, true≢false, refl, sym, ap, ap₂, subst, arith}
 use Rattle.std.proofs.lemmas.List.{take_more}
 use Rattle.rcc5_core.specs.declared.Rel.TheVariants.{Equals}
 use Rattle.rcc5_core.specs.declared.RelSet.{RelSet}

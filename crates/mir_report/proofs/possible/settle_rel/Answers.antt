@@ -46,7 +46,7 @@ returns-in_err-narrowed-clause-log g c =
     log_memory c.from_residual-in_err-narrowed.result c.args.log.now (g.met.L.TreeLog.steady_stays c.args.log.now) (g.met.L.TreeLog.quiet_stays c.args.log.now) c.from_residual-in_err-narrowed.ensures.1
 
 pub settle-requires : goal.settle-requires
-settle-requires g c = c.requires.shape ∙ sym c.in_ok-narrowed.ensures.shape
+settle-requires g c = record { shape = c.requires.shape ∙ sym c.in_ok-narrowed.ensures.shape }
 
 pub returns-in_err-family-clause-keeps : goal.returns-in_err-family-clause-keeps
 returns-in_err-family-clause-keeps g c =
