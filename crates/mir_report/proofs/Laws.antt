@@ -11,7 +11,7 @@ use Rattle.world_model.specs.Family.{Family, holds, meets, table_of}
 use Rattle.world_model.specs.Alive.{allowed}
 use Rattle.world_model.specs.Node.{pair_at}
 use Rattle.world_model.specs.Questions.{IsMet, IsPossibleRelation}
-use Rattle.world_model.proofs.Members.{In, here, all_at, all_from, In-left, In-right, from_append}
+use Rattle.world_model.proofs.Members.{here, all_at, all_from, In-left, In-right, from_append}
 use Rattle.world_model.proofs.PointSets.{some_rel, has_some}
 use Rattle.world_model.proofs.PointRules.{met_parts, met_whole}
 use Rattle.world_model.proofs.PointAlive.{related}

@@ -1,5 +1,5 @@
 -- The subjects that are asked, and their problems.
-use Rattle.std.proofs.Common.{◌≡◌, ℕ, ◌<◌, ◌≤◌, ◌^◌, ◌↔◌, Bool, List, length, None, Some, cond, ◌==◌, nat_lt, refl, sym, ap, ◌∙◌, subst, arith, IsTrue}
+use Rattle.std.proofs.Common.{◌≡◌, ℕ, ◌<◌, ◌^◌, ◌↔◌, Bool, List, length, None, Some, cond, ◌==◌, nat_lt, sym, ap, ◌∙◌, subst, arith}
 use Rattle.std.proofs.lemmas.Bool.{lt-ltb, eq-eqb, eqb-true, and_parts}
 use Rattle.std.specs.List.{list_all}
 use Rattle.rcc5_core.specs.declared.Rel.{Rel}

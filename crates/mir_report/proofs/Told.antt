@@ -1,5 +1,5 @@
 -- What is told, where an error follows.
-use Rattle.std.proofs.Common.{List, ◌++◌, None, Result, Ok, Err}
+use Rattle.std.proofs.Common.{List, Result, Ok, Err}
 use Rattle.std.specs.Result.{IsErrAnd}
 use Rattle.world_model.specs.Problem.{Problem}
 use Rattle.point_query.specs.Asking.{AskerState}
@@ -9,7 +9,7 @@ use Rattle.search_log.specs.declared.fault.StepFault.{StepFault}
 use Rattle.search_log.specs.Logging.{AddsLines}
 use Rattle.search_log.proofs.Logs.{asker_stays}
 use Rattle.claim_blocks.specs.Blocks.{KeepsClaims}
-use Rattle.claim_blocks.proofs.Joins.{keeps_err, keeps_join, nothing_told}
+use Rattle.claim_blocks.proofs.Joins.{keeps_err, keeps_join, made_told, nothing_told}
 
 -- before anything is told
 pub err_first : {T : Type 0} (Q : StepFault → Type 0) (r : Result T StepFault) (p : Problem) (IsMade : T → List Claim → Type 0) (told : Told) (one : AskerState) → IsErrAnd r Q → KeepsClaims p r IsMade told told one one
@@ -18,8 +18,7 @@ err_first Q r p IsMade told one h = keeps_err Q r p IsMade told told one one h (
 -- after calls that ended well
 pub err_after : {S T : Type 0} (Q : StepFault → Type 0) (r : Result T StepFault) (v : S) (p : Problem) (IsMade : S → List Claim → Type 0) (IsOther : T → List Claim → Type 0) (old new : Told)
     (one other : AskerState) → IsErrAnd r Q → KeepsClaims p (Ok v) IsMade old new one other → KeepsClaims p r IsOther old new one other
-err_after Q r v p IsMade IsOther old new one other h keeps = keeps_err Q r p IsOther old new one other h (λ lines claims is k.
-    let made = keeps lines claims is k in record { block = None; claims = claims ++ made.more; told_claims = made.told_claims })
+err_after Q r v p IsMade IsOther old new one other h keeps = keeps_err Q r p IsOther old new one other h (made_told p (IsMade v) old new one other keeps)
 
 -- in a call after these
 pub err_later : {R S T : Type 0} (Q : StepFault → Type 0) (r : Result T StepFault) (v : R) (fault : StepFault) (p : Problem) (IsMade : R → List Claim → Type 0) (IsTwo : S → List Claim → Type 0)

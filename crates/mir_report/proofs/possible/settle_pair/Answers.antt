@@ -1,14 +1,12 @@
-use Rattle.std.proofs.Common.{◌≡◌, ◌<◌, ◌∙◌, ◌∷◌, ◌+◌, ◌++◌, [], List, take, get_or, length, All, Ok, Err, true≢false, refl, sym, ap, ap₂, subst, arith}
+use Rattle.std.proofs.Common.{◌≡◌, ◌∙◌, ◌∷◌, ◌+◌, ◌++◌, [], take, get_or, Ok, true≢false, refl, sym, ap, ap₂, subst, arith}
 use Rattle.std.proofs.lemmas.List.{take_more}
 use Rattle.rcc5_core.specs.declared.Rel.TheVariants.{Equals}
-use Rattle.rcc5_core.specs.declared.RelSet.{RelSet}
 use Rattle.rcc5_core.specs.Relation.{all_rels}
 use Rattle.rcc5_core.specs.RelationSet.{has}
 use Rattle.world_model.specs.Questions.{IsPossibleRelation}
 use Rattle.world_model.proofs.Members.{contains_from_in}
 use Rattle.world_model.proofs.PointSets.{In-all_rels}
 use Rattle.point_query.proofs.Choosing.{HasThose, one_in, one_out, has_none}
-use Rattle.cert_rules.specs.ClaimLists.{Claim}
 use Rattle.search_log.proofs.Logs.{log_as, log_joins, log_ok_as, log_stays_ok}
 use Rattle.claim_blocks.specs.Blocks.{KeepsClaims}
 use Rattle.claim_blocks.proofs.Joins.{keeps_join, keeps_nothing}

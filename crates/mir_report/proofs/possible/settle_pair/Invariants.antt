@@ -1,5 +1,4 @@
 use Rattle.std.proofs.Common.{◌≡◌, take, All, Ok}
-use Rattle.rcc5_core.specs.declared.RelSet.{RelSet}
 use Rattle.world_model.specs.Questions.{IsPossibleRelation}
 use Rattle.point_query.proofs.Choosing.{HasThose}
 use Rattle.search_log.specs.Logging.{LogGoes}

@@ -1,9 +1,8 @@
-use Rattle.std.proofs.Common.{◌≡◌, ◌∙◌, true, false, true≢false, All, Ok, refl, sym, subst}
+use Rattle.std.proofs.Common.{◌≡◌, ◌∙◌, true≢false, All, Ok, refl, sym, subst}
 use Rattle.std.proofs.lemmas.List.Elements.{All-push}
 use Rattle.cert_text.specs.declared.line.Subject.TheVariants.{Narrowed}
 use Rattle.search_log.proofs.Logs.{log_as, log_memory, log_ok_as, log_then_memory}
 use Rattle.split_search.specs.Choosing.{IsMetBy, IsChoice}
-use Rattle.split_search.specs.declared.choice.Choice.TheVariants.{Met, Refuted}
 use Rattle.claim_blocks.specs.Blocks.{claimed, settled, KeepsClaims}
 use Rattle.claim_blocks.proofs.Joins.{keeps_err}
 use Rattle.mir_report.proofs.Laws.{possible_by}
@@ -79,8 +78,7 @@ returns-in-Met-clause-families g c =
 pub returns-in-Met-clause-answer : goal.returns-in-Met-clause-answer
 returns-in-Met-clause-answer g c =
     let p = c.args.problem.now in
-    let met = subst (IsChoice c.in_ok-narrowed.narrowed) c.in-Met.is c.in_ok-family.ensures.answer in
-    (
+    let met = subst (IsChoice c.in_ok-narrowed.narrowed) c.in-Met.is c.in_ok-family.ensures.answer in (
       λ _. (met_is_possible p c.in_ok-narrowed.narrowed c.args.pair c.args.rel c.one.result c.requires.within c.one.ensures c.in_ok-narrowed.ensures.value).0 (c.in-Met.family, met.met),
       λ _. refl,
     )
@@ -97,8 +95,7 @@ returns-in-Met-clause-log g c = log_ok_as _ _ c.args.log.now c.settle.new.log c.
 pub returns-clause-answer : goal.returns-clause-answer
 returns-clause-answer g c =
     let p = c.args.problem.now in
-    let none = subst (IsChoice c.in_ok-narrowed.narrowed) c.in-Refuted.is c.in_ok-family.ensures.answer in
-    (
+    let none = subst (IsChoice c.in_ok-narrowed.narrowed) c.in-Refuted.is c.in_ok-family.ensures.answer in (
       λ h. absurd (true≢false (sym h)),
       λ r. absurd (none ((met_is_possible p c.in_ok-narrowed.narrowed c.args.pair c.args.rel c.one.result c.requires.within c.one.ensures c.in_ok-narrowed.ensures.value).1 r)),
     )
