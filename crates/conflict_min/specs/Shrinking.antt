@@ -26,3 +26,7 @@ pub record IsShrunk (p : Problem) (count : ℕ) (kept : List Bool) (families : L
 -- no articulation was dropped, or it is claimed that those left don't hold
 abbrev pub IsDropped : List Bool → List Bool → List Claim → Type 0
 IsDropped old new more = (new ≡ old) ⊎ Contains more (record { subject = Kept new; holds = false })
+
+-- each flag that is true in one list is true in another
+abbrev pub IsWithin : List Bool → List Bool → Type 0
+IsWithin fewer more = (k : ℕ) → slice_get fewer k ≡ Some true → slice_get more k ≡ Some true

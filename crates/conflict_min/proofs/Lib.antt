@@ -1,0 +1,3 @@
+mod Fewer
+mod Flags
+mod Passes
