@@ -1,0 +1,28 @@
+-- What a line, and a call, makes of told claims with a tree open or none.
+use Rattle.std.specs.Prelude.{◌≡◌, List, [], ◌∷◌, ◌++◌, Option, Some, Result, Ok, Err}
+use Rattle.lits_core.specs.Derivation.{State}
+use Rattle.world_model.specs.Problem.{Problem}
+use Rattle.point_query.specs.Asking.{AskerState}
+use Rattle.cert_text.specs.declared.line.CertLine.{CertLine}
+use Rattle.cert_text.specs.Logs.{Told}
+use Rattle.cert_rules.specs.ClaimLists.{Claim, Block}
+use Rattle.cert_rules.specs.ClaimWriting.{ClaimsKeepUp}
+use Rattle.search_log.specs.declared.fault.StepFault.{StepFault}
+use Rattle.split_search.specs.Claiming.{ClaimsBegin, ToldClaims}
+
+-- a line leads from one tree, or none, and some claims to others, whatever lines came before it
+abbrev pub LineLeads : Problem → State → CertLine → Option Block → List Claim → Option Block → List Claim → Type 0
+LineLeads p state line block claims next more =
+    (lines : List CertLine) → ClaimsKeepUp p lines [] state block claims → ClaimsKeepUp p (lines ++ line ∷ []) [] state next more
+
+-- told lines with this tree open and these claims are later ones with that tree and those claims
+abbrev pub LeadsTo : Problem → Told → Told → AskerState → AskerState → Option Block → List Claim → Option Block → List Claim → Type 0
+LeadsTo p old new one other block claims next more =
+    (lines : List CertLine) → old ≡ Some lines → ClaimsBegin p one.solver.waiting one.solver.state block claims lines →
+    ToldClaims p new other.solver.waiting other.solver.state next more
+
+-- so they are after Ok, and after a fault with some tree and some claims
+abbrev pub LeadsIf : {T : Type 0} → Problem → Result T StepFault → Told → Told → AskerState → AskerState → Option Block → List Claim → Option Block → List Claim → Type 0
+LeadsIf p (Ok value) old new one other block claims next more = LeadsTo p old new one other block claims next more
+LeadsIf p (Err fault) old new one other block claims next more =
+    (some_block : Option Block) × (some_claims : List Claim) × LeadsTo p old new one other block claims some_block some_claims
