@@ -98,9 +98,9 @@ module _ (p : Problem) (place : ℕ) (kept : List Bool) (families : List Family)
 -- where all are gone through, those that are kept are the least conflict
 pub least_of : (p : Problem) (kept : List Bool) (families : List Family) → IsShrunk p (length p.articulations) kept families → IsLeastConflict p kept × AreLosses p kept families
 least_of p kept families so = (
-    record { flags = so.flags; inconsistent = so.inconsistent; least = least },
-    record { count = counted; each = λ m place f at of. met_by_fewer p (set kept place false) (without_at p kept place) f (later place (set kept place false) (within_cut p.articulations kept place so.flags)) (each m place f at of) },
-  )
+  record { flags = so.flags; inconsistent = so.inconsistent; least = least },
+  record { count = counted; each = λ m place f at of. met_by_fewer p (set kept place false) (without_at p kept place) f (later place (set kept place false) (within_cut p.articulations kept place so.flags)) (each m place f at of) },
+)
   where
     whole : take (length p.articulations) kept ≡ kept
     whole = take_all (length p.articulations) kept (omega (arith, so.flags))

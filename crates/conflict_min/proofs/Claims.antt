@@ -1,0 +1,61 @@
+-- What is claimed over the steps of a pass.
+use Rattle.std.proofs.Common.{◌≡◌, ℕ, ◌+◌, ◌<◌, Bool, true, false, List, [], ◌∷◌, ◌++◌, ◌⊎◌, inl, inr, map, length, take, get_or, set, Option, Some, None, Result, Ok, Err, Contains, All, sym, ap, ◌∙◌, subst, arith, eq-eqb}
+use Rattle.std.specs.Prelude.{if◌then◌else◌}
+use Rattle.std.proofs.lemmas.List.{map_more}
+use Rattle.std.proofs.lemmas.List.Elements.{All-cons, All-weaker, All-contains_itself, Contains-append_left, Contains-append_right}
+use Rattle.world_model.specs.Problem.{Problem}
+use Rattle.world_model.specs.Questions.{HasFlags}
+use Rattle.point_query.specs.Asking.{AskerState}
+use Rattle.cert_text.specs.declared.line.Subject.TheVariants.{Kept}
+use Rattle.cert_text.specs.Logs.{Told}
+use Rattle.cert_rules.specs.declared.RejectKind.{RejectKind}
+use Rattle.cert_rules.specs.declared.RejectKind.TheVariants.{WrongSubject}
+use Rattle.cert_rules.specs.ClaimLists.{subject_fault, Claim}
+use Rattle.claim_blocks.specs.Blocks.{claimed, AreClaimsTold, AreClaimsMade, FromClaims}
+use Rattle.conflict_min.specs.Conflicts.{loss_claims, conflict_claims}
+use Rattle.conflict_min.specs.Shrinking.{IsDropped}
+
+-- a flag for each articulation makes a subject
+pub flags_named : (p : Problem) (flags : List Bool) → HasFlags p flags → subject_fault p (Kept flags) ≡ None
+flags_named p flags has = ap {B = Option RejectKind} (λ same. if same then None else Some WrongSubject) (eq-eqb (length flags) (length p.articulations) has)
+
+-- claims that were made are told, whatever comes of the next step
+pub made_told : (p : Problem) (IsMade : List Claim → Type 0) (old new : Told) (one other : AskerState) → FromClaims p old one (λ claims. AreClaimsMade p IsMade claims new other) →
+    FromClaims p old one (λ claims. AreClaimsTold p new other)
+made_told p IsMade old new one other first lines claims is k =
+    let made = first lines claims is k in record { block = None; claims = claims ++ made.more; told_claims = made.told_claims }
+
+-- that the articulations with these flags don't hold together
+abbrev fails : List Bool → Claim
+fails kept = record { subject = Kept kept; holds = false }
+
+-- two articulations dropped one after the other
+pub dropped_joins : (a b c : List Bool) (one two : List Claim) → IsDropped a b one → IsDropped b c two → IsDropped a c (one ++ two)
+dropped_joins a b c one two (inl first) (inl second) = inl (second ∙ first)
+dropped_joins a b c one two (inr first) (inl second) = inr (Contains-append_left one two (fails c) (subst (λ flags. Contains one (fails flags)) (sym second) first))
+dropped_joins a b c one two first (inr second) = inr (Contains-append_right one two (fails c) second)
+
+-- all were claimed to fail, and then some were dropped
+pub dropped_claimed : (all kept : List Bool) (one two : List Claim) → one ≡ claimed (Kept all) false → IsDropped all kept two → Contains (one ++ two) (fails kept)
+dropped_claimed all kept one two is (inl same) =
+    Contains-append_left one two (fails kept)
+    (subst (λ claims. Contains claims (fails kept)) (sym is) (subst (λ flags. Contains (claimed (Kept all) false) (fails flags)) (sym same) (All-contains_itself (claimed (Kept all) false) 0 (fails all) (omega arith))))
+dropped_claimed all kept one two is (inr claim) = Contains-append_right one two (fails kept) claim
+
+-- and then the losses were claimed
+pub conflict_claimed : (kept : List Bool) (one two : List Claim) → Contains one (fails kept) → two ≡ loss_claims kept → All (Contains (one ++ two)) (conflict_claims kept)
+conflict_claimed kept one two claim is =
+    All-cons (Contains (one ++ two)) (fails kept) (loss_claims kept) (Contains-append_left one two (fails kept) claim)
+    (subst (All (Contains (one ++ two))) is (All-weaker (Contains two) (Contains (one ++ two)) (λ claim. Contains-append_right one two claim) two (All-contains_itself two)))
+
+-- that they hold together without the one at a place
+abbrev pub loss : List Bool → ℕ → Claim
+loss kept place = record { subject = Kept (set kept place false); holds = true }
+
+-- one more loss
+pub losses_more : (kept : List Bool) (places : List ℕ) (nth place : ℕ) (one two : List Claim) → nth < length places → place ≡ get_or places nth place →
+    one ≡ map (loss kept) (take nth places) → two ≡ claimed (Kept (set kept place false)) true → one ++ two ≡ map (loss kept) (take (nth + 1) places)
+losses_more kept places nth place one two low is first second =
+    ap (λ claims. claims ++ two) first
+    ∙ ap (λ claims. map (loss kept) (take nth places) ++ claims) (second ∙ ap (λ place. loss kept place ∷ []) is)
+    ∙ sym (map_more (loss kept) places nth place low)
