@@ -1,5 +1,5 @@
 //! Articulations dropped one after the other.
-ghost use Rattle.std.specs.Prelude.{◌≡◌, ◌+◌, ◌<◌, true, false, length, set, IfOk, OnOk};
+ghost use Rattle.std.specs.Prelude.{◌≡◌, ◌+◌, ◌<◌, true, false, [], ◌∷◌, ◌++◌, length, set, IfOk, OnOk};
 ghost use Rattle.world_model.specs.Problem.{restricted};
 ghost use Rattle.world_model.specs.Questions.{HasFlags, IsConsistent};
 ghost use Rattle.constraint_set.specs.Shape.{shape_of};
@@ -40,6 +40,14 @@ fn settle_kept<L: TreeLog>(
     settle(alloc, &subject, &restricted, asker, log)
 }
 
+// One more family.
+fn add_family(families: &mut Vec<Family>, family: Family) -> Result<(), AllocError>
+    ensures { OnOk result (families.new.items ≡ families.old.items ++ family ∷ []) }
+{
+    families.push(family)?;
+    Ok(())
+}
+
 // Tries without the articulation at a place: it is dropped where those left are in conflict still, and else kept with a family
 // that shows why.
 fn try_without<L: TreeLog>(
@@ -64,7 +72,7 @@ fn try_without<L: TreeLog>(
         Choice::Refuted => Ok(()),
         Choice::Met(family) => {
             kept[place] = true;
-            families.push(family)?;
+            add_family(families, family)?;
             Ok(())
         }
     }
