@@ -33,11 +33,11 @@ made_behind p IsOne IsTwo IsBoth claims first told asker one both two = record {
 pub keeps_join : {T : Type 0} (r : Result T StepFault) (p : Problem) (IsOne : List Claim → Type 0) (IsTwo IsBoth : T → List Claim → Type 0) (a b c : Told) (one two three : AskerState) → AddsLines a b →
     ((value : T) (first second : List Claim) → IsOne first → IsTwo value second → IsBoth value (first ++ second)) → FromClaims p a one (λ claims. AreClaimsMade p IsOne claims b two) →
     KeepsClaims p r IsTwo b c two three → KeepsClaims p r IsBoth a c one three
-keeps_join (Ok value) p IsOne IsTwo IsBoth a b c one two three adds both first second lines claims is k =
+keeps_join (Ok value) p IsOne IsTwo IsBoth a b c one two three adds both first second = λ lines claims is k.
     let made = first lines claims is k in
     told_then (ClaimsBegin p two.solver.waiting two.solver.state None (claims ++ made.more)) (AreClaimsMade p (IsBoth value) claims c three) a b lines is adds made.told_claims
     (λ later at begins. made_behind p IsOne (IsTwo value) (IsBoth value) claims made.more c three made.made (both value) (second later (claims ++ made.more) at begins))
-keeps_join (Err fault) p IsOne IsTwo IsBoth a b c one two three adds both first second lines claims is k =
+keeps_join (Err fault) p IsOne IsTwo IsBoth a b c one two three adds both first second = λ lines claims is k.
     let made = first lines claims is k in
     told_then (ClaimsBegin p two.solver.waiting two.solver.state None (claims ++ made.more)) (AreClaimsTold p c three) a b lines is adds made.told_claims
     (λ later at begins. second later (claims ++ made.more) at begins)
@@ -45,7 +45,7 @@ keeps_join (Err fault) p IsOne IsTwo IsBoth a b c one two three adds both first 
 -- what a value makes is made by a wider word
 pub keeps_made : {T : Type 0} (r : Result T StepFault) (p : Problem) (IsMade IsOther : T → List Claim → Type 0) (old new : Told) (one other : AskerState) →
     ((value : T) (more : List Claim) → IsMade value more → IsOther value more) → KeepsClaims p r IsMade old new one other → KeepsClaims p r IsOther old new one other
-keeps_made (Ok value) p IsMade IsOther old new one other wider first lines claims is k =
+keeps_made (Ok value) p IsMade IsOther old new one other wider first = λ lines claims is k.
     let made = first lines claims is k in record { more = made.more; made = wider value made.more made.made; told_claims = made.told_claims }
 keeps_made (Err fault) p IsMade IsOther old new one other wider first = first
 
@@ -54,6 +54,12 @@ pub keeps_err : {T : Type 0} (Q : StepFault → Type 0) (r : Result T StepFault)
     FromClaims p old one (λ claims. AreClaimsTold p new other) → KeepsClaims p r IsMade old new one other
 keeps_err Q (Ok value) p IsMade old new one other h first = absurd h
 keeps_err Q (Err fault) p IsMade old new one other h first = first
+
+-- claims that are made are told, where a fault comes after them
+pub made_told : (p : Problem) (IsMade : List Claim → Type 0) (old new : Told) (one other : AskerState) → FromClaims p old one (λ claims. AreClaimsMade p IsMade claims new other) →
+    FromClaims p old one (λ claims. AreClaimsTold p new other)
+made_told p IsMade old new one other first lines claims is k =
+    let made = first lines claims is k in record { block = None; claims = claims ++ made.more; told_claims = made.told_claims }
 
 -- the beginning of a list of claims, with further lines that wait
 begins_goes : (p : Problem) (one other : AskerState) (block : Option Block) (claims : List Claim) (told : List CertLine) → AskerGoes one other →
@@ -86,15 +92,15 @@ still_claims p old new one lines claims same is k = subst (λ told. ToldClaims p
 -- nothing was told, and no line waits that did not
 pub keeps_nothing : {T : Type 0} (r : Result T StepFault) (p : Problem) (IsMade : T → List Claim → Type 0) (old new : Told) (one : AskerState) → IfOk r (λ value. IsMade value []) → new ≡ old →
     KeepsClaims p r IsMade old new one one
-keeps_nothing (Ok value) p IsMade old new one none same lines claims is k = stays_made p (IsMade value) claims new one none (still_claims p old new one lines claims same is k)
-keeps_nothing (Err fault) p IsMade old new one none same lines claims is k = stays_told p claims new one (still_claims p old new one lines claims same is k)
+keeps_nothing (Ok value) p IsMade old new one none same = λ lines claims is k. stays_made p (IsMade value) claims new one none (still_claims p old new one lines claims same is k)
+keeps_nothing (Err fault) p IsMade old new one none same = λ lines claims is k. stays_told p claims new one (still_claims p old new one lines claims same is k)
 
 -- nothing was told, by an asker that went on
 pub keeps_step : {T : Type 0} (r : Result T StepFault) (p : Problem) (IsMade : T → List Claim → Type 0) (told : Told) (one other : AskerState) → IfOk r (λ value. IsMade value []) → AskerGoes one other →
     KeepsClaims p r IsMade told told one other
-keeps_step (Ok value) p IsMade told one other none goes lines claims is k =
+keeps_step (Ok value) p IsMade told one other none goes = λ lines claims is k.
     stays_made p (IsMade value) claims told other none (still_claims p told told other lines claims refl is (begins_goes p one other None claims lines goes k))
-keeps_step (Err fault) p IsMade told one other none goes lines claims is k =
+keeps_step (Err fault) p IsMade told one other none goes = λ lines claims is k.
     stays_told p claims told other (still_claims p told told other lines claims refl is (begins_goes p one other None claims lines goes k))
 
 -- the same at a fault, for an answer of any type
@@ -105,5 +111,10 @@ nothing_told p told one other goes lines claims is k =
 -- an asker that went on, and then a step
 pub keeps_after : {T : Type 0} (r : Result T StepFault) (p : Problem) (IsMade : T → List Claim → Type 0) (old new : Told) (one two three : AskerState) → AskerGoes one two →
     KeepsClaims p r IsMade old new two three → KeepsClaims p r IsMade old new one three
-keeps_after (Ok value) p IsMade old new one two three goes step lines claims is k = step lines claims is (begins_goes p one two None claims lines goes k)
-keeps_after (Err fault) p IsMade old new one two three goes step lines claims is k = step lines claims is (begins_goes p one two None claims lines goes k)
+keeps_after (Ok value) p IsMade old new one two three goes step = λ lines claims is k. step lines claims is (begins_goes p one two None claims lines goes k)
+keeps_after (Err fault) p IsMade old new one two three goes step = λ lines claims is k. step lines claims is (begins_goes p one two None claims lines goes k)
+
+-- where nothing was told before
+pub keeps_untold : {T : Type 0} (r : Result T StepFault) (p : Problem) (IsMade : T → List Claim → Type 0) (old new : Told) (one other : AskerState) → old ≡ None → KeepsClaims p r IsMade old new one other
+keeps_untold (Ok value) p IsMade old new one other none = λ lines claims is k. let no : None ≡ Some lines = sym none ∙ is in absurd (cc)
+keeps_untold (Err fault) p IsMade old new one other none = λ lines claims is k. let no : None ≡ Some lines = sym none ∙ is in absurd (cc)

@@ -18,7 +18,8 @@ use Rattle.cert_rules.proofs.ClaimWriting.{claims_put_keep_up_law}
 use Rattle.search_log.specs.declared.fault.StepFault.{StepFault}
 use Rattle.search_log.specs.Logging.{AddsLines, AreToldWith, AllTold, NoneTold, IsFlushed, IsSameButLines}
 use Rattle.split_search.specs.Claiming.{IsClaimBranchAlive, AllClaimBranchesAlive, ClaimsBegin, ToldClaims}
-use Rattle.claim_blocks.specs.Steps.{LineLeads, LeadsTo, LeadsIf}
+use Rattle.claim_blocks.specs.Blocks.{AreClaimsTold}
+use Rattle.claim_blocks.specs.Steps.{LineLeads, LeadsTo, LeadsSomewhere, LeadsIf}
 use Rattle.claim_blocks.proofs.Joins.{told_then}
 
 -- the branches of lines, with one more line that is none
@@ -52,10 +53,7 @@ begins_flushed p (line ∷ waiting) state block claims told k =
     (begins_flushed p waiting state block claims (told ++ Proof line ∷ [])
     (begins_more p (Proof line) (line ∷ waiting) waiting state block block claims claims told refl (λ lines. claims_put_keep_up_law.flushed p lines line waiting state block claims) k))
 
--- where nothing is told, before or after
-pub leads_untold : (p : Problem) (old new : Told) (one other : AskerState) (block next : Option Block) (claims more : List Claim) → old ≡ None → LeadsTo p old new one other block claims next more
-leads_untold p old new one other block next claims more none lines is k = let no : None ≡ Some lines = sym none ∙ is in absurd (cc)
-
+-- where nothing is told any more
 leads_refused : (p : Problem) (old new : Told) (one other : AskerState) (block next : Option Block) (claims more : List Claim) → new ≡ None → LeadsTo p old new one other block claims next more
 leads_refused p old new one other block next claims more none lines is k =
     subst (λ told. ToldClaims p told other.solver.waiting other.solver.state next more) (sym none) tt
@@ -64,23 +62,32 @@ leads_refused p old new one other block next claims more none lines is k =
 pub leads_same : (p : Problem) (told : Told) (one : AskerState) (block : Option Block) (claims : List Claim) → LeadsTo p told told one one block claims block claims
 leads_same p told one block claims lines is k = subst (λ told. ToldClaims p told one.solver.waiting one.solver.state block claims) (sym is) k
 
+-- a known tree and known claims are some
+pub leads_some : (p : Problem) (old new : Told) (one other : AskerState) (block next : Option Block) (claims more : List Claim) → LeadsTo p old new one other block claims next more →
+    LeadsSomewhere p old new one other block claims
+leads_some p old new one other block next claims more leads lines is k = record { block = next; claims = more; told_claims = leads lines is k }
+
 -- over two calls
 pub leads_join : (p : Problem) (a b c : Told) (one two three : AskerState) (block mid next : Option Block) (claims mids more : List Claim) → AddsLines a b →
     LeadsTo p a b one two block claims mid mids → LeadsTo p b c two three mid mids next more → LeadsTo p a c one three block claims next more
 leads_join p a b c one two three block mid next claims mids more adds first second lines is k =
     told_then (ClaimsBegin p two.solver.waiting two.solver.state mid mids) (ToldClaims p c three.solver.waiting three.solver.state next more) a b lines is adds (first lines is k) second
 
+pub leads_aside : (p : Problem) (a b c : Told) (one two three : AskerState) (block mid : Option Block) (claims mids : List Claim) → AddsLines a b → LeadsTo p a b one two block claims mid mids →
+    LeadsSomewhere p b c two three mid mids → LeadsSomewhere p a c one three block claims
+leads_aside p a b c one two three block mid claims mids adds first second lines is k =
+    told_then (ClaimsBegin p two.solver.waiting two.solver.state mid mids) (AreClaimsTold p c three) a b lines is adds (first lines is k) second
+
 pub leads_behind : {T : Type 0} (r : Result T StepFault) (p : Problem) (a b c : Told) (one two three : AskerState) (block mid next : Option Block) (claims mids more : List Claim) → AddsLines a b →
     LeadsTo p a b one two block claims mid mids → LeadsIf p r b c two three mid mids next more → LeadsIf p r a c one three block claims next more
 leads_behind (Ok value) p a b c one two three block mid next claims mids more adds first second = leads_join p a b c one two three block mid next claims mids more adds first second
-leads_behind (Err fault) p a b c one two three block mid next claims mids more adds first second =
-    (second.0, second.1, leads_join p a b c one two three block mid second.0 claims mids second.1 adds first second.2)
+leads_behind (Err fault) p a b c one two three block mid next claims mids more adds first second = leads_aside p a b c one two three block mid claims mids adds first second
 
--- at a fault, whatever tree was to be open
-pub leads_err : {T : Type 0} (Q : StepFault → Type 0) (r : Result T StepFault) (p : Problem) (old new : Told) (one other : AskerState) (block next some_block : Option Block) (claims more some_claims : List Claim) →
-    IsErrAnd r Q → LeadsTo p old new one other block claims some_block some_claims → LeadsIf p r old new one other block claims next more
-leads_err Q (Ok value) p old new one other block next some_block claims more some_claims h leads = absurd h
-leads_err Q (Err fault) p old new one other block next some_block claims more some_claims h leads = (some_block, some_claims, leads)
+-- at a fault, whatever was to be told
+pub leads_err : {T : Type 0} (Q : StepFault → Type 0) (r : Result T StepFault) (p : Problem) (old new : Told) (one other : AskerState) (block next : Option Block) (claims more : List Claim) → IsErrAnd r Q →
+    LeadsSomewhere p old new one other block claims → LeadsIf p r old new one other block claims next more
+leads_err Q (Ok value) p old new one other block next claims more h leads = absurd h
+leads_err Q (Err fault) p old new one other block next claims more h leads = leads
 
 -- the waiting lines are put, or none is
 leads_all_told : (p : Problem) (old new : Told) (one other : AskerState) (block : Option Block) (claims : List Claim) → IsSameButLines one other → AllTold old new one other →
@@ -122,7 +129,8 @@ pub leads_put_if : {T : Type 0} (r : Result T StepFault) (p : Problem) (old new 
     one.solver.waiting ≡ [] → is_branch line ≡ false → LineLeads p one.solver.state line block claims next more → OnOk r (IsToldWith old line new) → OnErr r (new ≡ None) →
     LeadsIf p r old new one one block claims next more
 leads_put_if (Ok value) p old new one line block next claims more none leaf leads told err = leads_put p old new one line block next claims more none leaf leads told
-leads_put_if (Err fault) p old new one line block next claims more none leaf leads told err = (next, more, leads_refused p old new one one block next claims more err)
+leads_put_if (Err fault) p old new one line block next claims more none leaf leads told err =
+    leads_some p old new one one block next claims more (leads_refused p old new one one block next claims more err)
 
 -- a line leads on by an asker with the same clauses
 pub leads_alike : (p : Problem) (one other : AskerState) (line : CertLine) (block next : Option Block) (claims more : List Claim) → IsSameButLines one other →
