@@ -1,5 +1,5 @@
 -- What is claimed over the steps of a pass.
-use Rattle.std.proofs.Common.{◌≡◌, ℕ, ◌+◌, ◌<◌, Bool, true, false, List, [], ◌∷◌, ◌++◌, ◌⊎◌, inl, inr, map, length, take, get_or, set, Option, Some, None, Result, Ok, Err, Contains, All, sym, ap, ◌∙◌, subst, arith, eq-eqb}
+use Rattle.std.proofs.Common.{◌≡◌, ℕ, ◌+◌, ◌<◌, Bool, true, false, List, [], ◌∷◌, ◌++◌, ◌⊎◌, inl, inr, map, length, take, get_or, set, Option, Some, None, Result, Ok, Err, Contains, All, sym, ap, ◌∙◌, subst, arith, eq-eqb, refl}
 use Rattle.std.specs.Prelude.{if◌then◌else◌}
 use Rattle.std.proofs.lemmas.List.{map_more}
 use Rattle.std.proofs.lemmas.List.Elements.{All-cons, All-weaker, All-contains_itself, Contains-append_left, Contains-append_right}
@@ -11,7 +11,12 @@ use Rattle.cert_text.specs.Logs.{Told}
 use Rattle.cert_rules.specs.declared.RejectKind.{RejectKind}
 use Rattle.cert_rules.specs.declared.RejectKind.TheVariants.{WrongSubject}
 use Rattle.cert_rules.specs.ClaimLists.{subject_fault, Claim}
-use Rattle.claim_blocks.specs.Blocks.{claimed, AreClaimsTold, AreClaimsMade, FromClaims}
+use Rattle.search_log.specs.declared.fault.StepFault.TheVariants.{NoMemory}
+use Rattle.search_log.specs.Logging.{AddsLines}
+use Rattle.split_search.specs.declared.choice.Choice.{Choice}
+use Rattle.split_search.specs.declared.choice.Choice.TheVariants.{Refuted}
+use Rattle.claim_blocks.specs.Blocks.{claimed, settled, AreClaimsTold, AreClaimsMade, FromClaims}
+use Rattle.claim_blocks.proofs.Joins.{keeps_join, keeps_made}
 use Rattle.conflict_min.specs.Conflicts.{loss_claims, conflict_claims}
 use Rattle.conflict_min.specs.Shrinking.{IsDropped}
 
@@ -19,15 +24,45 @@ use Rattle.conflict_min.specs.Shrinking.{IsDropped}
 pub flags_named : (p : Problem) (flags : List Bool) → HasFlags p flags → subject_fault p (Kept flags) ≡ None
 flags_named p flags has = ap {B = Option RejectKind} (λ same. if same then None else Some WrongSubject) (eq-eqb (length flags) (length p.articulations) has)
 
--- claims that were made are told, whatever comes of the next step
+-- claims that were made are so by a wider word, and are told, whatever comes of the next step
+pub made_wider : (p : Problem) (IsOne IsTwo : List Claim → Type 0) (old new : Told) (one other : AskerState) → ((more : List Claim) → IsOne more → IsTwo more) →
+    FromClaims p old one (λ claims. AreClaimsMade p IsOne claims new other) → FromClaims p old one (λ claims. AreClaimsMade p IsTwo claims new other)
+made_wider p IsOne IsTwo old new one other wider first = keeps_made {T = Unit {0}} (Ok tt) p (λ _. IsOne) (λ _. IsTwo) old new one other (λ _. wider) first
+
 pub made_told : (p : Problem) (IsMade : List Claim → Type 0) (old new : Told) (one other : AskerState) → FromClaims p old one (λ claims. AreClaimsMade p IsMade claims new other) →
     FromClaims p old one (λ claims. AreClaimsTold p new other)
-made_told p IsMade old new one other first lines claims is k =
+made_told p IsMade old new one other first = λ lines claims is k.
     let made = first lines claims is k in record { block = None; claims = claims ++ made.more; told_claims = made.told_claims }
 
+-- and they are so over two steps, also where the second fails
+pub made_joins : (p : Problem) (IsOne IsTwo IsBoth : List Claim → Type 0) (a b c : Told) (one two three : AskerState) → AddsLines a b →
+    ((first second : List Claim) → IsOne first → IsTwo second → IsBoth (first ++ second)) → FromClaims p a one (λ claims. AreClaimsMade p IsOne claims b two) →
+    FromClaims p b two (λ claims. AreClaimsMade p IsTwo claims c three) → FromClaims p a one (λ claims. AreClaimsMade p IsBoth claims c three)
+made_joins p IsOne IsTwo IsBoth a b c one two three adds both first second =
+    keeps_join {T = Unit {0}} (Ok tt) p IsOne (λ _. IsTwo) (λ _. IsBoth) a b c one two three adds (λ _. both) first second
+
+pub told_joins : (p : Problem) (IsOne : List Claim → Type 0) (a b c : Told) (one two three : AskerState) → AddsLines a b →
+    FromClaims p a one (λ claims. AreClaimsMade p IsOne claims b two) → FromClaims p b two (λ claims. AreClaimsTold p c three) → FromClaims p a one (λ claims. AreClaimsTold p c three)
+told_joins p IsOne a b c one two three adds first second =
+    keeps_join {T = Unit {0}} (Err NoMemory) p IsOne (λ _ more. more ≡ more) (λ _ more. more ≡ more) a b c one two three adds (λ _ first second _ _. refl) first second
+
 -- that the articulations with these flags don't hold together
-abbrev fails : List Bool → Claim
+abbrev pub fails : List Bool → Claim
 fails kept = record { subject = Kept kept; holds = false }
+
+-- what comes of trying without an articulation
+pub refuted_dropped : (p : Problem) (old tried kept : List Bool) (choice : Choice) (a b : Told) (one two : AskerState) → tried ≡ kept → choice ≡ Refuted →
+    FromClaims p a one (λ claims. AreClaimsMade p (λ more. more ≡ settled (Kept tried) choice) claims b two) → FromClaims p a one (λ claims. AreClaimsMade p (IsDropped old kept) claims b two)
+refuted_dropped p old tried kept choice a b one two same is first =
+    made_wider p (λ more. more ≡ settled (Kept tried) choice) (IsDropped old kept) a b one two
+    (λ more made. inr (subst (λ claims. Contains claims (fails kept)) (sym (made ∙ ap (settled (Kept tried)) is ∙ ap (λ flags. claimed (Kept flags) false) same)) (fails_claimed kept))) first
+  where
+    fails_claimed : (kept : List Bool) → Contains (claimed (Kept kept) false) (fails kept)
+    fails_claimed kept = All-contains_itself (claimed (Kept kept) false) 0 (fails kept) (omega arith)
+
+pub kept_undropped : (p : Problem) (old kept : List Bool) (IsMade : List Claim → Type 0) (a b : Told) (one two : AskerState) → kept ≡ old →
+    FromClaims p a one (λ claims. AreClaimsMade p IsMade claims b two) → FromClaims p a one (λ claims. AreClaimsMade p (IsDropped old kept) claims b two)
+kept_undropped p old kept IsMade a b one two same first = made_wider p IsMade (IsDropped old kept) a b one two (λ more made. inl same) first
 
 -- two articulations dropped one after the other
 pub dropped_joins : (a b c : List Bool) (one two : List Claim) → IsDropped a b one → IsDropped b c two → IsDropped a c (one ++ two)

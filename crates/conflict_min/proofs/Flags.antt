@@ -1,7 +1,8 @@
 -- Lists of flags: which keep fewer than others, and the places of those that are true.
-use Rattle.std.proofs.Common.{◌≡◌, ℕ, zero, suc, ◌+◌, ◌<◌, Bool, true, false, List, [], ◌∷◌, ◌++◌, map, length, take, drop, set, refl, sym, ap, ◌∙◌, subst, arith, is_lt}
+use Rattle.std.proofs.Common.{◌≡◌, ℕ, zero, suc, ◌+◌, ◌<◌, Bool, true, false, List, [], ◌∷◌, ◌++◌, map, length, get_or, take, drop, set, length-take-le, refl, sym, ap, ◌∙◌, subst, arith, is_lt}
 use Rattle.std.specs.Prelude.{Option, Some, None, slice_get}
 use Rattle.std.proofs.lemmas.Bool.{false≢true}
+use Rattle.std.proofs.lemmas.List.{take_more}
 use Rattle.std.proofs.lemmas.Option.{same_Some}
 use Rattle.world_model.specs.Questions.{flags_cmp}
 use Rattle.conflict_min.specs.Conflicts.{places_from}
@@ -62,15 +63,26 @@ set_back (x ∷ xs) [] (suc place) low h = refl
 set_back (x ∷ xs) (b ∷ kept) (suc place) low h = ap (λ flags. b ∷ flags) (set_back xs kept place (omega arith) h)
 
 -- the places of true flags, with one more flag
-pub places_true : (j : ℕ) (flags : List Bool) → places_from j (flags ++ true ∷ []) ≡ places_from j flags ++ (j + length flags) ∷ []
+places_true : (j : ℕ) (flags : List Bool) → places_from j (flags ++ true ∷ []) ≡ places_from j flags ++ (j + length flags) ∷ []
 places_true j [] = ap (λ k. k ∷ []) (omega arith)
 places_true j (true ∷ flags) = ap (λ ks. j ∷ ks) (places_true (j + 1) flags ∙ ap (λ k. places_from (j + 1) flags ++ k ∷ []) (omega arith))
 places_true j (false ∷ flags) = places_true (j + 1) flags ∙ ap (λ k. places_from (j + 1) flags ++ k ∷ []) (omega arith)
 
-pub places_false : (j : ℕ) (flags : List Bool) → places_from j (flags ++ false ∷ []) ≡ places_from j flags
+places_false : (j : ℕ) (flags : List Bool) → places_from j (flags ++ false ∷ []) ≡ places_from j flags
 places_false j [] = refl
 places_false j (true ∷ flags) = ap (λ ks. j ∷ ks) (places_false (j + 1) flags)
 places_false j (false ∷ flags) = places_false (j + 1) flags
+
+-- those of the first flags, with the next one
+pub places_more : (flags : List Bool) (place : ℕ) → place < length flags → get_or flags place false ≡ true → places_from 0 (take (place + 1) flags) ≡ places_from 0 (take place flags) ++ place ∷ []
+places_more flags place low kept =
+    ap (places_from 0) (take_more flags place false low ∙ ap (λ b. take place flags ++ b ∷ []) kept)
+    ∙ places_true 0 (take place flags)
+    ∙ ap (λ k. places_from 0 (take place flags) ++ k ∷ []) (omega (arith, length-take-le place flags (omega arith)))
+
+pub places_less : (flags : List Bool) (place : ℕ) → place < length flags → get_or flags place false ≡ false → places_from 0 (take (place + 1) flags) ≡ places_from 0 (take place flags)
+places_less flags place low off =
+    ap (places_from 0) (take_more flags place false low ∙ ap (λ b. take place flags ++ b ∷ []) off) ∙ places_false 0 (take place flags)
 
 -- they are those of flags
 pub places_within : (j : ℕ) (flags : List Bool) (m place : ℕ) → slice_get (places_from j flags) m ≡ Some place → place < j + length flags

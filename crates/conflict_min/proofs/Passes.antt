@@ -1,9 +1,9 @@
 -- What a pass over the articulations leaves: the least conflict.
-use Rattle.std.proofs.Common.{◌≡◌, ℕ, zero, suc, ◌+◌, ◌<◌, ◌≤◌, Bool, true, false, not, List, [], ◌∷◌, ◌++◌, ◌⊎◌, inl, inr, length, take, drop, set, refl, sym, ap, ◌∙◌, subst, arith, is_lt, IsTrue, add-one, length-set, length-take-le, drop-drop, take_all, set-set}
+use Rattle.std.proofs.Common.{◌≡◌, ℕ, zero, suc, ◌+◌, ◌<◌, ◌≤◌, Bool, true, false, not, List, [], ◌∷◌, ◌++◌, ◌⊎◌, inl, inr, length, get_or, take, drop, set, refl, sym, ap, ◌∙◌, subst, arith, is_lt, IsTrue, add-one, length-set, length-take-le, drop-drop, take_all, set-set}
 use Rattle.std.specs.Prelude.{Some, slice_get}
 use Rattle.std.proofs.lemmas.Bool.{cases_Bool}
-use Rattle.std.proofs.lemmas.List.{set_split, take-set, take-set-le, take_more_set, drop-set-lt, length_push, length-map}
-use Rattle.std.proofs.lemmas.Option.{same_Some}
+use Rattle.std.proofs.lemmas.List.{set_split, take-set, take-set-le, get_or-set_same, drop-set-lt, length_push, length-map}
+use Rattle.std.proofs.lemmas.Option.{same_Some, slice_get_read}
 use Rattle.world_model.specs.Problem.{Problem, restricted}
 use Rattle.world_model.specs.Family.{Family}
 use Rattle.world_model.specs.Questions.{HasFlags, IsConsistent, IsLeastConflict, flags_cmp}
@@ -11,7 +11,7 @@ use Rattle.split_search.specs.Choosing.{IsMetBy}
 use Rattle.conflict_min.specs.Conflicts.{all_kept, places_from, AreLosses}
 use Rattle.conflict_min.specs.Shrinking.{without_at, IsShrunk, IsWithin}
 use Rattle.conflict_min.proofs.Fewer.{met_by_fewer}
-use Rattle.conflict_min.proofs.Flags.{within_cut, IsBefore, is_before, set_back, places_true, places_false, places_within, place_found, item_beside}
+use Rattle.conflict_min.proofs.Flags.{within_cut, IsBefore, is_before, set_back, places_more, places_less, places_within, place_found, item_beside}
 
 pub shrunk_none : (p : Problem) → (IsConsistent p (all_kept p) → ⊥) → IsShrunk p 0 (all_kept p) []
 shrunk_none p inconsistent = record {
@@ -61,7 +61,9 @@ module _ (p : Problem) (place : ℕ) (kept : List Bool) (families : List Family)
   }
     where
       same : places_from 0 (take (place + 1) (set kept place false)) ≡ places_from 0 (take place kept)
-      same = ap (places_from 0) (take_more_set kept place false low_kept) ∙ places_false 0 (take place kept)
+      same =
+          places_less (set kept place false) place (omega (arith, length-set kept place false, low_kept)) (get_or-set_same kept place false false low_kept)
+          ∙ ap (places_from 0) (take-set kept place false)
 
       before : (m other : ℕ) → slice_get (places_from 0 (take (place + 1) (set kept place false))) m ≡ Some other → without_at p (set kept place false) other ≡ without_at p kept other
       before m other at =
@@ -80,11 +82,7 @@ module _ (p : Problem) (place : ℕ) (kept : List Bool) (families : List Family)
   }
     where
       more : places_from 0 (take (place + 1) kept) ≡ places_from 0 (take place kept) ++ place ∷ []
-      more =
-          ap (λ flags. places_from 0 (take (place + 1) flags)) (sym (set_back p.articulations kept place low so.others))
-          ∙ ap (places_from 0) (take_more_set kept place true low_kept)
-          ∙ places_true 0 (take place kept)
-          ∙ ap (λ k. places_from 0 (take place kept) ++ k ∷ []) (omega (arith, length-take-le place kept (omega (arith, low_kept))))
+      more = places_more kept place low_kept (ap (λ flags. get_or flags place false) (sym (set_back p.articulations kept place low so.others)) ∙ get_or-set_same kept place true false low_kept)
 
       by : (m other : ℕ) (g : Family) → slice_get (places_from 0 (take place kept) ++ place ∷ []) m ≡ Some other → slice_get (families ++ f ∷ []) m ≡ Some g →
           IsMetBy (restricted p (without_at p kept other)) g
@@ -127,3 +125,17 @@ least_of p kept families so = (
       | inl less ↦ absurd (inconsistent (consistent other flags less))
       | inr at_least ↦ ap not at_least
     ]
+
+-- a family of a conflict, and the place of its articulation: the flags and families as they are read
+pub loss_at : (p : Problem) (kept flags : List Bool) (families shown : List Family) (places : List ℕ) (nth place : ℕ) (f : Family) → AreLosses p kept families → flags ≡ kept → shown ≡ families →
+    places ≡ places_from 0 kept → nth < length shown → place ≡ get_or places nth place → f ≡ get_or shown nth f → (place < length flags) × IsMetBy (restricted p (set flags place false)) f
+loss_at p kept flags families shown places nth place f losses same_flags same_families same_places low is of = (
+    omega (arith, places_within 0 kept nth place at, ap length same_flags),
+    subst (λ flags. IsMetBy (restricted p (set flags place false)) f) (sym same_flags)
+    (losses.each nth place f at (subst (λ shown. slice_get shown nth ≡ Some f) same_families (slice_get_read shown (length shown) nth f refl low of))),
+  )
+  where
+    at : slice_get (places_from 0 kept) nth ≡ Some place
+    at =
+        subst (λ places. slice_get places nth ≡ Some place) same_places
+        (slice_get_read places (length shown) nth place (ap length same_families ∙ losses.count ∙ ap length (sym same_places)) low is)
