@@ -1,4 +1,4 @@
-use Rattle.std.proofs.Common.{◌≡◌, [], Some, None, sym, ap, subst}
+use Rattle.std.proofs.Common.{◌≡◌, [], Some, None, sym, subst}
 use Rattle.search_log.specs.declared.fault.StepFault.TheVariants.{NoMemory}
 use Rattle.search_log.proofs.Logs.{log_memory}
 use Rattle.cert_rules.specs.ClaimWriting.{open_at}

@@ -1,4 +1,4 @@
-use Rattle.std.proofs.Common.{◌≡◌, false, ◌++◌, [], None, sym, ◌∙◌, subst}
+use Rattle.std.proofs.Common.{◌≡◌, false, ◌++◌, None, sym, subst}
 use Rattle.cert_rules.specs.ClaimWriting.{open_at}
 use Rattle.cert_rules.proofs.ClaimWriting.{claims_put_keep_up_law}
 use Rattle.split_search.specs.Choosing.{IsChoice}

@@ -1,4 +1,4 @@
-use Rattle.std.proofs.Common.{◌≡◌, true, ◌++◌, [], None, ◌∙◌, sym, subst}
+use Rattle.std.proofs.Common.{◌≡◌, true, ◌++◌, None}
 use Rattle.cert_rules.specs.ClaimWriting.{open_at}
 use Rattle.cert_rules.proofs.ClaimWriting.{claims_put_keep_up_law}
 use Rattle.search_log.proofs.Logs.{log_joins}

@@ -1,4 +1,4 @@
-use Rattle.std.proofs.Common.{◌≡◌, ◌≤◌, length, [], Some, None, Ok, Err, sym, ◌∙◌, refl, subst}
+use Rattle.std.proofs.Common.{◌≡◌, ◌≤◌, length, None, Ok, Err, sym, ◌∙◌, refl, subst}
 use Rattle.cert_rules.specs.ClaimWriting.{open_at}
 use Rattle.search_log.proofs.Logs.{log_joins, log_ok_as, log_as}
 use Rattle.claim_blocks.specs.Blocks.{settled}

@@ -1,4 +1,4 @@
-use Rattle.std.proofs.Common.{◌≡◌, true, ◌++◌, [], ◌∷◌, None, Ok, sym, ◌∙◌, ap, refl, subst}
+use Rattle.std.proofs.Common.{◌≡◌, true, ◌++◌, None, Ok, sym, ◌∙◌, refl, subst}
 use Rattle.search_log.specs.declared.fault.StepFault.TheVariants.{NoMemory}
 use Rattle.search_log.proofs.Logs.{asker_stays, log_stays_ok, log_memory}
 use Rattle.cert_rules.proofs.ClaimWriting.{claims_put_keep_up_law}
