@@ -130,10 +130,10 @@ least_of p kept families so = (
 pub loss_at : (p : Problem) (kept flags : List Bool) (families shown : List Family) (places : List ℕ) (nth place : ℕ) (f : Family) → AreLosses p kept families → flags ≡ kept → shown ≡ families →
     places ≡ places_from 0 kept → nth < length shown → place ≡ get_or places nth place → f ≡ get_or shown nth f → (place < length flags) × IsMetBy (restricted p (set flags place false)) f
 loss_at p kept flags families shown places nth place f losses same_flags same_families same_places low is of = (
-    omega (arith, places_within 0 kept nth place at, ap length same_flags),
-    subst (λ flags. IsMetBy (restricted p (set flags place false)) f) (sym same_flags)
-    (losses.each nth place f at (subst (λ shown. slice_get shown nth ≡ Some f) same_families (slice_get_read shown (length shown) nth f refl low of))),
-  )
+  omega (arith, places_within 0 kept nth place at, ap length same_flags),
+  subst (λ flags. IsMetBy (restricted p (set flags place false)) f) (sym same_flags)
+      (losses.each nth place f at (subst (λ shown. slice_get shown nth ≡ Some f) same_families (slice_get_read shown (length shown) nth f refl low of))),
+)
   where
     at : slice_get (places_from 0 kept) nth ≡ Some place
     at =
