@@ -1,16 +1,12 @@
 -- What is claimed over the steps of a pass.
-use Rattle.std.proofs.Common.{◌≡◌, ℕ, ◌+◌, ◌<◌, Bool, true, false, List, [], ◌∷◌, ◌++◌, ◌⊎◌, inl, inr, map, length, take, get_or, set, Option, Some, None, Result, Ok, Err, Contains, All, sym, ap, ◌∙◌, subst, arith, eq-eqb, refl}
-use Rattle.std.specs.Prelude.{if◌then◌else◌}
+use Rattle.std.proofs.Common.{◌≡◌, ℕ, ◌+◌, ◌<◌, Bool, true, false, List, [], ◌∷◌, ◌++◌, inl, inr, map, length, take, get_or, set, Ok, Err, Contains, All, sym, ap, ◌∙◌, subst, arith, refl}
 use Rattle.std.proofs.lemmas.List.{map_more}
 use Rattle.std.proofs.lemmas.List.Elements.{All-cons, All-weaker, All-contains_itself, Contains-append_left, Contains-append_right}
 use Rattle.world_model.specs.Problem.{Problem}
-use Rattle.world_model.specs.Questions.{HasFlags}
 use Rattle.point_query.specs.Asking.{AskerState}
 use Rattle.cert_text.specs.declared.line.Subject.TheVariants.{Kept}
 use Rattle.cert_text.specs.Logs.{Told}
-use Rattle.cert_rules.specs.declared.RejectKind.{RejectKind}
-use Rattle.cert_rules.specs.declared.RejectKind.TheVariants.{WrongSubject}
-use Rattle.cert_rules.specs.ClaimLists.{subject_fault, Claim}
+use Rattle.cert_rules.specs.ClaimLists.{Claim}
 use Rattle.search_log.specs.declared.fault.StepFault.TheVariants.{NoMemory}
 use Rattle.search_log.specs.Logging.{AddsLines}
 use Rattle.split_search.specs.declared.choice.Choice.{Choice}
@@ -20,19 +16,10 @@ use Rattle.claim_blocks.proofs.Joins.{keeps_join, keeps_made}
 use Rattle.conflict_min.specs.Conflicts.{loss_claims, conflict_claims}
 use Rattle.conflict_min.specs.Shrinking.{IsDropped}
 
--- a flag for each articulation makes a subject
-pub flags_named : (p : Problem) (flags : List Bool) → HasFlags p flags → subject_fault p (Kept flags) ≡ None
-flags_named p flags has = ap {B = Option RejectKind} (λ same. if same then None else Some WrongSubject) (eq-eqb (length flags) (length p.articulations) has)
-
--- claims that were made are so by a wider word, and are told, whatever comes of the next step
-pub made_wider : (p : Problem) (IsOne IsTwo : List Claim → Type 0) (old new : Told) (one other : AskerState) → ((more : List Claim) → IsOne more → IsTwo more) →
+-- claims that were made are so by a wider word
+made_wider : (p : Problem) (IsOne IsTwo : List Claim → Type 0) (old new : Told) (one other : AskerState) → ((more : List Claim) → IsOne more → IsTwo more) →
     FromClaims p old one (λ claims. AreClaimsMade p IsOne claims new other) → FromClaims p old one (λ claims. AreClaimsMade p IsTwo claims new other)
 made_wider p IsOne IsTwo old new one other wider first = keeps_made {T = Unit {0}} (Ok tt) p (λ _. IsOne) (λ _. IsTwo) old new one other (λ _. wider) first
-
-pub made_told : (p : Problem) (IsMade : List Claim → Type 0) (old new : Told) (one other : AskerState) → FromClaims p old one (λ claims. AreClaimsMade p IsMade claims new other) →
-    FromClaims p old one (λ claims. AreClaimsTold p new other)
-made_told p IsMade old new one other first = λ lines claims is k.
-    let made = first lines claims is k in record { block = None; claims = claims ++ made.more; told_claims = made.told_claims }
 
 -- and they are so over two steps, also where the second fails
 pub made_joins : (p : Problem) (IsOne IsTwo IsBoth : List Claim → Type 0) (a b c : Told) (one two three : AskerState) → AddsLines a b →

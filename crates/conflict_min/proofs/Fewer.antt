@@ -1,9 +1,9 @@
 -- A family that meets a problem meets it where fewer articulations are kept.
-use Rattle.std.proofs.Common.{◌≡◌, ℕ, zero, suc, Bool, true, false, List, [], ◌∷◌, ◌++◌, inl, inr, refl, IsTrue}
+use Rattle.std.proofs.Common.{◌≡◌, suc, Bool, true, false, List, [], ◌∷◌, inl, inr, refl}
 use Rattle.std.specs.Prelude.{Option, Some, None, filter_map}
 use Rattle.std.specs.List.{items_where_true}
-use Rattle.world_model.specs.Problem.{Problem, Constraint, SumRule, constraints, kept_articulations, kept_sums, as_constraint, as_sum, restricted}
-use Rattle.world_model.specs.Family.{Family, holds, sum_holds, meets}
+use Rattle.world_model.specs.Problem.{Problem, constraints, kept_articulations, kept_sums, as_constraint, as_sum, restricted}
+use Rattle.world_model.specs.Family.{Family, holds, sum_holds}
 use Rattle.world_model.proofs.Members.{In, here, there, all_at, all_from, In-left, In-right, from_append, In-filter_map, from_filter_map}
 use Rattle.world_model.proofs.PointRules.{met_parts, met_whole}
 use Rattle.split_search.specs.Choosing.{IsMetBy}

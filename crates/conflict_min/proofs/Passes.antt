@@ -1,5 +1,5 @@
 -- What a pass over the articulations leaves: the least conflict.
-use Rattle.std.proofs.Common.{◌≡◌, ℕ, zero, suc, ◌+◌, ◌<◌, ◌≤◌, Bool, true, false, not, List, [], ◌∷◌, ◌++◌, ◌⊎◌, inl, inr, length, get_or, take, drop, set, refl, sym, ap, ◌∙◌, subst, arith, is_lt, IsTrue, add-one, length-set, length-take-le, drop-drop, take_all, set-set}
+use Rattle.std.proofs.Common.{◌≡◌, ℕ, zero, suc, ◌+◌, ◌<◌, Bool, true, false, not, List, [], ◌∷◌, ◌++◌, ◌⊎◌, inl, inr, length, get_or, take, drop, set, refl, sym, ap, ◌∙◌, subst, arith, is_lt, IsTrue, add-one, length-set, length-take-le, drop-drop, take_all, set-set}
 use Rattle.std.specs.Prelude.{Some, slice_get}
 use Rattle.std.proofs.lemmas.Bool.{cases_Bool}
 use Rattle.std.proofs.lemmas.List.{set_split, take-set, take-set-le, get_or-set_same, drop-set-lt, length_push, length-map}

@@ -1,5 +1,5 @@
 -- How far the articulations have been gone through.
-use Rattle.std.specs.Prelude.{◌≡◌, ℕ, ◌+◌, ◌≤◌, ◌-◌, Bool, true, false, List, [], ◌∷◌, ◌++◌, length, map, take, drop, Some, slice_get, Contains, ◌⊎◌}
+use Rattle.std.specs.Prelude.{◌≡◌, ℕ, ◌+◌, ◌≤◌, Bool, true, false, List, ◌∷◌, ◌++◌, length, take, drop, Some, slice_get, Contains, ◌⊎◌}
 use Rattle.world_model.specs.Problem.{Problem, restricted}
 use Rattle.world_model.specs.Family.{Family}
 use Rattle.world_model.specs.Questions.{HasFlags, IsConsistent}

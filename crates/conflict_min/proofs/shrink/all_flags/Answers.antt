@@ -1,4 +1,3 @@
-use Rattle.std.proofs.Common.{refl, sym}
 use Rattle.std.proofs.lemmas.Result.{IfOk-weaker}
 use Rattle.constraint_set.proofs.Saying.{true_flags}
 use Rattle.conflict_min.proofs.shrink.all_flags.Goals as goal

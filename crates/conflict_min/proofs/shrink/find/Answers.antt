@@ -1,6 +1,5 @@
-use Rattle.std.proofs.Common.{◌≡◌, ◌∙◌, Contains, sym, ap, subst, false}
+use Rattle.std.proofs.Common.{◌≡◌, ◌∙◌, Contains, ap, false}
 use Rattle.cert_text.specs.declared.line.Subject.TheVariants.{Kept}
-use Rattle.split_search.specs.declared.choice.Choice.TheVariants.{Refuted}
 use Rattle.search_log.proofs.Logs.{log_joins, log_ok_as}
 use Rattle.claim_blocks.specs.Blocks.{claimed, settled}
 use Rattle.conflict_min.specs.Conflicts.{loss_claims, IsClaimedOf}

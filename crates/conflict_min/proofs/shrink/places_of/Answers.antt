@@ -1,4 +1,4 @@
-use Rattle.std.proofs.Common.{◌≡◌, ◌∙◌, ℕ, [], ◌∷◌, ◌++◌, Vec, Global, sym, ap}
+use Rattle.std.proofs.Common.{◌∙◌, ℕ, [], ◌∷◌, ◌++◌, Vec, Global, sym, ap}
 use Rattle.conflict_min.proofs.Flags.{places_more, places_less}
 use Rattle.conflict_min.proofs.shrink.places_of.Goals as goal
 use Rattle.conflict_min.proofs.shrink.places_of.Goals.{then-is_kept+in_ok-push, else-is_kept}

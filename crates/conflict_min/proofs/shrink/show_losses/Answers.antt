@@ -1,4 +1,4 @@
-use Rattle.std.proofs.Common.{◌≡◌, ◌+◌, ◌∙◌, map, length, take, false, true, set, sym, ap, subst, arith}
+use Rattle.std.proofs.Common.{◌≡◌, ◌+◌, ◌∙◌, map, length, take, false, true, set, ap, arith}
 use Rattle.search_log.proofs.Logs.{log_joins, log_ok_as}
 use Rattle.cert_text.specs.declared.line.Subject.TheVariants.{Kept}
 use Rattle.claim_blocks.specs.Blocks.{claimed}

@@ -1,4 +1,4 @@
-use Rattle.std.proofs.Common.{◌≡◌, ◌∙◌, true, length, map, inl, refl, sym, ap, subst, arith, Ok}
+use Rattle.std.proofs.Common.{◌∙◌, true, length, inl, refl, sym, ap, subst, arith, Ok}
 use Rattle.std.proofs.lemmas.List.{length-map}
 use Rattle.world_model.specs.Questions.{IsConsistent}
 use Rattle.search_log.proofs.Logs.{log_stays_ok, log_joins, log_ok_as}

@@ -1,7 +1,7 @@
 use Rattle.std.proofs.Common.{◌≡◌, ◌+◌, false, true, set, sym, subst}
 use Rattle.world_model.specs.Problem.{restricted}
 use Rattle.split_search.specs.Choosing.{IsChoice, IsMetBy}
-use Rattle.split_search.specs.declared.choice.Choice.TheVariants.{Met, Refuted}
+use Rattle.split_search.specs.declared.choice.Choice.TheVariants.{Refuted}
 use Rattle.claim_blocks.specs.Blocks.{settled}
 use Rattle.cert_text.specs.declared.line.Subject.TheVariants.{Kept}
 use Rattle.conflict_min.specs.Shrinking.{IsShrunk}
