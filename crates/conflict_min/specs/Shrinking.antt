@@ -1,5 +1,5 @@
 -- How far the articulations have been gone through.
-use Rattle.std.specs.Prelude.{◌≡◌, ℕ, ◌+◌, ◌≤◌, ◌-◌, Bool, true, false, List, [], ◌∷◌, ◌++◌, length, map, take, drop, Some, slice_get, Contains, ◌⊎◌}
+use Rattle.std.specs.Prelude.{◌≡◌, ℕ, ◌+◌, ◌≤◌, Bool, true, false, List, ◌∷◌, ◌++◌, length, take, drop, Some, slice_get, Contains, ◌⊎◌}
 use Rattle.world_model.specs.Problem.{Problem, restricted}
 use Rattle.world_model.specs.Family.{Family}
 use Rattle.world_model.specs.Questions.{HasFlags, IsConsistent}
@@ -26,3 +26,7 @@ pub record IsShrunk (p : Problem) (count : ℕ) (kept : List Bool) (families : L
 -- no articulation was dropped, or it is claimed that those left don't hold
 abbrev pub IsDropped : List Bool → List Bool → List Claim → Type 0
 IsDropped old new more = (new ≡ old) ⊎ Contains more (record { subject = Kept new; holds = false })
+
+-- each flag that is true in one list is true in another
+abbrev pub IsWithin : List Bool → List Bool → Type 0
+IsWithin fewer more = (k : ℕ) → slice_get fewer k ≡ Some true → slice_get more k ≡ Some true

@@ -1,5 +1,5 @@
 //! The least conflict, and what shows that it is one.
-ghost use Rattle.std.specs.Prelude.{IfOk};
+ghost use Rattle.std.specs.Prelude.{◌≡◌, IfOk};
 ghost use Rattle.constraint_set.specs.Shape.{shape_of};
 ghost use Rattle.search_log.specs.Logging.{LogGoes};
 ghost use Rattle.claim_blocks.specs.Blocks.{KeepsClaims};

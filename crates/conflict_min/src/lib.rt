@@ -5,3 +5,6 @@ mod conflict;
 mod shrink;
 
 pub use conflict::{Conflict, ConflictFault, least_conflict};
+
+#[cfg(test)]
+mod tests;

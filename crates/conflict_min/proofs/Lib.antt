@@ -1,0 +1,4 @@
+mod Claims
+mod Fewer
+mod Flags
+mod Passes

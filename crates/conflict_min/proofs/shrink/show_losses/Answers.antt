@@ -1,0 +1,42 @@
+use Rattle.std.proofs.Common.{◌≡◌, ◌+◌, ◌∙◌, map, length, take, false, true, set, ap, arith}
+use Rattle.search_log.proofs.Logs.{log_joins, log_ok_as}
+use Rattle.cert_text.specs.declared.line.Subject.TheVariants.{Kept}
+use Rattle.claim_blocks.specs.Blocks.{claimed}
+use Rattle.conflict_min.specs.Conflicts.{places_from}
+use Rattle.conflict_min.proofs.Claims.{loss, made_joins, losses_more}
+use Rattle.conflict_min.proofs.Passes.{loss_at}
+use Rattle.conflict_min.proofs.shrink.show_losses.Goals as goal
+
+pub show_loss-requires-clause-within : goal.show_loss-requires-clause-within
+show_loss-requires-clause-within g c =
+    (loss_at c.args.problem.now c.args.conflict.now.kept.items c.deref-in-losses.result.now c.args.conflict.now.families.items c.deref-family-items.result.now c.in_ok-places.places.items
+    c.losses.nth c.index.result.now c.family-item.result c.requires.least.1 c.deref-in-losses.ensures.value c.deref-family-items.ensures.value
+    (c.in_ok-places.ensures ∙ ap (places_from 0) c.deref.ensures.value) c.losses-test.true c.index.ensures c.family-item.is).0
+
+pub show_loss-requires-clause-met : goal.show_loss-requires-clause-met
+show_loss-requires-clause-met g c =
+    (loss_at c.args.problem.now c.args.conflict.now.kept.items c.deref-in-losses.result.now c.args.conflict.now.families.items c.deref-family-items.result.now c.in_ok-places.places.items
+    c.losses.nth c.index.result.now c.family-item.result c.requires.least.1 c.deref-in-losses.ensures.value c.deref-family-items.ensures.value
+    (c.in_ok-places.ensures ∙ ap (places_from 0) c.deref.ensures.value) c.losses-test.true c.index.ensures c.family-item.is).1
+
+pub losses-preserved : goal.losses-preserved
+losses-preserved g c =
+    let kept = c.args.conflict.now.kept.items in
+    let places = c.in_ok-places.places.items in
+    let nth = c.losses.nth in
+    let old = c.args.log.now in
+    let here = c.losses.log in
+    let new = c.show_loss.new.log in
+    record {
+      shape = c.show_loss.ensures.shape ∙ c.losses.invariant.shape;
+      made =
+          made_joins c.args.problem.now (λ more. more ≡ map (loss kept) (take nth places)) (λ more. more ≡ claimed (Kept (set c.deref-in-losses.result.now c.index.result.now false)) true)
+          (λ more. more ≡ map (loss kept) (take (nth + 1) places)) (g.L.TreeLog.lines old) (g.L.TreeLog.lines here) (g.L.TreeLog.lines new) c.args.asker.now c.losses.asker c.show_loss.new.asker
+          c.losses.invariant.log.told
+          (λ first second one two.
+          losses_more kept places nth c.index.result.now first second
+          (omega (arith, c.losses-test.true, ap length c.deref-family-items.ensures.value, c.requires.least.1.count, ap length (c.in_ok-places.ensures ∙ ap (places_from 0) c.deref.ensures.value))) c.index.ensures one
+          (two ∙ ap (λ flags. claimed (Kept (set flags c.index.result.now false)) true) c.deref-in-losses.ensures.value))
+          c.losses.invariant.made c.in_ok-show_loss.ensures.keeps;
+      log = log_ok_as _ _ old new (log_joins _ _ old here new (g.met.L.TreeLog.steady_joins old here new) (g.met.L.TreeLog.quiet_joins old here new) c.losses.invariant.log c.in_ok-show_loss.ensures.log);
+    }
