@@ -4,3 +4,6 @@
 mod settle;
 
 pub use settle::{settle, show};
+
+#[cfg(test)]
+mod tests;
