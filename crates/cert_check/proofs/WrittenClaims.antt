@@ -51,7 +51,9 @@ faultless p (Some kind) n next lines number stand e = absurd (stray p n kind lin
 -- so lines after which claims go on with no tree open may stand in a list of claims, with `done` behind them
 goes_on_stands : (p : Problem) (lines : List CertLine) (n : ℕ) (proof : State) (block : Option Block) (made : List Claim) (number : ℕ) (after : State) (claims : List Claim) →
     claim_steps p (Going n (stand_of proof block made)) lines ≡ Going number (stand_of after None claims) → stands (mode_of block) (lines ++ Done ∷ []) ≡ true
-goes_on_stands p [] n proof block made number after claims e = let none : block ≡ None = cc in ap (λ block. stands (mode_of block) (Done ∷ [])) none
+goes_on_stands p [] n proof block made number after claims e =
+    let same : stand_of proof block made ≡ stand_of after None claims = cc in
+    ap (λ (s : ClaimStand). stands (mode_of s.block) (Done ∷ [])) same
 goes_on_stands p (Proof (Derive id lits hints) ∷ lines) n proof None made number after claims e =
     let line = Derive id lits hints in
     goes_on_stands p lines (n + 1) (next_state proof line) None made number after claims
@@ -105,4 +107,4 @@ written_claims_are_accepted_law p lines state claims bytes k spelled short =
     let standing : stands Header all ≡ true = goes_on_stands p lines 1 (claim_start p).proof None [] k.number k.proof claims k.reached in
     let read = standing_lines_are_read_law.whole bytes all spelled standing short in
     ap (λ (read : Reading). answer_of p read.lines read.ends) read
-        ∙ ap (λ status. settle ClaimList status Whole) (claims_put_keep_up_law.done p lines state claims k)
+    ∙ ap (λ status. settle ClaimList status Whole) (claims_put_keep_up_law.done p lines state claims k)
