@@ -1,3 +1,4 @@
 pub mod ReadLemmas
 pub mod WholeLemmas
 pub mod WrittenLemmas
+pub mod WrittenClaims

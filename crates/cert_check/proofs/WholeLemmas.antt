@@ -34,11 +34,11 @@ pub steps_rejected : (tree : Tree) (n : ℕ) (kind : RejectKind) (lines : List C
 steps_rejected tree n kind [] = refl
 steps_rejected tree n kind (line ∷ lines) = steps_rejected tree n kind lines
 
-claims_ended : (p : Problem) (claims : List Claim) (lines : List CertLine) → claim_steps p (Ended claims) lines ≡ Ended claims
+pub claims_ended : (p : Problem) (claims : List Claim) (lines : List CertLine) → claim_steps p (Ended claims) lines ≡ Ended claims
 claims_ended p claims [] = refl
 claims_ended p claims (line ∷ lines) = claims_ended p claims lines
 
-claims_rejected : (p : Problem) (n : ℕ) (kind : RejectKind) (lines : List CertLine) → claim_steps p (Rejected n kind) lines ≡ Rejected n kind
+pub claims_rejected : (p : Problem) (n : ℕ) (kind : RejectKind) (lines : List CertLine) → claim_steps p (Rejected n kind) lines ≡ Rejected n kind
 claims_rejected p n kind [] = refl
 claims_rejected p n kind (line ∷ lines) = claims_rejected p n kind lines
 
