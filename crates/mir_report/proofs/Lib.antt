@@ -2,3 +2,4 @@ pub mod Claims
 pub mod Laws
 pub mod Subjects
 pub mod Told
+pub mod Unasked

@@ -1,5 +1,5 @@
 -- What is known while the pairs are gone through.
-use Rattle.std.specs.Prelude.{◌≡◌, ℕ, Bool, if◌then◌else◌, List, [], map, filter}
+use Rattle.std.specs.Prelude.{◌≡◌, ℕ, ◌<◌, Bool, if◌then◌else◌, List, [], length, map, filter, slice_index_or, IsTrue}
 use Rattle.rcc5_core.specs.declared.Rel.{Rel}
 use Rattle.rcc5_core.specs.declared.RelSet.{RelSet}
 use Rattle.rcc5_core.specs.Relation.{relation_of}
@@ -8,6 +8,7 @@ use Rattle.world_model.specs.Problem.{Problem}
 use Rattle.world_model.specs.Family.{Family, set_of}
 use Rattle.world_model.specs.Alive.{allowed}
 use Rattle.world_model.specs.Node.{pair_at}
+use Rattle.world_model.specs.Questions.{IsPossibleRelation}
 use Rattle.cert_text.specs.declared.line.Subject.TheVariants.{Narrowed}
 use Rattle.cert_rules.specs.ClaimLists.{Claim}
 use Rattle.split_search.specs.Choosing.{IsMetBy}
@@ -25,3 +26,12 @@ claims_of p pair set rels = map (λ rel. record { subject = Narrowed pair rel; h
 -- the claim for one relation of a pair, where it allows that
 abbrev pub claim_if_allowed : Problem → ℕ → Rel → Bool → List Claim
 claim_if_allowed p pair rel some = if has (allowed p (pair_at p pair)) rel then claimed (Narrowed pair rel) some else []
+
+-- a set has each relation that is possible at a pair
+abbrev pub HasPossible : Problem → ℕ → RelSet → Type 0
+HasPossible p pair set = (rel : Rel) → IsPossibleRelation p pair rel → IsTrue (has set rel)
+
+-- there is such a set for each of the first so many pairs
+pub record AreCandidates (p : Problem) (count : ℕ) (sets : List RelSet) : Type 0 where
+  pub counted : length sets ≡ count
+  pub each : (pair : ℕ) (d : RelSet) → pair < count → HasPossible p pair (slice_index_or sets pair d)

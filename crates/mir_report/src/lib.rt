@@ -1,6 +1,7 @@
 //! The relations that remain possible at each pair: the maximally informative relations of a problem.
 #![tactic(auto)]
 
+mod bare;
 mod found;
 mod possible;
 

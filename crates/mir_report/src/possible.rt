@@ -10,6 +10,7 @@ ghost use Rattle.claim_blocks.specs.Blocks.{claimed, KeepsClaims};
 ghost use Rattle.mir_report.specs.Possible.{IsPossibleSet, ArePossibleSets, pair_claims, claims_from};
 ghost use Rattle.mir_report.specs.Steps.{claim_if_allowed};
 
+use crate::bare::bare_sets;
 use crate::found::{put, shown_by};
 use cert_text::{Flags, Subject, TreeLog};
 use claim_blocks::{settle, show};
@@ -21,8 +22,8 @@ use set_family::Family;
 use split_search::Choice;
 use std::alloc::{AllocError, Global};
 
-// The relations, in their order.
-const RELS: [Rel; 5] = [
+/// The relations, in their order.
+pub(crate) const RELS: [Rel; 5] = [
     Rel::Equals,
     Rel::Includes,
     Rel::IncludedIn,
@@ -36,8 +37,8 @@ pub struct MirSets {
     pub sets: Vec<RelSet>,
 }
 
-// Whether a relation is possible at a pair, and the claim that says so. A family that was found for it is kept with the others.
-fn settle_rel<L: TreeLog>(
+/// Whether a relation is possible at a pair, and the claim that says so. A family that was found for it is kept with the others.
+pub(crate) fn settle_rel<L: TreeLog>(
     alloc: Global,
     problem: &Problem,
     pair: u32,
@@ -125,7 +126,8 @@ fn settle_pair<L: TreeLog>(
 
 /// The possible relations of each pair across taxonomies, exactly.
 ///
-/// A log is told a claim for each relation that such a pair allows, pair by pair, and no tree is left open.
+/// A log is told a claim for each relation that such a pair allows, pair by pair, and no tree is left open. For one that drops its
+/// lines, fewer questions are asked.
 pub fn mir<L: TreeLog>(
     alloc: Global,
     problem: &Problem,
@@ -138,6 +140,9 @@ pub fn mir<L: TreeLog>(
     ensures keeps { KeepsClaims problem.now result (λ mir more. more ≡ claims_from problem.now 0 mir.sets.items) (L.lines log.old) (L.lines log.new) asker.old asker.new }
     ensures log { LogGoes L.drops L.lines L.faults L.steady L.quiet result log.old log.new }
 {
+    if log.is_dropping() {
+        return bare_sets(alloc, problem, asker);
+    }
     let mut families = Vec::new(alloc);
     let mut sets = Vec::new(alloc);
     'pairs: for pair in 0..problem.cross_count() {

@@ -1,0 +1,51 @@
+use Rattle.std.proofs.Common.{◌≡◌, ◌∙◌, ◌++◌, ◌∷◌, [], ℕ, length, slice_get, Some, All, refl, sym, ap, subst, arith}
+use Rattle.std.proofs.lemmas.List.{length-append}
+use Rattle.std.proofs.lemmas.List.Elements.{All-nil}
+use Rattle.rcc5_core.specs.declared.RelSet.{RelSet}
+use Rattle.split_search.specs.Choosing.{IsMetBy}
+use Rattle.mir_report.specs.Possible.{IsPossibleSet}
+use Rattle.mir_report.specs.Steps.{HasPossible}
+use Rattle.mir_report.proofs.Laws.{cross_within}
+use Rattle.mir_report.proofs.Claims.{sets_more}
+use Rattle.mir_report.proofs.bare.ask_all.Goals as goal
+
+pub pairs-init : goal.pairs-init
+pairs-init c =
+    let p = c.args.problem.now in
+    record {
+      shape = refl;
+      families = subst (All (IsMetBy p)) (sym c.new-families.ensures.items) (All-nil (IsMetBy p));
+      count = ap length c.new-sets.ensures.items;
+      each = subst (λ sets. (k : ℕ) (one : RelSet) → slice_get sets k ≡ Some one → IsPossibleSet p k one) (sym c.new-sets.ensures.items) (λ k one e. cc);
+    }
+
+pub ask_pair-requires-clause-within : goal.ask_pair-requires-clause-within
+ask_pair-requires-clause-within c = cross_within c.args.problem.now c.pairs.pair (omega arith)
+
+pub ask_pair-requires-clause-among : goal.ask_pair-requires-clause-among
+ask_pair-requires-clause-among c =
+    subst (HasPossible c.args.problem.now c.pairs.pair) (sym c.index.is) (c.requires.among.each c.pairs.pair c.index.result (omega arith))
+
+pub pairs-preserved : goal.pairs-preserved
+pairs-preserved c =
+    let p = c.args.problem.now in
+    let k = c.pairs.pair in
+    let set = c.in_ok-set.set in
+    let sets = c.pairs.sets.items in
+    let more = c.in_ok-put.ensures in
+    record {
+      shape = c.ask_pair.ensures.shape ∙ c.pairs.invariant.shape;
+      families = c.in_ok-set.ensures.families;
+      count =
+          let long = ap length more in
+          let all = length-append sets (set ∷ []) in
+          let counted = c.pairs.invariant.count in
+          omega (arith, long, all, counted);
+      each = subst (λ sets. (k : ℕ) (one : RelSet) → slice_get sets k ≡ Some one → IsPossibleSet p k one) (sym more) (sets_more p k sets set c.pairs.invariant.each c.pairs.invariant.count c.in_ok-set.ensures.answer);
+    }
+
+pub returns-clause-sets : goal.returns-clause-sets
+returns-clause-sets c = record {
+  count = let counted = c.pairs.invariant.count in omega (arith, counted);
+  each = c.pairs.invariant.each;
+}
