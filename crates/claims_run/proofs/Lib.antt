@@ -1,0 +1,2 @@
+pub mod ClaimedLemmas
+pub mod CertifiedLemmas
