@@ -1,2 +1,4 @@
+pub mod ClaimedLemmas
+pub mod CertifiedLemmas
 pub mod EndLemmas
 pub mod PutLemmas

@@ -1,5 +1,5 @@
 -- What the commands answer that settle questions by claims: what remains possible, and what is in conflict.
-use Rattle.std.specs.Prelude.{◌≡◌, ◌↔◌, ◌≤◌, ℕ, ◌+◌, ◌^◌, Bool, true, false, List, [], ◌∷◌, ◌++◌, length, Option, None, Some, IfSome, IsTrue, ⊥, Result, Ok, Err, All, Contains, codes, decimal}
+use Rattle.std.specs.Prelude.{◌≡◌, ◌↔◌, ◌≤◌, ℕ, ◌+◌, ◌^◌, Bool, true, false, List, [], ◌∷◌, ◌++◌, length, Option, None, Some, IfSome, IsTrue, Result, Ok, Err, All, Contains, codes, decimal}
 use Rattle.std.specs.Option.{option_to_list}
 use Rattle.outer_store.specs.Contents.{Contents}
 use Rattle.rcc5_core.specs.RelationSet.{has}
@@ -97,8 +97,8 @@ pub record IsSettled (p : Problem) (asked : Question) (cert : Option (List ℕ))
 -- what comes of a problem's text
 abbrev pub IsAnswerBy : Result Problem (ℕ × TextKind) → Question → Option (List ℕ) → Contents → Status → List ℕ → List File → Type 0
 IsAnswerBy (Ok p) asked cert held status text files = IsSettled p asked cert held status text files
-IsAnswerBy (Err fault) asked cert held status text files =
-    (status ≡ status.RefusedText fault.0 fault.1) × (text ≡ end_line (status.RefusedText fault.0 fault.1)) × (files ≡ [])
+IsAnswerBy (Err fault) asked cert held ended text files =
+    (ended ≡ status.RefusedText fault.0 fault.1) × (text ≡ end_line (status.RefusedText fault.0 fault.1)) × (files ≡ [])
 
 -- the answers to a question about the problem under a name
 pub record IsClaimsAnswer (asked : Question) (input : List ℕ) (cert : Option (List ℕ)) (switches : Switches) (held : Contents) (status : Status) (text : List ℕ) (files : List File) : Type 0 where

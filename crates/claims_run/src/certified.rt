@@ -48,7 +48,7 @@ fn settle_bare(alloc: Global, problem: &Problem, asked: Question) -> Result<Answ
     requires { IsAsRead problem.now }
     ensures { IfOk result (IsRight problem.now asked) }
 {
-    match tell(alloc, problem, asked, &mut NoLog) {
+    match tell(alloc, problem, asked, &mut NoLog::new()) {
         Ok(answer) => Ok(answer),
         Err(_) => Err(AllocError),
     }

@@ -1,0 +1,90 @@
+-- What is claimed of an answer, and that it is told whole.
+use Rattle.std.proofs.Common.{◌≡◌, Bool, List, [], ◌∷◌, ◌++◌, map, Option, Some, None, Result, Ok, Err, refl, sym, ap, subst}
+use Rattle.std.specs.Prelude.{⊤, IfOk}
+use Rattle.std.specs.Result.{IsErrAnd}
+use Rattle.world_model.specs.Problem.{Problem, restricted}
+use Rattle.world_model.specs.Family.{Family}
+use Rattle.world_model.specs.Questions.{IsMet}
+use Rattle.constraint_set.specs.Facts.{IsAsRead}
+use Rattle.point_query.specs.Asking.{AskerState, IsNewAsker}
+use Rattle.cert_text.specs.declared.line.CertLine.{CertLine}
+use Rattle.cert_text.specs.declared.line.CertLine.TheVariants.{Claims, Proof, Done}
+use Rattle.cert_text.specs.Logs.{Told, IsToldWith}
+use Rattle.cert_rules.specs.ClaimLists.{Claim}
+use Rattle.cert_rules.proofs.ClaimWriting.{claims_put_keep_up_law}
+use Rattle.search_log.specs.declared.fault.StepFault.{StepFault}
+use Rattle.search_log.specs.Logging.{AddsLines, AreToldWith, IsFlushed, IsSameButLines}
+use Rattle.split_search.specs.Claiming.{ClaimsBegin, ToldClaims}
+use Rattle.split_search.specs.Choosing.{IsMetBy}
+use Rattle.claim_blocks.specs.Blocks.{AreClaimsTold, AreClaimsMade, FromClaims, KeepsClaims}
+use Rattle.claim_blocks.proofs.Joins.{told_then, keeps_join, keeps_err}
+use Rattle.claim_blocks.proofs.Steps.{leads_flushed}
+use Rattle.mir_report.specs.declared.possible.MirSets.{MirSets}
+use Rattle.mir_report.specs.Possible.{claims_from}
+use Rattle.conflict_min.specs.Conflicts.{all_kept}
+use Rattle.claims_run.specs.declared.question.Answer.{Answer}
+use Rattle.claims_run.specs.declared.question.Answer.TheVariants.{Possible}
+use Rattle.claims_run.specs.Answering.{IsClaimed}
+use Rattle.claims_run.specs.Certifying.{AreAllTold, IsToldWhole}
+
+-- the claims of the possible relations, with more behind them
+possible_claimed : (p : Problem) (mir : MirSets) (some : Bool) (first second : List Claim) → first ≡ claims_from p 0 mir.sets.items → IsClaimed p (Possible mir some) (first ++ second)
+possible_claimed p mir some first second is = (second, ap (λ claims. claims ++ second) is)
+
+-- the relations, and then whether there is a world: after both, and where the second step fails
+pub possible_made : (p : Problem) (mir : MirSets) (some : Bool) (a b c : Told) (one two three : AskerState) → AddsLines a b →
+    FromClaims p a one (λ claims. AreClaimsMade p (λ claims. claims ≡ claims_from p 0 mir.sets.items) claims b two) →
+    FromClaims p b two (λ claims. AreClaimsMade p (λ claims. ⊤) claims c three) → KeepsClaims p (Ok (Possible mir some)) (IsClaimed p) a c one three
+possible_made p mir some a b c one two three adds first second =
+    keeps_join (Ok some) p (λ claims. claims ≡ claims_from p 0 mir.sets.items) (λ some claims. ⊤) (λ some. IsClaimed p (Possible mir some)) a b c one two three adds
+    (λ some first second is nothing. possible_claimed p mir some first second is) first second
+
+pub possible_failed : (e : StepFault) (r : Result Answer StepFault) (p : Problem) (mir : MirSets) (a b c : Told) (one two three : AskerState) → IsErrAnd r (λ f. f ≡ e) → AddsLines a b →
+    FromClaims p a one (λ claims. AreClaimsMade p (λ claims. claims ≡ claims_from p 0 mir.sets.items) claims b two) →
+    FromClaims p b two (λ claims. AreClaimsTold p c three) → KeepsClaims p r (IsClaimed p) a c one three
+possible_failed e r p mir a b c one two three is adds first second =
+    keeps_err (λ f. f ≡ e) r p (IsClaimed p) a c one three is
+    (keeps_join {T = Bool} (Err e) p (λ claims. claims ≡ claims_from p 0 mir.sets.items) (λ some claims. ⊤) (λ some. IsClaimed p (Possible mir some)) a b c one two three adds
+    (λ some first second is nothing. possible_claimed p mir some first second is) first second)
+
+-- a family that meets a problem with all its articulations meets the problem, which keeps them all as it was read
+pub met_as_read : (p : Problem) (f : Family) → IsAsRead p → IsMetBy (restricted p (all_kept p)) f → IsMet p
+met_as_read p f read by = (f, (subst (λ kept. IsMetBy (restricted p kept) f) (sym read.all_kept) by).met)
+
+-- the first line begins a list of claims with a new asker
+begun : (p : Problem) (asker : AskerState) → IsNewAsker p asker → ClaimsBegin p asker.solver.waiting asker.solver.state None [] (Claims p.switches ∷ [])
+begun p asker new = subst (λ waiting. ClaimsBegin p waiting asker.solver.state None [] (Claims p.switches ∷ [])) (sym new.none_waits)
+    (record { lines = []; begins = refl; keeps_up = claims_put_keep_up_law.begins p asker.solver.state new.first; alive = tt })
+
+-- the lines that wait and `done`, behind claims that were made
+ended : {T : Type 0} (v : T) (p : Problem) (IsMade : List Claim → Type 0) (three four five : Told) (other last : AskerState) (lines : List CertLine) (claims : List Claim) → IsMade claims → three ≡ Some lines →
+    ClaimsBegin p other.solver.waiting other.solver.state None claims lines → IsSameButLines other last → IsFlushed (Ok v) three four other last → IsToldWith four Done five →
+    AreAllTold p IsMade five
+ended v p IsMade three four five other last lines claims made at k same flushed done =
+    let all = lines ++ map Proof other.solver.waiting in
+    let told : four ≡ Some all = subst (λ old. AreToldWith old (map Proof other.solver.waiting) four) at flushed.ok.told in
+    let begins : ClaimsBegin p last.solver.waiting last.solver.state None claims all =
+    subst (λ told. ToldClaims p told last.solver.waiting last.solver.state None claims) told (leads_flushed (Ok v) p three four other last None claims same flushed lines at k) in
+    record {
+      lines = all;
+      state = last.solver.state;
+      claims = claims;
+      made = made;
+      are = subst (λ told. IsToldWith told Done five) told done;
+      begins = subst (λ waiting. ClaimsBegin p waiting last.solver.state None claims all) flushed.ok.none_waits begins;
+    }
+
+-- the first line, an answer's claims, the lines that wait and `done` are a whole list of claims
+pub told_whole : {T : Type 0} (v : T) (p : Problem) (IsMade : List Claim → Type 0) (first two three four five : Told) (one other last : AskerState) → IsToldWith first (Claims p.switches) two → IsNewAsker p one →
+    AddsLines two three → FromClaims p two one (λ claims. AreClaimsMade p IsMade claims three other) → IsSameButLines other last → IsFlushed (Ok v) three four other last →
+    IsToldWith four Done five → IsToldWhole p IsMade first five
+told_whole v p IsMade first two three four five one other last begin new adds answered same flushed done empty =
+    let headed : two ≡ Some (Claims p.switches ∷ []) = subst (λ told. IsToldWith told (Claims p.switches) two) empty begin in
+    let made = answered (Claims p.switches ∷ []) [] headed (begun p one new) in
+    told_then (ClaimsBegin p other.solver.waiting other.solver.state None made.more) (AreAllTold p IsMade five) two three (Claims p.switches ∷ []) headed adds made.told_claims
+    (λ lines at k. ended v p IsMade three four five other last lines made.more made.made at k same flushed done)
+
+-- nothing is owed of an answer at a fault
+pub none_at_fault : (r : Result Answer StepFault) (e : StepFault) (P : Answer → Type 0) → IsErrAnd r (λ f. f ≡ e) → IfOk r P
+none_at_fault (Ok answer) e P is = absurd is
+none_at_fault (Err fault) e P is = tt
