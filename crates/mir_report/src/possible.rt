@@ -1,6 +1,6 @@
 //! The possible relations of the pairs across taxonomies.
-ghost use Rattle.std.specs.Prelude.{◌≡◌, ◌<◌, ◌↔◌, length, All, IfOk, OnOk, IsTrue, ⊤};
-ghost use Rattle.world_model.specs.Problem.{pair_count, cross_pairs};
+ghost use Rattle.std.specs.Prelude.{◌≡◌, ◌<◌, ◌↔◌, All, IfOk, OnOk, IsTrue, ⊤};
+ghost use Rattle.world_model.specs.Problem.{pair_count};
 ghost use Rattle.world_model.specs.Questions.{IsMet, IsPossibleRelation};
 ghost use Rattle.constraint_set.specs.Shape.{shape_of};
 ghost use Rattle.cert_text.specs.declared.line.Subject.TheVariants.{Narrowed};
@@ -189,10 +189,8 @@ fn is_met<L: TreeLog>(
 {
     problem.facts();
     let subject = Subject::Kept(Flags::new(kept_flags(alloc, problem)?));
-    match settle(alloc, &subject, problem, asker, log)? {
-        Choice::Met(_) => Ok(true),
-        Choice::Refuted => Ok(false),
-    }
+    let choice = settle(alloc, &subject, problem, asker, log)?;
+    Ok(matches!(choice, Choice::Met(_)))
 }
 
 // For each articulation whether it is kept.
