@@ -1,5 +1,6 @@
 -- What is claimed over the steps of a pass.
-use Rattle.std.proofs.Common.{◌≡◌, ℕ, ◌+◌, ◌<◌, Bool, true, false, List, [], ◌∷◌, ◌++◌, inl, inr, map, length, take, get_or, set, Ok, Err, Contains, All, sym, ap, ◌∙◌, subst, arith, refl}
+use Rattle.std.proofs.Common.{◌≡◌, ℕ, ◌+◌, ◌<◌, Bool, true, false, List, [], ◌∷◌, ◌++◌, inl, inr, map, length, take, get_or, set, Result, Ok, Err, Contains, All, sym, ap, ◌∙◌, subst, arith, refl}
+use Rattle.std.specs.Result.{IsErrAnd}
 use Rattle.std.proofs.lemmas.List.{map_more}
 use Rattle.std.proofs.lemmas.List.Elements.{All-cons, All-weaker, All-contains_itself, Contains-append_left, Contains-append_right}
 use Rattle.world_model.specs.Problem.{Problem}
@@ -7,14 +8,21 @@ use Rattle.point_query.specs.Asking.{AskerState}
 use Rattle.cert_text.specs.declared.line.Subject.TheVariants.{Kept}
 use Rattle.cert_text.specs.Logs.{Told}
 use Rattle.cert_rules.specs.ClaimLists.{Claim}
+use Rattle.search_log.specs.declared.fault.StepFault.{StepFault}
 use Rattle.search_log.specs.declared.fault.StepFault.TheVariants.{NoMemory}
 use Rattle.search_log.specs.Logging.{AddsLines}
+use Rattle.search_log.proofs.Logs.{asker_stays}
 use Rattle.split_search.specs.declared.choice.Choice.{Choice}
 use Rattle.split_search.specs.declared.choice.Choice.TheVariants.{Refuted}
-use Rattle.claim_blocks.specs.Blocks.{claimed, settled, AreClaimsTold, AreClaimsMade, FromClaims}
-use Rattle.claim_blocks.proofs.Joins.{keeps_join, keeps_made}
+use Rattle.claim_blocks.specs.Blocks.{claimed, settled, AreClaimsTold, AreClaimsMade, FromClaims, KeepsClaims}
+use Rattle.claim_blocks.proofs.Joins.{keeps_join, keeps_made, keeps_err, nothing_told}
 use Rattle.conflict_min.specs.Conflicts.{loss_claims, conflict_claims}
 use Rattle.conflict_min.specs.Shrinking.{IsDropped}
+
+-- claims are told still at a fault before anything was done
+pub untouched : {T : Type 0} (Q : StepFault → Type 0) (r : Result T StepFault) (p : Problem) (IsMade : T → List Claim → Type 0) (told : Told) (one : AskerState) → IsErrAnd r Q →
+    KeepsClaims p r IsMade told told one one
+untouched Q r p IsMade told one fault = keeps_err Q r p IsMade told told one one fault (nothing_told p told one one (asker_stays one))
 
 -- claims that were made are so by a wider word
 made_wider : (p : Problem) (IsOne IsTwo : List Claim → Type 0) (old new : Told) (one other : AskerState) → ((more : List Claim) → IsOne more → IsTwo more) →

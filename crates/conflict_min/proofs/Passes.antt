@@ -13,6 +13,7 @@ use Rattle.conflict_min.specs.Shrinking.{without_at, IsShrunk, IsWithin}
 use Rattle.conflict_min.proofs.Fewer.{met_by_fewer}
 use Rattle.conflict_min.proofs.Flags.{within_cut, IsBefore, is_before, set_back, places_more, places_less, places_within, place_found, item_beside}
 
+-- before any is tried
 pub shrunk_none : (p : Problem) → (IsConsistent p (all_kept p) → ⊥) → IsShrunk p 0 (all_kept p) []
 shrunk_none p inconsistent = record {
   flags = length-map p.articulations (λ _. true);

@@ -5,8 +5,12 @@ use Rattle.claim_blocks.specs.Blocks.{claimed, settled}
 use Rattle.conflict_min.specs.Conflicts.{loss_claims, IsClaimedOf}
 use Rattle.conflict_min.specs.Shrinking.{IsDropped}
 use Rattle.conflict_min.specs.declared.conflict.Found.TheVariants.{Least}
-use Rattle.conflict_min.proofs.Claims.{fails, made_joins, dropped_claimed, conflict_claimed}
+use Rattle.conflict_min.proofs.Claims.{untouched, fails, made_joins, dropped_claimed, conflict_claimed}
 use Rattle.conflict_min.proofs.shrink.find.Goals as goal
+
+pub returns-in_err-all-clause-keeps : goal.returns-in_err-all-clause-keeps
+returns-in_err-all-clause-keeps g c =
+    untouched _ c.from_residual.result c.args.problem.now _ (g.L.TreeLog.lines c.args.log.now) c.args.asker.now c.from_residual.ensures.1
 
 pub returns-in_ok-show_losses-in-Refuted-clause-keeps : goal.returns-in_ok-show_losses-in-Refuted-clause-keeps
 returns-in_ok-show_losses-in-Refuted-clause-keeps g c =

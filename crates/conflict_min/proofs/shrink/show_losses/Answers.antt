@@ -3,9 +3,13 @@ use Rattle.search_log.proofs.Logs.{log_joins, log_ok_as}
 use Rattle.cert_text.specs.declared.line.Subject.TheVariants.{Kept}
 use Rattle.claim_blocks.specs.Blocks.{claimed}
 use Rattle.conflict_min.specs.Conflicts.{places_from}
-use Rattle.conflict_min.proofs.Claims.{loss, made_joins, losses_more}
+use Rattle.conflict_min.proofs.Claims.{untouched, loss, made_joins, losses_more}
 use Rattle.conflict_min.proofs.Passes.{loss_at}
 use Rattle.conflict_min.proofs.shrink.show_losses.Goals as goal
+
+pub returns-in_err-places-clause-keeps : goal.returns-in_err-places-clause-keeps
+returns-in_err-places-clause-keeps g c =
+    untouched _ c.from_residual.result c.args.problem.now _ (g.L.TreeLog.lines c.args.log.now) c.args.asker.now c.from_residual.ensures.1
 
 pub show_loss-requires-clause-within : goal.show_loss-requires-clause-within
 show_loss-requires-clause-within g c =

@@ -15,7 +15,7 @@ places-init g c =
     let told = g.L.TreeLog.lines c.args.log.now in
     record {
       shape = refl;
-      end = c.len-place-end.ensures ∙ c.args.all.ok.0 ∙ ap length c.requires.all ∙ length-map p.articulations (λ _. true);
+      end = omega (arith, c.args.all.ok.0, ap length c.requires.all, length-map p.articulations (λ _. true));
       shrunk =
           subst (λ flags. IsShrunk p 0 flags c.new-families.result.items) (sym c.requires.all)
           (subst (IsShrunk p 0 (all_kept p)) (sym c.new-families.ensures.items) (shrunk_none p (subst (λ flags. IsConsistent p flags → ⊥) c.requires.all c.requires.inconsistent)));

@@ -1,0 +1,6 @@
+use Rattle.conflict_min.proofs.Claims.{untouched}
+use Rattle.conflict_min.proofs.shrink.show_loss.Goals as goal
+
+pub returns-in_err-others-clause-keeps : goal.returns-in_err-others-clause-keeps
+returns-in_err-others-clause-keeps g c =
+    untouched _ c.from_residual.result c.args.problem.now _ (g.L.TreeLog.lines c.args.log.now) c.args.asker.now c.from_residual.ensures.1
