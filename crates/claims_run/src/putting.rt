@@ -68,7 +68,8 @@ fn put_articulation(
     let number = format!(in alloc; "{number} ")?;
     text.extend_from_slice(number.as_bytes())?;
     text.extend_from_slice(&articulation_text(alloc, problem, index)?)?;
-    text.push(b'\n')
+    text.push(b'\n')?;
+    Ok(())
 }
 
 // The lines of a conflict.

@@ -16,7 +16,6 @@ use constraint_set::Problem;
 use point_ladder::{MOST_POINTS, MOST_TRIES, alive_alone};
 use point_query::Asker;
 use rcc5_core::{Rel, RelSet};
-use search_log::StepFault;
 use set_family::Family;
 use std::alloc::{AllocError, Global};
 
@@ -52,7 +51,7 @@ fn ask_if_among(
     rel: Rel,
     families: &mut Vec<Family>,
     asker: &mut Asker,
-) -> Result<bool, StepFault>
+) -> Result<bool, AllocError>
     requires shape { asker.old.shape ≡ shape_of problem.now }
     requires within { pair < pair_count problem.now }
     requires among { HasPossible problem.now pair among }
@@ -64,15 +63,11 @@ fn ask_if_among(
     if !among.has(rel) {
         return Ok(false);
     }
-    settle_rel(
-        alloc,
-        problem,
-        pair,
-        rel,
-        families,
-        asker,
-        &mut NoLog::new(),
-    )
+    let mut log = NoLog::new();
+    match settle_rel(alloc, problem, pair, rel, families, asker, &mut log) {
+        Ok(some) => Ok(some),
+        Err(_) => Err(AllocError),
+    }
 }
 
 // The possible relations of a pair, which are among some.
@@ -83,7 +78,7 @@ fn ask_pair(
     among: RelSet,
     families: &mut Vec<Family>,
     asker: &mut Asker,
-) -> Result<RelSet, StepFault>
+) -> Result<RelSet, AllocError>
     requires shape { asker.old.shape ≡ shape_of problem.now }
     requires within { pair < pair_count problem.now }
     requires among { HasPossible problem.now pair among }
@@ -107,7 +102,7 @@ fn ask_all(
     problem: &Problem,
     among: &[RelSet],
     asker: &mut Asker,
-) -> Result<MirSets, StepFault>
+) -> Result<MirSets, AllocError>
     requires shape { asker.old.shape ≡ shape_of problem.now }
     requires among { AreCandidates problem.now (length (cross_pairs problem.now)) among.now }
     ensures shape { asker.new.shape ≡ asker.old.shape }
@@ -128,7 +123,7 @@ pub(crate) fn bare_sets(
     alloc: Global,
     problem: &Problem,
     asker: &mut Asker,
-) -> Result<MirSets, StepFault>
+) -> Result<MirSets, AllocError>
     requires shape { asker.old.shape ≡ shape_of problem.now }
     ensures shape { asker.new.shape ≡ asker.old.shape }
     ensures sets { IfOk result (λ mir. ArePossibleSets problem.now mir.sets.items) }

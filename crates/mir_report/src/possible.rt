@@ -141,7 +141,7 @@ pub fn mir<L: TreeLog>(
     ensures log { LogGoes L.drops L.lines L.faults L.steady L.quiet result log.old log.new }
 {
     if log.is_dropping() {
-        return bare_sets(alloc, problem, asker);
+        return Ok(bare_sets(alloc, problem, asker)?);
     }
     let mut families = Vec::new(alloc);
     let mut sets = Vec::new(alloc);
