@@ -2,14 +2,31 @@ use Rattle.std.proofs.Common.{◌≡◌, ◌∙◌, ◌++◌, ◌∷◌, [], ℕ
 use Rattle.std.proofs.lemmas.List.{length-append}
 use Rattle.std.proofs.lemmas.List.Elements.{All-nil}
 use Rattle.rcc5_core.specs.declared.RelSet.{RelSet}
-use Rattle.search_log.proofs.Logs.{log_as, log_joins, log_ok_as, log_stays_ok, log_then_memory}
+use Rattle.search_log.proofs.Logs.{log_as, log_joins, log_memory, log_ok_as, log_stays_ok, log_then_memory}
 use Rattle.split_search.specs.Choosing.{IsMetBy}
-use Rattle.claim_blocks.proofs.Joins.{keeps_join, keeps_nothing}
+use Rattle.claim_blocks.proofs.Joins.{keeps_join, keeps_nothing, keeps_untold}
 use Rattle.mir_report.specs.Possible.{IsPossibleSet, pair_claims, claims_from}
 use Rattle.mir_report.proofs.Laws.{cross_within}
 use Rattle.mir_report.proofs.Claims.{claims_next, sets_more}
 use Rattle.mir_report.proofs.Told.{err_after, err_later}
 use Rattle.mir_report.proofs.possible.mir.Goals as goal
+
+pub returns-in_err-bare_sets-clause-keeps : goal.returns-in_err-bare_sets-clause-keeps
+returns-in_err-bare_sets-clause-keeps g c =
+    keeps_untold c.from_residual.result c.args.problem.now (λ mir more. more ≡ claims_from c.args.problem.now 0 mir.sets.items) (g.L.TreeLog.lines c.args.log.now) (g.L.TreeLog.lines c.args.log.now) c.args.asker.now c.bare_sets.new.asker
+    (g.met.L.TreeLog.tells_none c.args.log.now (sym c.is_dropping.ensures ∙ c.if-is_dropping.true))
+
+pub returns-in_err-bare_sets-clause-log : goal.returns-in_err-bare_sets-clause-log
+returns-in_err-bare_sets-clause-log g c =
+    log_memory c.from_residual.result c.args.log.now (g.met.L.TreeLog.steady_stays c.args.log.now) (g.met.L.TreeLog.quiet_stays c.args.log.now) c.from_residual.ensures.1
+
+pub returns-then-is_dropping-clause-keeps : goal.returns-then-is_dropping-clause-keeps
+returns-then-is_dropping-clause-keeps g c =
+    keeps_untold (Ok c.in_ok-bare_sets.field-0) c.args.problem.now (λ mir more. more ≡ claims_from c.args.problem.now 0 mir.sets.items) (g.L.TreeLog.lines c.args.log.now) (g.L.TreeLog.lines c.args.log.now) c.args.asker.now c.bare_sets.new.asker
+    (g.met.L.TreeLog.tells_none c.args.log.now (sym c.is_dropping.ensures ∙ c.if-is_dropping.true))
+
+pub returns-then-is_dropping-clause-log : goal.returns-then-is_dropping-clause-log
+returns-then-is_dropping-clause-log g c = log_stays_ok _ c.args.log.now (g.met.L.TreeLog.steady_stays c.args.log.now) (g.met.L.TreeLog.quiet_stays c.args.log.now)
 
 pub pairs-init : goal.pairs-init
 pairs-init g c =
@@ -29,13 +46,13 @@ settle_pair-requires-clause-within g c = cross_within c.args.problem.now c.pairs
 pub returns-in_err-set-clause-keeps : goal.returns-in_err-set-clause-keeps
 returns-in_err-set-clause-keeps g c =
     let p = c.args.problem.now in
-    err_later (λ f. f ≡ c.in_err-set.field-0.0) c.from_residual.result (tt {0}) c.in_err-set.field-0.0 p (λ _ more. more ≡ claims_from p 0 c.pairs.sets.items) (λ set more. more ≡ pair_claims p c.pairs.pair set)
+    err_later (λ f. f ≡ c.in_err-set.field-0.0) c.from_residual-in_err-set.result (tt {0}) c.in_err-set.field-0.0 p (λ _ more. more ≡ claims_from p 0 c.pairs.sets.items) (λ set more. more ≡ pair_claims p c.pairs.pair set)
     (λ mir more. more ≡ claims_from p 0 mir.sets.items) (g.L.TreeLog.lines c.args.log.now) (g.L.TreeLog.lines c.pairs.log) (g.L.TreeLog.lines c.settle_pair.new.log) c.args.asker.now c.pairs.asker c.settle_pair.new.asker
-    c.from_residual.ensures.1 c.pairs.invariant.log.told c.pairs.invariant.keeps c.in_err-set.ensures.keeps
+    c.from_residual-in_err-set.ensures.1 c.pairs.invariant.log.told c.pairs.invariant.keeps c.in_err-set.ensures.keeps
 
 pub returns-in_err-set-clause-log : goal.returns-in_err-set-clause-log
 returns-in_err-set-clause-log g c =
-    log_as _ c.from_residual.result c.args.log.now c.settle_pair.new.log c.from_residual.ensures.1
+    log_as _ c.from_residual-in_err-set.result c.args.log.now c.settle_pair.new.log c.from_residual-in_err-set.ensures.1
     (log_joins _ _ c.args.log.now c.pairs.log c.settle_pair.new.log (g.met.L.TreeLog.steady_joins c.args.log.now c.pairs.log c.settle_pair.new.log) (g.met.L.TreeLog.quiet_joins c.args.log.now c.pairs.log c.settle_pair.new.log)
     c.pairs.invariant.log c.in_err-set.ensures.log)
 
