@@ -1,6 +1,7 @@
 -- The claims for the pairs, relation by relation and pair by pair.
 use Rattle.std.proofs.Common.{◌≡◌, ℕ, ◌+◌, ◌↔◌, Bool, true, false, cond, List, [], ◌∷◌, ◌++◌, map, length, ◌⊎◌, inl, inr, Some, zero, suc, refl, sym, ap, ap₂, ◌∙◌, subst, arith, IsTrue, append_assoc, append-nil, slice_get, filter}
-use Rattle.std.proofs.lemmas.List.Elements.{Contains-append_left, Contains-push}
+use Rattle.std.proofs.lemmas.List.{map-append}
+use Rattle.std.proofs.lemmas.List.Elements.{filter-append, Contains-append_left, Contains-push}
 use Rattle.rcc5_core.specs.declared.Rel.{Rel}
 use Rattle.rcc5_core.specs.declared.RelSet.{RelSet}
 use Rattle.rcc5_core.specs.RelationSet.{has}
@@ -15,7 +16,7 @@ use Rattle.point_query.proofs.Choosing.{HasThose}
 use Rattle.cert_text.specs.declared.line.Subject.TheVariants.{Narrowed}
 use Rattle.cert_rules.specs.ClaimLists.{Claim}
 use Rattle.mir_report.specs.Possible.{IsPossibleSet, pair_claims, claims_from}
-use Rattle.mir_report.specs.Steps.{claims_of, claim_if_allowed}
+use Rattle.mir_report.specs.Steps.{claim_of, claims_of, claim_if_allowed}
 
 same_truth : (a b : Bool) → (a ≡ true → b ≡ true) → (b ≡ true → a ≡ true) → a ≡ b
 same_truth a b to back = same_bool_at a b (same_bool_from a b to back)
@@ -26,27 +27,23 @@ same_claims p pair set other [] agree = refl
 same_claims p pair set other (rel ∷ rels) agree =
     by (has (allowed p (pair_at p pair)) rel) (filter (has (allowed p (pair_at p pair))) rels) (agree rel (here refl)) (same_claims p pair set other rels (λ q i. agree q (there i)))
   where
-    by : (b : Bool) (rest : List Rel) → has set rel ≡ has other rel → map {A = Rel} {B = Claim} (λ rel. record { subject = Narrowed pair rel; holds = has set rel }) rest ≡ map {A = Rel} {B = Claim} (λ rel. record { subject = Narrowed pair rel; holds = has other rel }) rest →
-        map {A = Rel} {B = Claim} (λ rel. record { subject = Narrowed pair rel; holds = has set rel }) (cond b (rel ∷ rest) rest) ≡ map {A = Rel} {B = Claim} (λ rel. record { subject = Narrowed pair rel; holds = has other rel }) (cond b (rel ∷ rest) rest)
+    by : (b : Bool) (rest : List Rel) → has set rel ≡ has other rel → map (claim_of pair set) rest ≡ map (claim_of pair other) rest →
+        map (claim_of pair set) (cond b (rel ∷ rest) rest) ≡ map (claim_of pair other) (cond b (rel ∷ rest) rest)
     by true rest one more = ap₂ (λ (holds : Bool) (claims : List Claim). record { subject = Narrowed pair rel; holds = holds } ∷ claims) one more
     by false rest one more = more
 
 -- one more relation
 claims_more : (p : Problem) (pair : ℕ) (set : RelSet) (rels : List Rel) (rel : Rel) →
     claims_of p pair set (rels ++ rel ∷ []) ≡ claims_of p pair set rels ++ claim_if_allowed p pair rel (has set rel)
-claims_more p pair set [] rel = by (has (allowed p (pair_at p pair)) rel)
+claims_more p pair set rels rel =
+    let allows = has (allowed p (pair_at p pair)) in
+    ap (map (claim_of pair set)) (filter-append allows rels (rel ∷ []))
+    ∙ map-append (claim_of pair set) (filter allows rels) (filter allows (rel ∷ []))
+    ∙ ap (λ claims. claims_of p pair set rels ++ claims) (by (allows rel))
   where
-    by : (b : Bool) → map {A = Rel} {B = Claim} (λ rel. record { subject = Narrowed pair rel; holds = has set rel }) (cond b (rel ∷ []) []) ≡ cond b (record { subject = Narrowed pair rel; holds = has set rel } ∷ []) []
+    by : (b : Bool) → map (claim_of pair set) (cond b (rel ∷ []) []) ≡ cond b (claim_of pair set rel ∷ []) []
     by true = refl
     by false = refl
-claims_more p pair set (first ∷ rels) rel =
-    by (has (allowed p (pair_at p pair)) first) (filter (has (allowed p (pair_at p pair))) (rels ++ rel ∷ [])) (filter (has (allowed p (pair_at p pair))) rels) (claims_more p pair set rels rel)
-  where
-    by : (b : Bool) (all rest : List Rel) → map {A = Rel} {B = Claim} (λ rel. record { subject = Narrowed pair rel; holds = has set rel }) all ≡ map {A = Rel} {B = Claim} (λ rel. record { subject = Narrowed pair rel; holds = has set rel }) rest ++ claim_if_allowed p pair rel (has set rel) →
-        map {A = Rel} {B = Claim} (λ rel. record { subject = Narrowed pair rel; holds = has set rel }) (cond b (first ∷ all) all)
-        ≡ map {A = Rel} {B = Claim} (λ rel. record { subject = Narrowed pair rel; holds = has set rel }) (cond b (first ∷ rest) rest) ++ claim_if_allowed p pair rel (has set rel)
-    by true all rest more = ap (λ (claims : List Claim). record { subject = Narrowed pair first; holds = has set first } ∷ claims) more
-    by false all rest more = more
 
 -- a set of the possible ones among some relations, and one for one more relation
 pub claims_step : (p : Problem) (pair : ℕ) (set other : RelSet) (rels : List Rel) (rel : Rel) (some : Bool) → HasThose (IsPossibleRelation p pair) rels set →

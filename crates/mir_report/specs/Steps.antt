@@ -19,9 +19,13 @@ pub record ShowsAt (p : Problem) (pair : ℕ) (rel : Rel) (f : Family) : Type 0 
   pub met_by : IsMetBy p f
   pub there : relation_of (set_of f (pair_at p pair).0) (set_of f (pair_at p pair).1) ≡ rel
 
--- the claims for some relations of a pair: of each that it allows, whether it is in a set
+-- the claim for a relation of a pair: whether it is in a set
+abbrev pub claim_of : ℕ → RelSet → Rel → Claim
+claim_of pair set rel = record { subject = Narrowed pair rel; holds = has set rel }
+
+-- the claims for some relations of a pair, of each that it allows
 abbrev pub claims_of : Problem → ℕ → RelSet → List Rel → List Claim
-claims_of p pair set rels = map (λ rel. record { subject = Narrowed pair rel; holds = has set rel }) (filter (has (allowed p (pair_at p pair))) rels)
+claims_of p pair set rels = map (claim_of pair set) (filter (has (allowed p (pair_at p pair))) rels)
 
 -- the claim for one relation of a pair, where it allows that
 abbrev pub claim_if_allowed : Problem → ℕ → Rel → Bool → List Claim
