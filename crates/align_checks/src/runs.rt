@@ -1,10 +1,10 @@
 //! Runs over small texts, last lines, and what people are told.
 
-use run_scenes::align_into;
 use align_top::{Status, UsageKind, fault_place, put_end, read_front, text_help, usage_help};
 use cleantax_text::TextKind;
 use outer_store::{MemorySink, MemoryStore, StoreFault};
 use resume_token::TokenKind;
+use run_scenes::align_into;
 use std::alloc::{AllocError, Global};
 use std::test::Fail;
 

@@ -1,7 +1,7 @@
 //! Runs that stop and go on: tokens of other positions and other problems, tokens that are cut off, and chains of runs.
 
-use run_scenes::{align_into, played};
 use outer_store::MemoryStore;
+use run_scenes::{align_into, played};
 use std::alloc::{AllocError, Global};
 use std::test::Fail;
 

@@ -63,10 +63,14 @@ answered (Conflict kept) = refl
 pub cert_file : (p : Problem) (IsMade : List Claim → Type 0) (cert : Option (List ℕ)) (held held' : Contents) → IsCertLeft p IsMade cert held held' → AreKeptBut (option_to_list cert) held held'
     → (bytes : Option (List ℕ)) × IfSome cert (λ name. IfSome (held name) (λ _. IfSome bytes (IsCertOf p IsMade))) × AreWritten (file_under cert bytes) held held'
 cert_file p IsMade None held held' left kept = (None, tt, record { each = All-nil (IsHeld held held'); others = kept })
-cert_file p IsMade (Some name) held held' left kept = (held' name, certified (held name) left, record {
-  each = All-cons (IsHeld held held') (record { name = name; bytes = held' name }) [] (refl, there (held name) left) (All-nil (IsHeld held held'));
-  others = kept;
-})
+cert_file p IsMade (Some name) held held' left kept = (
+  held' name,
+  certified (held name) left,
+  record {
+    each = All-cons (IsHeld held held') (record { name = name; bytes = held' name }) [] (refl, there (held name) left) (All-nil (IsHeld held held'));
+    others = kept;
+  },
+)
   where
     certified : (before : Option (List ℕ)) → IfSome before (λ _. (bytes : List ℕ) × (held' name ≡ Some bytes) × IsCertOf p IsMade bytes) → IfSome before (λ _. IfSome (held' name) (IsCertOf p IsMade))
     certified None left = tt

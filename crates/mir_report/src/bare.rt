@@ -111,7 +111,14 @@ fn ask_all(
     let mut families = Vec::new(alloc);
     let mut sets = Vec::new(alloc);
     'pairs: for pair in 0..problem.cross_count() {
-        let set = ask_pair(alloc, problem, pair, among[pair as usize], &mut families, asker)?;
+        let set = ask_pair(
+            alloc,
+            problem,
+            pair,
+            among[pair as usize],
+            &mut families,
+            asker,
+        )?;
         put(&mut sets, set)?;
     }
     Ok(MirSets { sets })
@@ -129,7 +136,13 @@ pub(crate) fn bare_sets(
     ensures sets { IfOk result (λ mir. ArePossibleSets problem.now mir.sets.items) }
 {
     problem.facts();
-    let Some(alive) = alive_alone(alloc, problem, problem.cross_count(), MOST_POINTS, MOST_TRIES)?
+    let Some(alive) = alive_alone(
+        alloc,
+        problem,
+        problem.cross_count(),
+        MOST_POINTS,
+        MOST_TRIES,
+    )?
     else {
         let among = allowed_sets(alloc, problem)?;
         return ask_all(alloc, problem, &among, asker);

@@ -120,11 +120,8 @@ fn put_end_line<W: Sink>(alloc: Global, out: &mut W, status: &Status) -> Result<
     ensures { LeavesPiece result (end_line status.now) (sink_state (W.received out.old) (W.faults out.old)) (sink_state (W.received out.new) (W.faults out.new)) }
 {
     match status {
-        Status::Done
-        | Status::NoWorld
-        | Status::WriteFault
-        | Status::Cut(_)
-        | Status::Consistent => Ok(()),
+        Status::Done | Status::NoWorld | Status::WriteFault | Status::Cut(_) | Status::Consistent =>
+            Ok(()),
         Status::RefusedText { line, kind } => put_refused(alloc, out, *line, *kind),
         Status::RefusedToken(kind) => put_token_fault(alloc, out, *kind),
         Status::RefusedCert { line, kind } => put_cert_fault(alloc, out, *line, *kind),
