@@ -84,7 +84,7 @@ lines_all p kept k old whole end so_far =
     ∙ so_far
 
 -- the lines of an answer end with a line feed
-ended_numbered : (p : Problem) (number : ℕ) (as : List Articulation) (flags : List Bool) (before : List ℕ) → IsEnded before → IsEnded (before ++ numbered_lines p number as flags)
+ended_numbered : (p : Problem) (number : ℕ) (rows : List Articulation) (flags : List Bool) (before : List ℕ) → IsEnded before → IsEnded (before ++ numbered_lines p number rows flags)
 ended_numbered p number [] flags before ended = subst IsEnded (sym (append-nil before)) ended
 ended_numbered p number (a ∷ more) [] before ended = subst IsEnded (sym (append-nil before)) ended
 ended_numbered p number (a ∷ more) (true ∷ flags) before ended =
