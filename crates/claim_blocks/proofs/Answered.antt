@@ -1,5 +1,5 @@
 -- Whole claims, from what is told while a tree is open.
-use Rattle.std.proofs.Common.{◌≡◌, ◌<◌, ◌≤◌, ◌^◌, List, [], ◌++◌, length, Option, Some, None, Result, Ok, Err, refl, sym, subst, arith, IsTrue}
+use Rattle.std.proofs.Common.{◌≡◌, ◌<◌, ◌^◌, List, [], ◌++◌, length, Option, Some, None, Result, Ok, Err, refl, sym, subst, arith, IsTrue}
 use Rattle.std.specs.Prelude.{◌==◌, nat_lt}
 use Rattle.std.specs.List.{list_all}
 use Rattle.std.proofs.lemmas.Bool.{and_parts, eqb-true}
@@ -11,7 +11,7 @@ use Rattle.constraint_set.specs.Facts.{IsBuilt}
 use Rattle.point_query.specs.Asking.{AskerState}
 use Rattle.cert_text.specs.declared.line.Subject.{Subject}
 use Rattle.cert_text.specs.Logs.{Told}
-use Rattle.cert_rules.specs.ClaimLists.{subject_problem, Claim}
+use Rattle.cert_rules.specs.ClaimLists.{Claim}
 use Rattle.cert_rules.specs.ClaimWriting.{ShowsSubject, open_at}
 use Rattle.search_log.specs.declared.fault.StepFault.{StepFault}
 use Rattle.search_log.specs.Logging.{AddsLines}

@@ -1,7 +1,6 @@
 -- What is told of whole claims, so that what a log tells stays a valid list of claims.
 use Rattle.std.specs.Prelude.{◌≡◌, Bool, true, false, List, [], ◌∷◌, ◌++◌, Option, Some, None, Result, Ok, Err}
 use Rattle.world_model.specs.Problem.{Problem}
-use Rattle.world_model.specs.Family.{Family}
 use Rattle.point_query.specs.Asking.{AskerState}
 use Rattle.cert_text.specs.declared.line.Subject.{Subject}
 use Rattle.cert_text.specs.declared.line.CertLine.{CertLine}

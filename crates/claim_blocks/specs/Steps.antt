@@ -14,23 +14,23 @@ use Rattle.split_search.specs.declared.choice.Choice.TheVariants.{Met, Refuted}
 use Rattle.split_search.specs.Claiming.{ClaimsBegin, ToldClaims}
 use Rattle.claim_blocks.specs.Blocks.{AreClaimsTold}
 
--- a line leads from one tree, or none, and some claims to others, whatever lines came before it
+-- whatever lines came before it, a line leads from this open tree, or none, and these claims to that tree and those claims
 abbrev pub LineLeads : Problem → State → CertLine → Option Block → List Claim → Option Block → List Claim → Type 0
 LineLeads p state line block claims next more =
     (lines : List CertLine) → ClaimsKeepUp p lines [] state block claims → ClaimsKeepUp p (lines ++ line ∷ []) [] state next more
 
--- told lines with this tree open and these claims are later ones with that tree and those claims
+-- so does a call, from told lines that keep up with an asker to those that keep up with it afterwards
 abbrev pub LeadsTo : Problem → Told → Told → AskerState → AskerState → Option Block → List Claim → Option Block → List Claim → Type 0
 LeadsTo p old new one other block claims next more =
     (lines : List CertLine) → old ≡ Some lines → ClaimsBegin p one.solver.waiting one.solver.state block claims lines →
     ToldClaims p new other.solver.waiting other.solver.state next more
 
--- told lines with this tree open and these claims are later ones that keep up, with some tree and some claims
+-- or it leads to some tree, or none, and some claims
 abbrev pub LeadsSomewhere : Problem → Told → Told → AskerState → AskerState → Option Block → List Claim → Type 0
 LeadsSomewhere p old new one other block claims =
     (lines : List CertLine) → old ≡ Some lines → ClaimsBegin p one.solver.waiting one.solver.state block claims lines → AreClaimsTold p new other
 
--- after Ok with that tree and those claims, and after a fault with some
+-- to that tree and those claims after Ok, and to some after a fault
 abbrev pub LeadsIf : {T : Type 0} → Problem → Result T StepFault → Told → Told → AskerState → AskerState → Option Block → List Claim → Option Block → List Claim → Type 0
 LeadsIf p (Ok value) old new one other block claims next more = LeadsTo p old new one other block claims next more
 LeadsIf p (Err fault) old new one other block claims next more = LeadsSomewhere p old new one other block claims

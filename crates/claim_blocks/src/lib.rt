@@ -1,9 +1,9 @@
 //! Claims told to a log as whole blocks: that a family meets the problem of a subject, or that none does.
 #![tactic(auto)]
 
-mod settle;
+mod claims;
 
-pub use settle::{settle, show};
+pub use claims::{settle, show};
 
 #[cfg(test)]
 mod tests;

@@ -1,11 +1,11 @@
-use Rattle.std.proofs.Common.{◌≡◌, true, ◌++◌, [], None, ◌∙◌, sym, subst}
+use Rattle.std.proofs.Common.{◌≡◌, true, ◌++◌, None}
 use Rattle.cert_rules.specs.ClaimWriting.{open_at}
 use Rattle.cert_rules.proofs.ClaimWriting.{claims_put_keep_up_law}
 use Rattle.search_log.proofs.Logs.{log_joins}
 use Rattle.claim_blocks.specs.Blocks.{claimed}
 use Rattle.claim_blocks.proofs.Answered.{leads_from}
 use Rattle.claim_blocks.proofs.Steps.{leads_err, leads_behind}
-use Rattle.claim_blocks.proofs.settle.leave_tree.Goals as goal
+use Rattle.claim_blocks.proofs.claims.leave_tree.Goals as goal
 
 pub returns-in_err-put_behind-clause-keeps : goal.returns-in_err-put_behind-clause-keeps
 returns-in_err-put_behind-clause-keeps g c = λ p at claims shows.

@@ -1,14 +1,14 @@
-use Rattle.std.proofs.Common.{◌≡◌, false, ◌++◌, [], None, sym, ◌∙◌, subst}
+use Rattle.std.proofs.Common.{◌≡◌, false, ◌++◌, None, sym, subst}
 use Rattle.cert_rules.specs.ClaimWriting.{open_at}
 use Rattle.cert_rules.proofs.ClaimWriting.{claims_put_keep_up_law}
 use Rattle.split_search.specs.Choosing.{IsChoice}
 use Rattle.claim_blocks.specs.Blocks.{claimed, settled}
 use Rattle.claim_blocks.specs.Steps.{LeadsIf, MayEndAt}
 use Rattle.claim_blocks.proofs.Answered.{shown, few_sets}
-use Rattle.claim_blocks.proofs.settle.end_tree.Goals as goal
+use Rattle.claim_blocks.proofs.claims.end_tree.Goals as goal
 
-pub leave_tree-in-Met-requires : goal.leave_tree-in-Met-requires
-leave_tree-in-Met-requires g c = few_sets c.args.problem.now c.in-Met.family.now c.facts.ensures (subst (IsChoice c.args.problem.now) c.in-Met.is c.requires)
+pub leave_tree-requires : goal.leave_tree-requires
+leave_tree-requires g c = few_sets c.args.problem.now c.in-Met.family c.facts.ensures (subst (IsChoice c.args.problem.now) c.in-Met.is c.requires)
 
 pub returns-in-Met-clause-keeps : goal.returns-in-Met-clause-keeps
 returns-in-Met-clause-keeps g c = λ p at claims is may.
@@ -16,7 +16,7 @@ returns-in-Met-clause-keeps g c = λ p at claims is may.
     let q = c.args.problem.now in
     let old = g.L.TreeLog.lines c.args.log.now in
     let new = g.L.TreeLog.lines c.leave_tree.new.log in
-    let shows = shown p subject q c.in-Met.family.now is (subst (IsChoice q) c.in-Met.is c.requires) in
+    let shows = shown p subject q c.in-Met.family is (subst (IsChoice q) c.in-Met.is c.requires) in
     subst (λ choice. LeadsIf p c.leave_tree.result old new c.args.asker.now c.leave_tree.new.asker (open_at subject at) claims None (claims ++ settled subject choice)) (sym c.in-Met.is)
     (c.leave_tree.ensures.keeps p at claims shows)
 

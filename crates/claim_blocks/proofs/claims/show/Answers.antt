@@ -1,4 +1,4 @@
-use Rattle.std.proofs.Common.{◌≡◌, true, ◌++◌, None, sym, ◌∙◌, ap, refl, subst}
+use Rattle.std.proofs.Common.{◌≡◌, true, ◌++◌, None, Ok, sym, ◌∙◌, refl, subst}
 use Rattle.search_log.specs.declared.fault.StepFault.TheVariants.{NoMemory}
 use Rattle.search_log.proofs.Logs.{asker_stays, log_stays_ok, log_memory}
 use Rattle.cert_rules.proofs.ClaimWriting.{claims_put_keep_up_law}
@@ -6,11 +6,11 @@ use Rattle.claim_blocks.specs.Blocks.{claimed}
 use Rattle.claim_blocks.specs.Steps.{LineLeads}
 use Rattle.claim_blocks.proofs.Answered.{keeps_from}
 use Rattle.claim_blocks.proofs.Joins.{keeps_err, keeps_untold, nothing_told}
-use Rattle.claim_blocks.proofs.settle.show.Goals as goal
+use Rattle.claim_blocks.proofs.claims.show.Goals as goal
 
 pub returns-then-is_dropping-clause-keeps : goal.returns-then-is_dropping-clause-keeps
 returns-then-is_dropping-clause-keeps g c = λ p shows.
-    keeps_untold _ p _ (g.L.TreeLog.lines c.args.log.now) (g.L.TreeLog.lines c.args.log.now) c.args.asker.now c.clear_lines.new.self
+    keeps_untold (Ok (tt {0})) p (λ _ more. more ≡ claimed c.args.subject.now true) (g.L.TreeLog.lines c.args.log.now) (g.L.TreeLog.lines c.args.log.now) c.args.asker.now c.clear_lines.new.self
     (g.met.L.TreeLog.tells_none c.args.log.now (sym c.is_dropping.ensures ∙ c.if-is_dropping.true))
 
 pub returns-then-is_dropping-clause-log : goal.returns-then-is_dropping-clause-log

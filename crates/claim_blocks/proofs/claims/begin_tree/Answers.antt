@@ -1,4 +1,4 @@
-use Rattle.std.proofs.Common.{◌≡◌, [], Some, None, sym, ap, subst}
+use Rattle.std.proofs.Common.{◌≡◌, [], Some, None, sym, subst}
 use Rattle.search_log.specs.declared.fault.StepFault.TheVariants.{NoMemory}
 use Rattle.search_log.proofs.Logs.{log_memory}
 use Rattle.cert_rules.specs.ClaimWriting.{open_at}
@@ -6,7 +6,7 @@ use Rattle.cert_rules.proofs.ClaimWriting.{claims_put_keep_up_law}
 use Rattle.cert_text.specs.declared.line.CertLine.TheVariants.{Fails}
 use Rattle.claim_blocks.specs.Steps.{LineLeads}
 use Rattle.claim_blocks.proofs.Steps.{leads_some, leads_err, leads_same}
-use Rattle.claim_blocks.proofs.settle.begin_tree.Goals as goal
+use Rattle.claim_blocks.proofs.claims.begin_tree.Goals as goal
 
 pub returns-in_err-copy_subject-clause-keeps : goal.returns-in_err-copy_subject-clause-keeps
 returns-in_err-copy_subject-clause-keeps g c = λ p claims fault.

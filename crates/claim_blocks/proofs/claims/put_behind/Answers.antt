@@ -1,7 +1,7 @@
 use Rattle.std.proofs.Common.{◌≡◌}
 use Rattle.search_log.proofs.Logs.{log_joins}
 use Rattle.claim_blocks.proofs.Steps.{leads_some, leads_err, leads_flushed, leads_behind, leads_put_if, leads_alike}
-use Rattle.claim_blocks.proofs.settle.put_behind.Goals as goal
+use Rattle.claim_blocks.proofs.claims.put_behind.Goals as goal
 
 pub returns-in_err-put_waiting-clause-keeps : goal.returns-in_err-put_waiting-clause-keeps
 returns-in_err-put_waiting-clause-keeps g c = λ p block next claims more leads.
