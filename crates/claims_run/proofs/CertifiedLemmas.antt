@@ -155,12 +155,3 @@ module _ {S : Type 0} (held : S → Contents) (reads writes : S → Counts) wher
       (subst (λ (n : List ℕ). OthersKept n (held store) (held (log_store a).now)) (sym named) (subst (λ (s : S). OthersKept name (held store) (held s)) (sym is_mid) others))
       (subst (λ (s : S). IsQuiet (state store) (state s)) (sym is_mid) quiet)
       right told goes)))
-
--- an answer without a certificate, and one for which memory was wanting
-pub bare_settled : (answer : Answer) (p : Problem) (asked : Question) (store : StoreState) → IsRight p asked answer → IsSettledWith p asked None (Ok answer) store store
-bare_settled answer p asked store right = record { right = right; left = tt; kept = λ name apart. refl; cause = (refl, refl) }
-
-pub bare_starved : (r : Result Answer StoreFault) (p : Problem) (asked : Question) (store : StoreState) → IsErrAnd r (λ f. f ≡ NoMemory) → IsSettledWith p asked None r store store
-bare_starved (Ok answer) p asked store is = absurd is
-bare_starved (Err f) p asked store is =
-    subst (λ f. IsSettledWith p asked None (Err f) store store) (sym is) (record { right = tt; left = tt; kept = λ name apart. refl; cause = (refl, refl) })
