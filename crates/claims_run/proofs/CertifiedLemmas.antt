@@ -141,25 +141,17 @@ module _ {S : Type 0} (held : S → Contents) (reads writes : S → Counts) wher
       (subst (λ (n : Bor (List ℕ)). IfLogFailed r (Rose (writes (log_store a).now name) (writes (log_store b).now n.now)) (writes (log_store b).now n.now ≡ writes (log_store a).now name)) named goes.fault)
       goes.still goes.comes.2.others
 
-  pub settled_over_as : (r : Result Answer StepFault) (p : Problem) (asked : Question) (name : List ℕ) (store mid left : S) (a b : StoreLog S) (drops : StoreLog S → Bool)
-      → (log_store b).now ≡ left → (log_store a).now ≡ mid → (log_name a).now ≡ name → is_refused a ≡ false
+  pub settled_over_as : (r : Result Answer StepFault) (out : Result Answer StoreFault) (p : Problem) (asked : Question) (name : List ℕ) (store mid left : S) (a b : StoreLog S) (drops : StoreLog S → Bool)
+      → out ≡ as_stored r → (log_store b).now ≡ left → (log_store a).now ≡ mid → (log_name a).now ≡ name → is_refused a ≡ false
       → held mid name ≡ emptied (held store name) → OthersKept name (held store) (held mid) → IsQuiet (state store) (state mid)
       → IfOk r (IsRight p asked) → IfOk r (λ answer. IsToldWhole p (IsClaimed p answer) (lines_of a) (lines_of b)) → LogGoes drops lines_of faults_of steady_of quiet_of r a b
-      → IsSettledWith p asked (Some name) (as_stored r) (state store) (state left)
-  settled_over_as r p asked name store mid left a b drops is_left is_mid named fresh made others quiet right told goes =
-      subst (λ (s : S). IsSettledWith p asked (Some name) (as_stored r) (state store) (state s)) is_left
+      → IsSettledWith p asked (Some name) out (state store) (state left)
+  settled_over_as r out p asked name store mid left a b drops is_out is_left is_mid named fresh made others quiet right told goes =
+      subst (λ (out : Result Answer StoreFault). IsSettledWith p asked (Some name) out (state store) (state left)) (sym is_out)
+      (subst (λ (s : S). IsSettledWith p asked (Some name) (as_stored r) (state store) (state s)) is_left
       (subst (λ (n : List ℕ). IsSettledWith p asked (Some n) (as_stored r) (state store) (state (log_store b).now)) named
       (settled_over r p asked store a b drops fresh
       (subst (λ (n : List ℕ). held (log_store a).now n ≡ emptied (held store n)) (sym named) (subst (λ (s : S). held s name ≡ emptied (held store name)) (sym is_mid) made))
       (subst (λ (n : List ℕ). OthersKept n (held store) (held (log_store a).now)) (sym named) (subst (λ (s : S). OthersKept name (held store) (held s)) (sym is_mid) others))
       (subst (λ (s : S). IsQuiet (state store) (state s)) (sym is_mid) quiet)
-      right told goes))
-
--- an answer without a certificate, and one for which memory was wanting
-pub bare_settled : (answer : Answer) (p : Problem) (asked : Question) (store : StoreState) → IsRight p asked answer → IsSettledWith p asked None (Ok answer) store store
-bare_settled answer p asked store right = record { right = right; left = tt; kept = λ name apart. refl; cause = (refl, refl) }
-
-pub bare_starved : (r : Result Answer StoreFault) (p : Problem) (asked : Question) (store : StoreState) → IsErrAnd r (λ f. f ≡ NoMemory) → IsSettledWith p asked None r store store
-bare_starved (Ok answer) p asked store is = absurd is
-bare_starved (Err f) p asked store is =
-    subst (λ f. IsSettledWith p asked None (Err f) store store) (sym is) (record { right = tt; left = tt; kept = λ name apart. refl; cause = (refl, refl) })
+      right told goes)))

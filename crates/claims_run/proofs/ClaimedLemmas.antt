@@ -74,15 +74,20 @@ ended v p IsMade three four five other last lines claims made at k same flushed 
       begins = subst (λ waiting. ClaimsBegin p waiting last.solver.state None claims all) flushed.ok.none_waits begins;
     }
 
--- the first line, an answer's claims, the lines that wait and `done` are a whole list of claims
-pub told_whole : {T : Type 0} (v : T) (p : Problem) (IsMade : List Claim → Type 0) (first two three four five : Told) (one other last : AskerState) → IsToldWith first (Claims p.switches) two → IsNewAsker p one →
+-- behind the first line, an answer's claims, the lines that wait and `done` are a whole list of claims
+pub told_rest : {T : Type 0} (v : T) (p : Problem) (IsMade : List Claim → Type 0) (two three four five : Told) (one other last : AskerState) → IsNewAsker p one →
     AddsLines two three → FromClaims p two one (λ claims. AreClaimsMade p IsMade claims three other) → IsSameButLines other last → IsFlushed (Ok v) three four other last →
-    IsToldWith four Done five → IsToldWhole p IsMade first five
-told_whole v p IsMade first two three four five one other last begin new adds answered same flushed done empty =
-    let headed : two ≡ Some (Claims p.switches ∷ []) = subst (λ told. IsToldWith told (Claims p.switches) two) empty begin in
+    IsToldWith four Done five → two ≡ Some (Claims p.switches ∷ []) → AreAllTold p IsMade five
+told_rest v p IsMade two three four five one other last new adds answered same flushed done headed =
     let made = answered (Claims p.switches ∷ []) [] headed (begun p one new) in
     told_then (ClaimsBegin p other.solver.waiting other.solver.state None made.more) (AreAllTold p IsMade five) two three (Claims p.switches ∷ []) headed adds made.told_claims
     (λ lines at k. ended v p IsMade three four five other last lines made.more made.made at k same flushed done)
+
+-- and so they are where the first line is put and no line was told before
+pub told_whole : (r : Result Answer StepFault) (p : Problem) (first two three : Told) → IsToldWith first (Claims p.switches) two →
+    IfOk r (λ answer. two ≡ Some (Claims p.switches ∷ []) → AreAllTold p (IsClaimed p answer) three) → IfOk r (λ answer. IsToldWhole p (IsClaimed p answer) first three)
+told_whole (Ok answer) p first two three begin rest = λ empty. rest (subst (λ told. IsToldWith told (Claims p.switches) two) empty begin)
+told_whole (Err fault) p first two three begin rest = tt
 
 -- nothing is owed of an answer at a fault
 pub none_at_fault : (r : Result Answer StepFault) (e : StepFault) (P : Answer → Type 0) → IsErrAnd r (λ f. f ≡ e) → IfOk r P

@@ -1,12 +1,14 @@
 //! Answers, and their claims in a log.
-ghost use Rattle.std.specs.Prelude.{◌≡◌, IfOk};
+ghost use Rattle.std.specs.Prelude.{◌≡◌, ◌∷◌, [], Some, IfOk};
 ghost use Rattle.constraint_set.specs.Facts.{IsAsRead};
 ghost use Rattle.constraint_set.specs.Shape.{shape_of};
+ghost use Rattle.point_query.specs.Asking.{IsNewAsker};
+ghost use Rattle.cert_text.specs.declared.line.CertLine.TheVariants.{Claims};
 ghost use Rattle.search_log.specs.Logging.{LogGoes};
 ghost use Rattle.claim_blocks.specs.Blocks.{KeepsClaims};
 ghost use Rattle.claims_run.specs.declared.question.Question.TheVariants as question;
 ghost use Rattle.claims_run.specs.Answering.{IsRight, IsClaimed};
-ghost use Rattle.claims_run.specs.Certifying.{IsToldWhole};
+ghost use Rattle.claims_run.specs.Certifying.{AreAllTold, IsToldWhole};
 
 use crate::question::{Answer, Question};
 use cert_text::{CertLine, Flags, TreeLog};
@@ -75,6 +77,26 @@ fn answer<L: TreeLog>(
     }
 }
 
+// The answer to a question, behind the first line of a certificate, which then ends.
+fn tell_rest<L: TreeLog>(
+    alloc: Global,
+    problem: &Problem,
+    asked: Question,
+    asker: &mut Asker,
+    log: &mut L,
+) -> Result<Answer, StepFault>
+    requires new { IsNewAsker problem.now asker.old }
+    requires as_read { IsAsRead problem.now }
+    ensures right { IfOk result (IsRight problem.now asked) }
+    ensures told { IfOk result (λ answer. L.lines log.old ≡ Some (Claims problem.now.switches ∷ []) → AreAllTold problem.now (IsClaimed problem.now answer) (L.lines log.new)) }
+    ensures log { LogGoes L.drops L.lines L.faults L.steady L.quiet result log.old log.new }
+{
+    let answer = answer(alloc, problem, asked, asker, log)?;
+    put_waiting(alloc, asker, log)?;
+    put_one(log, &CertLine::Done)?;
+    Ok(answer)
+}
+
 /// The answer to a question. A log is told its claims as a whole certificate.
 pub(crate) fn tell<L: TreeLog>(
     alloc: Global,
@@ -88,15 +110,10 @@ pub(crate) fn tell<L: TreeLog>(
     ensures log { LogGoes L.drops L.lines L.faults L.steady L.quiet result log.old log.new }
     ensures steady { L.steady log.old log.new }
 {
-    put_one(
-        log,
-        &CertLine::Claims {
-            switches: problem.switches(),
-        },
-    )?;
+    let first = CertLine::Claims {
+        switches: problem.switches(),
+    };
+    put_one(log, &first)?;
     let mut asker = Asker::new(alloc, problem)?;
-    let answer = answer(alloc, problem, asked, &mut asker, log)?;
-    put_waiting(alloc, &mut asker, log)?;
-    put_one(log, &CertLine::Done)?;
-    Ok(answer)
+    tell_rest(alloc, problem, asked, &mut asker, log)
 }

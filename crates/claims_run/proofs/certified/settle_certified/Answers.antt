@@ -1,6 +1,5 @@
-use Rattle.std.proofs.Common.{rules, Some, Ok, Err, sym, ap, subst}
+use Rattle.std.proofs.Common.{rules, Ok, Err, refl, ap}
 use Rattle.run_ends.specs.Runs.{store_state}
-use Rattle.claims_run.specs.Certifying.{IsSettledWith}
 use Rattle.claims_run.proofs.CertifiedLemmas.{create_refused, settled_over_as}
 use Rattle.claims_run.proofs.certified.settle_certified.Goals as goal
 
@@ -13,9 +12,14 @@ returns-in_err-create g c =
 
 pub returns-in-Ok : goal.returns-in-Ok
 returns-in-Ok g c =
-    settled_over_as g.S.Store.held g.S.Store.read_faults g.S.Store.write_faults (Ok c.in-Ok.answer) c.args.problem.now c.args.asked c.args.name.now c.args.store.now c.create.new.self _ c.new-log.result c.tell.new.log _
-    (search rules) c.new-log.ensures.store (ap (λ n. n.now) c.new-log.ensures.name) c.new-log.ensures.refused
+    settled_over_as g.S.Store.held g.S.Store.read_faults g.S.Store.write_faults (Ok c.in-Ok.answer) (Ok c.in-Ok.answer) c.args.problem.now c.args.asked c.args.name.now
+    c.args.store.now c.create.new.self _ c.new-log.result c.tell.new.log _
+    refl (search rules) c.new-log.ensures.store (ap (λ n. n.now) c.new-log.ensures.name) c.new-log.ensures.refused
     c.in_ok-create.ensures.ok c.create.ensures.others c.in_ok-create.ensures.cause c.in-Ok.ensures.right c.in-Ok.ensures.told c.in-Ok.ensures.log
 
 pub returns-in-Err : goal.returns-in-Err
-returns-in-Err g c = ?
+returns-in-Err g c =
+    settled_over_as g.S.Store.held g.S.Store.read_faults g.S.Store.write_faults (Err c.in-Err.fault) (Err c.store_fault.result) c.args.problem.now c.args.asked c.args.name.now
+    c.args.store.now c.create.new.self _ c.new-log.result c.tell.new.log _
+    (ap Err c.store_fault.ensures) (search rules) c.new-log.ensures.store (ap (λ n. n.now) c.new-log.ensures.name) c.new-log.ensures.refused
+    c.in_ok-create.ensures.ok c.create.ensures.others c.in_ok-create.ensures.cause tt tt c.in-Err.ensures.log
