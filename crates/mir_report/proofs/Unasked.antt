@@ -1,5 +1,5 @@
 -- Which relations are asked for where nobody reads the claims.
-use Rattle.std.proofs.Common.{◌≡◌, ℕ, ◌+◌, ◌<◌, ◌≤◌, ◌↔◌, ◌⊎◌, true, false, not, List, [], ◌∷◌, ◌++◌, length, get_or, Some, inl, inr, refl, sym, ap, ap₂, subst, ◌∙◌, arith, IsTrue, slice_get}
+use Rattle.std.proofs.Common.{◌≡◌, ℕ, zero, suc, ◌+◌, ◌<◌, ◌≤◌, ◌↔◌, ◌⊎◌, true, false, not, List, [], ◌∷◌, ◌++◌, length, get_or, Some, inl, inr, refl, sym, ap, ap₂, subst, ◌∙◌, arith, IsTrue, slice_get}
 use Rattle.std.specs.Prelude.{nat_lt}
 use Rattle.std.specs.List.{list_all}
 use Rattle.std.proofs.lemmas.Bool.{and_from, and_parts, cases_eq, cases_Bool, true≢false, not-true, lt-ltb}
@@ -12,11 +12,11 @@ use Rattle.rcc5_core.specs.declared.Rel.{Rel}
 use Rattle.rcc5_core.specs.declared.RelSet.{RelSet}
 use Rattle.rcc5_core.specs.Region.{is_whole_set}
 use Rattle.rcc5_core.specs.RelationSet.{has, only, is_empty_set, both_of}
-use Rattle.world_model.specs.Problem.{Problem, concept_count, pairs, pair_count, cross_pairs, narrowed, is_problem, is_about_pair, is_concept}
+use Rattle.world_model.specs.Problem.{Problem, Constraint, concept_count, pairs, pair_count, cross_pairs, narrowed, is_problem, is_about_pair, is_concept}
 use Rattle.world_model.specs.Alive.{allowed, all_whole, IsAlive}
 use Rattle.world_model.specs.Node.{pair_at}
 use Rattle.world_model.specs.Questions.{IsPossibleRelation}
-use Rattle.world_model.proofs.Members.{In, In-get_or, all_at, all_from}
+use Rattle.world_model.proofs.Members.{In, In-get_or, all_at, all_from, contains_from_in}
 use Rattle.world_model.proofs.PointPairs.{from_pairs}
 use Rattle.world_model.proofs.PointAlive.{met_is_alive}
 use Rattle.world_model.proofs.PointServed.{alive_is_met}
@@ -60,7 +60,7 @@ candidates_more p k sets more set within is put are = subst (AreCandidates p (k 
 narrowed_is_problem : (p : Problem) (pair : ℕ) (rel : Rel) → pair < pair_count p → is_problem p ≡ true → is_problem (narrowed p (pair_at p pair) (only rel)) ≡ true
 narrowed_is_problem p pair rel within h =
     let parts = and_parts _ (list_all (is_about_pair p) p.narrowings) h in
-    let one = record { left = (pair_at p pair).0; right = (pair_at p pair).1; set = only rel } in
+    let one : Constraint = record { left = (pair_at p pair).0; right = (pair_at p pair).1; set = only rel } in
     let is = from_pairs p (pair_at p pair) (In-get_or (pairs p) pair (0, 0) within) in
     and_from _ (list_all (is_about_pair p) (p.narrowings ++ one ∷ [])) parts.0
     (list_all-append (is_about_pair p) p.narrowings (one ∷ []) ∙
@@ -112,3 +112,23 @@ alive_sets_are_possible p sets valid whole are = record {
         λ possible. (is rel).1 (met_is_alive (narrowed p (pair_at p pair) (only rel)) (law.0 possible)),
       );
 }
+
+-- the pairs that were looked at, and one more
+pub whole_more : (p : Problem) (n : ℕ) → ((k : ℕ) → k < n → is_whole_set (allowed p (pair_at p k)) ≡ true) → is_whole_set (allowed p (pair_at p n)) ≡ true → (k : ℕ) → k < n + 1 →
+    is_whole_set (allowed p (pair_at p k)) ≡ true
+whole_more p n each next k within = elim (cases_eq k n) [
+  | inl last ↦ subst (λ j. is_whole_set (allowed p (pair_at p j)) ≡ true) (sym last) next
+  | inr before ↦ each k (omega (arith, within, before))
+]
+
+-- a default does not matter within a list
+any_default : {X : Type 0} (xs : List X) (k : ℕ) (d e : X) → k < length xs → get_or xs k d ≡ get_or xs k e
+any_default [] k d e h = absurd (omega arith)
+any_default (x ∷ xs) zero d e h = refl
+any_default (x ∷ xs) (suc k) d e h = any_default xs k d e (omega (arith, h))
+
+-- all pairs allow whole sets where each by its number does
+pub whole_from : (p : Problem) → ((k : ℕ) → k < pair_count p → is_whole_set (allowed p (pair_at p k)) ≡ true) → all_whole p ≡ true
+whole_from p each = all_from (λ pair. is_whole_set (allowed p pair)) (pairs p) (λ pair i.
+    let c = contains_from_in i in
+    subst (λ q. is_whole_set (allowed p q) ≡ true) (any_default (pairs p) c.0 (0, 0) pair c.1 ∙ c.2) (each c.0 c.1))

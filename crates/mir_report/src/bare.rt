@@ -111,14 +111,8 @@ fn ask_all(
     let mut families = Vec::new(alloc);
     let mut sets = Vec::new(alloc);
     'pairs: for pair in 0..problem.cross_count() {
-        let set = ask_pair(
-            alloc,
-            problem,
-            pair,
-            among[pair as usize],
-            &mut families,
-            asker,
-        )?;
+        let some = among[pair as usize];
+        let set = ask_pair(alloc, problem, pair, some, &mut families, asker)?;
         put(&mut sets, set)?;
     }
     Ok(MirSets { sets })

@@ -24,7 +24,7 @@ ask_pair-requires-clause-within c = cross_within c.args.problem.now c.pairs.pair
 
 pub ask_pair-requires-clause-among : goal.ask_pair-requires-clause-among
 ask_pair-requires-clause-among c =
-    subst (HasPossible c.args.problem.now c.pairs.pair) (sym c.index.is) (c.requires.among.each c.pairs.pair c.index.result (omega arith))
+    subst (HasPossible c.args.problem.now c.pairs.pair) (sym c.index-some.is) (c.requires.among.each c.pairs.pair c.index-some.result (omega arith))
 
 pub pairs-preserved : goal.pairs-preserved
 pairs-preserved c =
