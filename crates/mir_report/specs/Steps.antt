@@ -1,18 +1,31 @@
 -- What is known while the pairs are gone through.
-use Rattle.std.specs.Prelude.{◌≡◌, ℕ, ◌↔◌, Bool, Option, IfSome, IsTrue}
+use Rattle.std.specs.Prelude.{◌≡◌, ℕ, Bool, if◌then◌else◌, List, [], map, filter}
 use Rattle.rcc5_core.specs.declared.Rel.{Rel}
+use Rattle.rcc5_core.specs.declared.RelSet.{RelSet}
 use Rattle.rcc5_core.specs.Relation.{relation_of}
+use Rattle.rcc5_core.specs.RelationSet.{has}
 use Rattle.world_model.specs.Problem.{Problem}
 use Rattle.world_model.specs.Family.{Family, set_of}
+use Rattle.world_model.specs.Alive.{allowed}
 use Rattle.world_model.specs.Node.{pair_at}
-use Rattle.world_model.specs.Questions.{IsPossibleRelation}
+use Rattle.cert_text.specs.declared.line.Subject.TheVariants.{Narrowed}
+use Rattle.cert_rules.specs.ClaimLists.{Claim}
 use Rattle.split_search.specs.Choosing.{IsMetBy}
+use Rattle.claim_blocks.specs.Blocks.{claimed}
 
 -- a family that meets a problem shows a relation at a pair
 pub record ShowsAt (p : Problem) (pair : ℕ) (rel : Rel) (f : Family) : Type 0 where
   pub met_by : IsMetBy p f
   pub there : relation_of (set_of f (pair_at p pair).0) (set_of f (pair_at p pair).1) ≡ rel
 
--- whether a relation is possible at a pair is known, or it is not
-abbrev pub IsKnown : Problem → ℕ → Rel → Option Bool → Type 0
-IsKnown p pair rel known = IfSome known (λ some. IsTrue some ↔ IsPossibleRelation p pair rel)
+-- the claim for a relation of a pair: whether it is in a set
+abbrev pub claim_of : ℕ → RelSet → Rel → Claim
+claim_of pair set rel = record { subject = Narrowed pair rel; holds = has set rel }
+
+-- the claims for some relations of a pair, of each that it allows
+abbrev pub claims_of : Problem → ℕ → RelSet → List Rel → List Claim
+claims_of p pair set rels = map (claim_of pair set) (filter (has (allowed p (pair_at p pair))) rels)
+
+-- the claim for one relation of a pair, where it allows that
+abbrev pub claim_if_allowed : Problem → ℕ → Rel → Bool → List Claim
+claim_if_allowed p pair rel some = if has (allowed p (pair_at p pair)) rel then claimed (Narrowed pair rel) some else []

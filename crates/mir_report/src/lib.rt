@@ -2,6 +2,9 @@
 #![tactic(auto)]
 
 mod found;
-mod mir;
+mod possible;
 
-pub use mir::{MirSets, has_world, mir};
+pub use possible::{MirSets, has_world, mir};
+
+#[cfg(test)]
+mod tests;

@@ -1,6 +1,6 @@
 //! The possible relations of the pairs across taxonomies.
-ghost use Rattle.std.specs.Prelude.{◌≡◌, ◌<◌, ◌↔◌, length, All, IfOk, OnOk, IsTrue, ⊤};
-ghost use Rattle.world_model.specs.Problem.{pair_count, cross_pairs};
+ghost use Rattle.std.specs.Prelude.{◌≡◌, ◌<◌, ◌↔◌, All, IfOk, OnOk, IsTrue, ⊤};
+ghost use Rattle.world_model.specs.Problem.{pair_count};
 ghost use Rattle.world_model.specs.Questions.{IsMet, IsPossibleRelation};
 ghost use Rattle.constraint_set.specs.Shape.{shape_of};
 ghost use Rattle.cert_text.specs.declared.line.Subject.TheVariants.{Narrowed};
@@ -8,8 +8,9 @@ ghost use Rattle.search_log.specs.Logging.{LogGoes};
 ghost use Rattle.split_search.specs.Choosing.{IsMetBy};
 ghost use Rattle.claim_blocks.specs.Blocks.{claimed, KeepsClaims};
 ghost use Rattle.mir_report.specs.Possible.{IsPossibleSet, ArePossibleSets, pair_claims, claims_from};
+ghost use Rattle.mir_report.specs.Steps.{claim_if_allowed};
 
-use crate::found::shown_by;
+use crate::found::{put, shown_by};
 use cert_text::{Flags, Subject, TreeLog};
 use claim_blocks::{settle, show};
 use constraint_set::Problem;
@@ -18,7 +19,16 @@ use rcc5_core::{Rel, RelSet};
 use search_log::StepFault;
 use set_family::Family;
 use split_search::Choice;
-use std::alloc::Global;
+use std::alloc::{AllocError, Global};
+
+// The relations, in their order.
+const RELS: [Rel; 5] = [
+    Rel::Equals,
+    Rel::Includes,
+    Rel::IncludedIn,
+    Rel::Overlaps,
+    Rel::Disjoint,
+];
 
 /// For each pair across taxonomies, in order, the relations that some possible world has there.
 #[derive(Debug, Drop)]
@@ -45,6 +55,7 @@ fn settle_rel<L: TreeLog>(
     ensures keeps { KeepsClaims problem.now result (λ some more. more ≡ claimed (Narrowed pair rel) some) (L.lines log.old) (L.lines log.new) asker.old asker.new }
     ensures log { LogGoes L.drops L.lines L.faults L.steady L.quiet result log.old log.new }
 {
+    problem.facts();
     let subject = Subject::Narrowed { pair, rel };
     if let Some(family) = shown_by(families, problem, pair, rel) {
         show(alloc, &subject, family, asker, log)?;
@@ -53,11 +64,36 @@ fn settle_rel<L: TreeLog>(
     let narrowed = problem.narrowed(alloc, pair, RelSet::one(rel))?;
     match settle(alloc, &subject, &narrowed, asker, log)? {
         Choice::Met(family) => {
-            families.push(family)?;
+            put(families, family)?;
             Ok(true)
         }
         Choice::Refuted => Ok(false),
     }
+}
+
+// The same where the pair allows the relation. Else it is not possible, and nothing is claimed.
+fn settle_if_allowed<L: TreeLog>(
+    alloc: Global,
+    problem: &Problem,
+    pair: u32,
+    rel: Rel,
+    families: &mut Vec<Family>,
+    asker: &mut Asker,
+    log: &mut L,
+) -> Result<bool, StepFault>
+    requires shape { asker.old.shape ≡ shape_of problem.now }
+    requires within { pair < pair_count problem.now }
+    requires families { All (IsMetBy problem.now) families.old.items }
+    ensures shape { asker.new.shape ≡ asker.old.shape }
+    ensures families { OnOk result (All (IsMetBy problem.now) families.new.items) }
+    ensures answer { IfOk result (λ some. IsTrue some ↔ IsPossibleRelation problem.now pair rel) }
+    ensures keeps { KeepsClaims problem.now result (λ some more. more ≡ claim_if_allowed problem.now pair rel some) (L.lines log.old) (L.lines log.new) asker.old asker.new }
+    ensures log { LogGoes L.drops L.lines L.faults L.steady L.quiet result log.old log.new }
+{
+    if !problem.allowed(pair).has(rel) {
+        return Ok(false);
+    }
+    settle_rel(alloc, problem, pair, rel, families, asker, log)
 }
 
 // The possible relations of a pair, and a claim for each that it allows.
@@ -78,7 +114,13 @@ fn settle_pair<L: TreeLog>(
     ensures keeps { KeepsClaims problem.now result (λ set more. more ≡ pair_claims problem.now pair set) (L.lines log.old) (L.lines log.new) asker.old asker.new }
     ensures log { LogGoes L.drops L.lines L.faults L.steady L.quiet result log.old log.new }
 {
-    Err(StepFault::NoMemory)
+    let mut set = RelSet::none();
+    'rels: for rel in RELS {
+        if settle_if_allowed(alloc, problem, pair, rel, families, asker, log)? {
+            set = set.with(rel);
+        }
+    }
+    Ok(set)
 }
 
 /// The possible relations of each pair across taxonomies, exactly.
@@ -98,8 +140,9 @@ pub fn mir<L: TreeLog>(
 {
     let mut families = Vec::new(alloc);
     let mut sets = Vec::new(alloc);
-    for pair in 0..problem.cross_count() {
-        sets.push(settle_pair(alloc, problem, pair, &mut families, asker, log)?)?;
+    'pairs: for pair in 0..problem.cross_count() {
+        let set = settle_pair(alloc, problem, pair, &mut families, asker, log)?;
+        put(&mut sets, set)?;
     }
     Ok(MirSets { sets })
 }
@@ -119,5 +162,40 @@ pub fn has_world<L: TreeLog>(
     ensures keeps { KeepsClaims problem.now result (λ _ _. ⊤) (L.lines log.old) (L.lines log.new) asker.old asker.new }
     ensures log { LogGoes L.drops L.lines L.faults L.steady L.quiet result log.old log.new }
 {
-    Err(StepFault::NoMemory)
+    // A world has some relation at each pair, so the sets are all empty or none is.
+    match mir.sets.first() {
+        Some(set) => Ok(!set.is_empty()),
+        None => is_met(alloc, problem, asker, log),
+    }
+}
+
+// Whether a family meets the problem, and the claim that says so.
+fn is_met<L: TreeLog>(
+    alloc: Global,
+    problem: &Problem,
+    asker: &mut Asker,
+    log: &mut L,
+) -> Result<bool, StepFault>
+    requires shape { asker.old.shape ≡ shape_of problem.now }
+    ensures shape { asker.new.shape ≡ asker.old.shape }
+    ensures answer { IfOk result (λ some. IsTrue some ↔ IsMet problem.now) }
+    ensures keeps { KeepsClaims problem.now result (λ _ _. ⊤) (L.lines log.old) (L.lines log.new) asker.old asker.new }
+    ensures log { LogGoes L.drops L.lines L.faults L.steady L.quiet result log.old log.new }
+{
+    problem.facts();
+    let subject = Subject::Kept(Flags::new(kept_flags(alloc, problem)?));
+    let choice = settle(alloc, &subject, problem, asker, log)?;
+    Ok(matches!(choice, Choice::Met(_)))
+}
+
+// For each articulation whether it is kept.
+fn kept_flags(alloc: Global, problem: &Problem) -> Result<Vec<bool>, AllocError>
+    ensures { IfOk result (λ flags. flags.items ≡ problem.now.kept) }
+{
+    problem.facts();
+    let mut flags = Vec::new(alloc);
+    'flags: for index in 0..problem.articulation_count() {
+        flags.push(problem.is_kept(index))?;
+    }
+    Ok(flags)
 }
