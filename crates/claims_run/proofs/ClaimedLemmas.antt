@@ -1,5 +1,5 @@
 -- What is claimed of an answer, and that it is told whole.
-use Rattle.std.proofs.Common.{◌≡◌, Bool, List, [], ◌∷◌, ◌++◌, map, Option, Some, None, Result, Ok, Err, refl, sym, ap, subst}
+use Rattle.std.proofs.Common.{◌≡◌, Bool, List, [], ◌∷◌, ◌++◌, map, Some, None, Result, Ok, Err, refl, sym, ap, subst}
 use Rattle.std.specs.Prelude.{⊤, IfOk}
 use Rattle.std.specs.Result.{IsErrAnd}
 use Rattle.world_model.specs.Problem.{Problem, restricted}

@@ -1,4 +1,4 @@
-use Rattle.std.proofs.Common.{subst, sym}
+use Rattle.std.proofs.Common.{subst}
 use Rattle.cert_text.specs.declared.line.CertLine.TheVariants.{Claims}
 use Rattle.cert_text.specs.Logs.{IsToldWith}
 use Rattle.search_log.proofs.Logs.{log_joins, log_as, log_then_memory}
