@@ -1,12 +1,16 @@
 -- What is claimed over the steps of a pass.
-use Rattle.std.proofs.Common.{◌≡◌, ℕ, ◌+◌, ◌<◌, Bool, true, false, List, [], ◌∷◌, ◌++◌, inl, inr, map, length, take, get_or, set, Result, Ok, Err, Contains, All, sym, ap, ◌∙◌, subst, arith, refl}
+use Rattle.std.proofs.Common.{◌≡◌, ℕ, ◌+◌, ◌<◌, Bool, true, false, List, [], ◌∷◌, ◌++◌, inl, inr, map, length, take, get_or, set, Option, Some, None, Result, Ok, Err, Contains, All, sym, ap, ◌∙◌, subst, arith, eq-eqb, refl}
+use Rattle.std.specs.Prelude.{if◌then◌else◌}
 use Rattle.std.specs.Result.{IsErrAnd}
 use Rattle.std.proofs.lemmas.List.{map_more}
 use Rattle.std.proofs.lemmas.List.Elements.{All-cons, All-weaker, All-contains_itself, Contains-append_left, Contains-append_right}
-use Rattle.world_model.specs.Problem.{Problem}
+use Rattle.world_model.specs.Problem.{Problem, restricted}
+use Rattle.world_model.specs.Questions.{HasFlags}
 use Rattle.point_query.specs.Asking.{AskerState}
 use Rattle.cert_text.specs.declared.line.Subject.TheVariants.{Kept}
 use Rattle.cert_text.specs.Logs.{Told}
+use Rattle.cert_rules.specs.declared.RejectKind.{RejectKind}
+use Rattle.cert_rules.specs.declared.RejectKind.TheVariants.{WrongSubject}
 use Rattle.cert_rules.specs.ClaimLists.{Claim}
 use Rattle.search_log.specs.declared.fault.StepFault.{StepFault}
 use Rattle.search_log.specs.declared.fault.StepFault.TheVariants.{NoMemory}
@@ -14,10 +18,17 @@ use Rattle.search_log.specs.Logging.{AddsLines}
 use Rattle.search_log.proofs.Logs.{asker_stays}
 use Rattle.split_search.specs.declared.choice.Choice.{Choice}
 use Rattle.split_search.specs.declared.choice.Choice.TheVariants.{Refuted}
-use Rattle.claim_blocks.specs.Blocks.{claimed, settled, AreClaimsTold, AreClaimsMade, FromClaims, KeepsClaims}
+use Rattle.claim_blocks.specs.Blocks.{IsProblemOf, claimed, settled, AreClaimsTold, AreClaimsMade, FromClaims, KeepsClaims}
 use Rattle.claim_blocks.proofs.Joins.{keeps_join, keeps_made, keeps_err, nothing_told}
 use Rattle.conflict_min.specs.Conflicts.{loss_claims, conflict_claims}
 use Rattle.conflict_min.specs.Shrinking.{IsDropped}
+
+-- a flag for each articulation makes a subject, with the problem where just these are kept
+pub kept_subject : (p q : Problem) (flags kept : List Bool) → HasFlags p kept → flags ≡ kept → q ≡ restricted p kept → IsProblemOf p (Kept flags) q
+kept_subject p q flags kept has same is = record {
+  named = ap {B = Option RejectKind} (λ as_many. if as_many then None else Some WrongSubject) (eq-eqb (length flags) (length p.articulations) (ap length same ∙ has));
+  problem = ap (restricted p) same ∙ sym is;
+}
 
 -- claims are told still at a fault before anything was done
 pub untouched : {T : Type 0} (Q : StepFault → Type 0) (r : Result T StepFault) (p : Problem) (IsMade : T → List Claim → Type 0) (told : Told) (one : AskerState) → IsErrAnd r Q →
@@ -25,9 +36,15 @@ pub untouched : {T : Type 0} (Q : StepFault → Type 0) (r : Result T StepFault)
 untouched Q r p IsMade told one fault = keeps_err Q r p IsMade told told one one fault (nothing_told p told one one (asker_stays one))
 
 -- claims that were made are so by a wider word
-made_wider : (p : Problem) (IsOne IsTwo : List Claim → Type 0) (old new : Told) (one other : AskerState) → ((more : List Claim) → IsOne more → IsTwo more) →
+pub made_wider : (p : Problem) (IsOne IsTwo : List Claim → Type 0) (old new : Told) (one other : AskerState) → ((more : List Claim) → IsOne more → IsTwo more) →
     FromClaims p old one (λ claims. AreClaimsMade p IsOne claims new other) → FromClaims p old one (λ claims. AreClaimsMade p IsTwo claims new other)
 made_wider p IsOne IsTwo old new one other wider first = keeps_made {T = Unit {0}} (Ok tt) p (λ _. IsOne) (λ _. IsTwo) old new one other (λ _. wider) first
+
+-- they are told, whatever comes of the next step
+pub made_told : (p : Problem) (IsMade : List Claim → Type 0) (old new : Told) (one other : AskerState) → FromClaims p old one (λ claims. AreClaimsMade p IsMade claims new other) →
+    FromClaims p old one (λ claims. AreClaimsTold p new other)
+made_told p IsMade old new one other first = λ lines claims is k.
+    let made = first lines claims is k in record { block = None; claims = claims ++ made.more; told_claims = made.told_claims }
 
 -- and they are so over two steps, also where the second fails
 pub made_joins : (p : Problem) (IsOne IsTwo IsBoth : List Claim → Type 0) (a b c : Told) (one two three : AskerState) → AddsLines a b →
@@ -66,11 +83,18 @@ dropped_joins a b c one two (inr first) (inl second) = inr (Contains-append_left
 dropped_joins a b c one two first (inr second) = inr (Contains-append_right one two (fails c) second)
 
 -- all were claimed to fail, and then some were dropped
-pub dropped_claimed : (all kept : List Bool) (one two : List Claim) → one ≡ claimed (Kept all) false → IsDropped all kept two → Contains (one ++ two) (fails kept)
+dropped_claimed : (all kept : List Bool) (one two : List Claim) → one ≡ claimed (Kept all) false → IsDropped all kept two → Contains (one ++ two) (fails kept)
 dropped_claimed all kept one two is (inl same) =
     Contains-append_left one two (fails kept)
     (subst (λ claims. Contains claims (fails kept)) (sym is) (subst (λ flags. Contains (claimed (Kept all) false) (fails flags)) (sym same) (All-contains_itself (claimed (Kept all) false) 0 (fails all) (omega arith))))
 dropped_claimed all kept one two is (inr claim) = Contains-append_right one two (fails kept) claim
+
+pub shrunk_claimed : (p : Problem) (all flags kept : List Bool) (choice : Choice) (a b c : Told) (one two three : AskerState) → AddsLines a b → flags ≡ all → choice ≡ Refuted →
+    FromClaims p a one (λ claims. AreClaimsMade p (λ more. more ≡ settled (Kept flags) choice) claims b two) → FromClaims p b two (λ claims. AreClaimsMade p (IsDropped all kept) claims c three) →
+    FromClaims p a one (λ claims. AreClaimsMade p (λ more. Contains more (fails kept)) claims c three)
+shrunk_claimed p all flags kept choice a b c one two three adds same is first second =
+    made_joins p (λ more. more ≡ settled (Kept flags) choice) (IsDropped all kept) (λ more. Contains more (fails kept)) a b c one two three adds
+    (λ first second made. dropped_claimed all kept first second (made ∙ ap (settled (Kept flags)) is ∙ ap (λ flags. claimed (Kept flags) false) same)) first second
 
 -- and then the losses were claimed
 pub conflict_claimed : (kept : List Bool) (one two : List Claim) → Contains one (fails kept) → two ≡ loss_claims kept → All (Contains (one ++ two)) (conflict_claims kept)

@@ -1,9 +1,10 @@
-use Rattle.std.proofs.Common.{◌≡◌, ◌+◌, ◌∙◌, map, length, take, false, true, set, ap, arith}
+use Rattle.std.proofs.Common.{◌≡◌, ◌+◌, ◌∙◌, map, length, take, false, true, set, ap, arith, take_all}
 use Rattle.search_log.proofs.Logs.{log_joins, log_ok_as}
 use Rattle.cert_text.specs.declared.line.Subject.TheVariants.{Kept}
 use Rattle.claim_blocks.specs.Blocks.{claimed}
-use Rattle.conflict_min.specs.Conflicts.{places_from}
-use Rattle.conflict_min.proofs.Claims.{untouched, loss, made_joins, losses_more}
+use Rattle.claim_blocks.proofs.Joins.{keeps_err}
+use Rattle.conflict_min.specs.Conflicts.{places_from, loss_claims}
+use Rattle.conflict_min.proofs.Claims.{untouched, loss, made_wider, made_joins, told_joins, losses_more}
 use Rattle.conflict_min.proofs.Passes.{loss_at}
 use Rattle.conflict_min.proofs.shrink.show_losses.Goals as goal
 
@@ -44,3 +45,24 @@ losses-preserved g c =
           c.losses.invariant.made c.in_ok-show_loss.ensures.keeps;
       log = log_ok_as _ _ old new (log_joins _ _ old here new (g.met.L.TreeLog.steady_joins old here new) (g.met.L.TreeLog.quiet_joins old here new) c.losses.invariant.log c.in_ok-show_loss.ensures.log);
     }
+
+pub returns-in_err-show_loss-clause-keeps : goal.returns-in_err-show_loss-clause-keeps
+returns-in_err-show_loss-clause-keeps g c =
+    let p = c.args.problem.now in
+    let a = g.L.TreeLog.lines c.args.log.now in
+    let b = g.L.TreeLog.lines c.losses.log in
+    let d = g.L.TreeLog.lines c.show_loss.new.log in
+    keeps_err _ c.from_residual-in_err-show_loss.result p _ a d c.args.asker.now c.show_loss.new.asker c.from_residual-in_err-show_loss.ensures.1
+    (told_joins p (λ more. more ≡ map (loss c.args.conflict.now.kept.items) (take c.losses.nth c.in_ok-places.places.items)) a b d c.args.asker.now c.losses.asker c.show_loss.new.asker
+    c.losses.invariant.log.told c.losses.invariant.made c.in_err-show_loss.ensures.keeps)
+
+pub returns-clause-keeps : goal.returns-clause-keeps
+returns-clause-keeps g c =
+    let kept = c.args.conflict.now.kept.items in
+    let places = c.in_ok-places.places.items in
+    let same : places ≡ places_from 0 kept = c.in_ok-places.ensures ∙ ap (places_from 0) c.deref.ensures.value in
+    made_wider c.args.problem.now (λ more. more ≡ map (loss kept) (take c.losses.nth places)) (λ more. more ≡ loss_claims kept) (g.L.TreeLog.lines c.args.log.now) (g.L.TreeLog.lines c.losses.log) c.args.asker.now c.losses.asker
+    (λ more is.
+    is
+    ∙ ap (map (loss kept)) (take_all c.losses.nth places (omega (arith, c.losses-test.false, ap length c.deref-family-items.ensures.value, c.requires.least.1.count, ap length same)) ∙ same))
+    c.losses.invariant.made

@@ -3,9 +3,10 @@ use Rattle.world_model.specs.Problem.{restricted}
 use Rattle.split_search.specs.Choosing.{IsChoice, IsMetBy}
 use Rattle.split_search.specs.declared.choice.Choice.TheVariants.{Refuted}
 use Rattle.claim_blocks.specs.Blocks.{settled}
+use Rattle.claim_blocks.proofs.Joins.{keeps_err}
 use Rattle.cert_text.specs.declared.line.Subject.TheVariants.{Kept}
 use Rattle.conflict_min.specs.Shrinking.{IsShrunk}
-use Rattle.conflict_min.proofs.Claims.{refuted_dropped, kept_undropped}
+use Rattle.conflict_min.proofs.Claims.{made_told, refuted_dropped, kept_undropped}
 use Rattle.conflict_min.proofs.Passes.{put_back, shrunk_dropped, shrunk_kept}
 use Rattle.conflict_min.proofs.shrink.try_without.Goals as goal
 
@@ -35,3 +36,11 @@ returns-in_ok-add_family-in-Met-clause-keeps g c =
     kept_undropped c.args.problem.now c.args.kept.now.items (set (set c.args.kept.now.items c.args.place false) c.args.place true) (λ more. more ≡ settled (Kept c.deref.result.now) c.in_ok-settle_kept.field-0)
     (g.L.TreeLog.lines c.args.log.now) (g.L.TreeLog.lines c.settle_kept.new.log) c.args.asker.now c.settle_kept.new.asker
     (put_back c.args.problem.now c.args.place c.args.kept.now.items c.args.families.now.items c.requires.before c.requires.within) c.in_ok-settle_kept.ensures.keeps
+
+pub returns-in_err-add_family-in-Met-clause-keeps : goal.returns-in_err-add_family-in-Met-clause-keeps
+returns-in_err-add_family-in-Met-clause-keeps g c =
+    let p = c.args.problem.now in
+    let a = g.L.TreeLog.lines c.args.log.now in
+    let b = g.L.TreeLog.lines c.settle_kept.new.log in
+    keeps_err _ c.from_residual-in_err-add_family-in-Met.result p _ a b c.args.asker.now c.settle_kept.new.asker c.from_residual-in_err-add_family-in-Met.ensures.1
+    (made_told p (λ more. more ≡ settled (Kept c.deref.result.now) c.in_ok-settle_kept.field-0) a b c.args.asker.now c.settle_kept.new.asker c.in_ok-settle_kept.ensures.keeps)
