@@ -4,8 +4,8 @@
     tests/differential.py [--count N] [--seed S] [--program PATH]
 
 Each case makes a small problem (two to four taxonomies, sums, all switches), and compares what the program puts and its exit code with
-what the plain one says: listings whole, cut and resumed, their tokens, reports, trials, damaged texts and tokens, and words that
-are no request. Certificates that the program writes must be accepted by its checker; a damaged one must not be accepted with
+what the plain one says: listings whole, cut and resumed, their tokens, what follows and what conflicts, reports, trials, damaged texts and
+tokens, and words that are no request. Certificates that the program writes must be accepted by its checker; a damaged one must not be accepted with
 other worlds. It ends with status 1 at the first difference, and shows it.
 """
 
@@ -22,8 +22,8 @@ import plain
 SWITCHES = [(a, b, c) for a in (True, False) for b in (True, False) for c in (True, False)]
 KINDS = ["count", "tally", "seen", "merge", "json"]
 USAGE_WORDS = [
-    "align", "check", "report", "trial", "mir", "conflict", "lattice", "in=p", "in=", "in=q", "cert=c", "cert=p", "token=t", "token=p", "resume=r", "nodes=1",
-    "nodes=0", "nodes=01", "worlds=2", "worlds=-1", "nonempty=on", "nonempty=On", "sibling=off", "coverage=1", "kinds=count", "kinds=",
+    "align", "check", "report", "trial", "mir", "conflict", "lattice", "in=p", "in=", "in=q", "cert=c", "cert=p", "token=t", "token=p",
+    "resume=r", "nodes=1", "nodes=0", "nodes=01", "worlds=2", "worlds=-1", "nonempty=on", "nonempty=On", "sibling=off", "coverage=1", "kinds=count", "kinds=",
     "kinds=count,seen", "kinds=count,count", "kinds=seen,x", "seed=3", "seed=+3", "size=14", "size=15", "size=300", "x", "=x", "y=z",
 ]
 
@@ -332,7 +332,7 @@ def usage_of(words):
 
 
 def check_words(runner, rng):
-    words = [rng.choice(USAGE_WORDS[:5])] if rng.random() < 0.9 else []
+    words = [rng.choice(USAGE_WORDS[:7])] if rng.random() < 0.9 else []
     words += [rng.choice(USAGE_WORDS) for _ in range(rng.randint(0, 4))]
     kind = usage_of(words)
     if kind:
