@@ -7,7 +7,9 @@ loose L F             L loose blocks beside F fixed ones, a block being a parent
 chain T K             T taxonomies, a root over K children each, whose roots are equal and whose first children are in a row
 sums A B              flat, where each child of the second root but the last is the union of two of the first root's (A at least 2B - 1)
 split A B             flat, with {equals disjoint} or {includes overlaps} between the first children
-roots N M             N and M concepts without parents; each of the first lies in or apart from one of the second"""
+roots N M             N and M concepts without parents; each of the first lies in or apart from one of the second
+planted SEED SIZE     generated, with an equals first and a disjoint last on one pair of a fixed block
+repeated SIZE COUNT   flat, SIZE/2 concepts a side, with COUNT statements, each pair's equals again and again, and a disjoint last"""
 import sys
 
 
@@ -104,7 +106,24 @@ def roots(left, right):
     return lines
 
 
-FAMILIES = {"generated": generated, "flat": two_roots, "loose": loose, "chain": chain, "sums": sums, "split": split, "roots": roots}
+def planted(seed, size):
+    lines = generated(seed, size)
+    loose_block = 1 + draws_of(seed, 1)[1] % ((size // 2 - 1) // 3)
+    block = 2 if loose_block == 1 else 1
+    place = lines.index("articulation") + 1
+    lines.insert(place, f"[1.b{block} equals 2.b{block}]")
+    return lines + [f"[1.b{block} disjoint 2.b{block}]"]
+
+
+def repeated(size, count):
+    half = size // 2 - 1
+    lines = two_roots(half, half)
+    lines += [f"[1.a{k % half} equals 2.b{k % half}]" for k in range(count - 2)]
+    return lines + ["[1.a0 disjoint 2.b0]"]
+
+
+FAMILIES = {"generated": generated, "flat": two_roots, "loose": loose, "chain": chain, "sums": sums, "split": split, "roots": roots, "planted": planted,
+            "repeated": repeated}
 
 if __name__ == "__main__":
     kind, one, other = sys.argv[1], int(sys.argv[2]), int(sys.argv[3])
