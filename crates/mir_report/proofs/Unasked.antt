@@ -1,6 +1,6 @@
 -- Which relations are asked for where nobody reads the claims.
 use Rattle.std.proofs.Common.{◌≡◌, ℕ, zero, suc, ◌+◌, ◌<◌, ◌≤◌, ◌↔◌, ◌⊎◌, true, false, not, List, [], ◌∷◌, ◌++◌, length, get_or, Some, inl, inr, refl, sym, ap, ap₂, subst, ◌∙◌, arith, IsTrue, slice_get}
-use Rattle.std.specs.Prelude.{nat_lt}
+use Rattle.std.specs.Prelude.{nat_lt, filter}
 use Rattle.std.specs.List.{list_all}
 use Rattle.std.proofs.lemmas.Bool.{and_from, and_parts, cases_eq, cases_Bool, true≢false, not-true, lt-ltb}
 use Rattle.std.proofs.lemmas.Option.{get_or_from_slice_get, slice_get_within}
@@ -12,7 +12,7 @@ use Rattle.rcc5_core.specs.declared.Rel.{Rel}
 use Rattle.rcc5_core.specs.declared.RelSet.{RelSet}
 use Rattle.rcc5_core.specs.Region.{is_whole_set}
 use Rattle.rcc5_core.specs.RelationSet.{has, only, is_empty_set, both_of}
-use Rattle.world_model.specs.Problem.{Problem, Constraint, concept_count, pairs, pair_count, cross_pairs, narrowed, is_problem, is_about_pair, is_concept}
+use Rattle.world_model.specs.Problem.{Problem, Constraint, concept_count, pairs, pair_count, cross_pairs, narrowed, is_problem, is_about_pair, is_concept, all_pairs, is_cross}
 use Rattle.world_model.specs.Alive.{allowed, all_whole, IsAlive}
 use Rattle.world_model.specs.Node.{pair_at}
 use Rattle.world_model.specs.Questions.{IsPossibleRelation}
@@ -28,7 +28,7 @@ use Rattle.mir_report.specs.Steps.{HasPossible, AreCandidates}
 use Rattle.mir_report.proofs.Laws.{possible_is_met, refused_is_impossible, cross_within}
 
 -- a possible relation keeps the problem alive where the pair is narrowed to it
-pub alive_candidates : (p : Problem) (count : ℕ) (sets : List RelSet) → count ≤ pair_count p → AreAliveAlone p count sets → AreCandidates p count sets
+alive_candidates : (p : Problem) (count : ℕ) (sets : List RelSet) → count ≤ pair_count p → AreAliveAlone p count sets → AreCandidates p count sets
 alive_candidates p count sets few are = record {
   counted = are.counted;
   each = λ pair d within rel possible.
@@ -132,3 +132,14 @@ pub whole_from : (p : Problem) → ((k : ℕ) → k < pair_count p → is_whole_
 whole_from p each = all_from (λ pair. is_whole_set (allowed p pair)) (pairs p) (λ pair i.
     let c = contains_from_in i in
     subst (λ q. is_whole_set (allowed p q) ≡ true) (any_default (pairs p) c.0 (0, 0) pair c.1 ∙ c.2) (each c.0 c.1))
+
+-- the pairs across taxonomies are some of all
+cross_few : (p : Problem) → length (cross_pairs p) ≤ pair_count p
+cross_few p = let all = length-append (cross_pairs p) (filter (λ pair. not (is_cross p pair)) (all_pairs p)) in omega (arith, all)
+
+-- what a table tells of these pairs
+pub told_alive : (p : Problem) (count : ℕ) (sets : List RelSet) → count ≡ length (cross_pairs p) → AreAliveAlone p count sets → AreAliveAlone p (length (cross_pairs p)) sets
+told_alive p count sets is are = subst (λ n. AreAliveAlone p n sets) is are
+
+pub told_candidates : (p : Problem) (count : ℕ) (sets : List RelSet) → count ≡ length (cross_pairs p) → AreAliveAlone p count sets → AreCandidates p (length (cross_pairs p)) sets
+told_candidates p count sets is are = alive_candidates p (length (cross_pairs p)) sets (cross_few p) (told_alive p count sets is are)

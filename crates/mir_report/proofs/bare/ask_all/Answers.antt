@@ -22,10 +22,6 @@ pairs-init c =
 pub ask_pair-requires-clause-within : goal.ask_pair-requires-clause-within
 ask_pair-requires-clause-within c = cross_within c.args.problem.now c.pairs.pair (omega arith)
 
-pub ask_pair-requires-clause-among : goal.ask_pair-requires-clause-among
-ask_pair-requires-clause-among c =
-    subst (HasPossible c.args.problem.now c.pairs.pair) (sym c.index-some.is) (c.requires.among.each c.pairs.pair c.index-some.result (omega arith))
-
 pub pairs-preserved : goal.pairs-preserved
 pairs-preserved c =
     let p = c.args.problem.now in
