@@ -1,11 +1,13 @@
 -- The lines of an answer, one after the other.
-use Rattle.std.proofs.Common.{◌≡◌, ℕ, zero, suc, ◌+◌, ◌<◌, ◌≤◌, Bool, true, false, List, [], ◌∷◌, ◌++◌, length, drop, get_or, Some, refl, sym, ap, subst, ◌∙◌, append_assoc, append-nil, arith}
-use Rattle.std.specs.Prelude.{codes, slice_get, Result, decimal}
+use Rattle.std.proofs.Common.{◌≡◌, ℕ, suc, ◌+◌, ◌<◌, ◌≤◌, Bool, true, false, List, [], ◌∷◌, ◌++◌, length, drop, get_or, Some, refl, sym, ap, subst, ◌∙◌, append_assoc, append-nil, arith}
+use Rattle.std.specs.Prelude.{codes, slice_get, Result, Ok, Err, IfOk, decimal}
 use Rattle.std.proofs.lemmas.List.{drop_more, drop_all}
+use Rattle.std.proofs.lemmas.Option.{slice_get-get_or}
 use Rattle.outer_store.specs.declared.fault.StoreFault.{StoreFault}
 use Rattle.world_model.specs.declared.Articulation.{Articulation}
 use Rattle.world_model.specs.Problem.{Problem, cross_pairs}
 use Rattle.rcc5_core.specs.RelationSet.{has}
+use Rattle.mir_report.specs.declared.possible.MirSets.{MirSets}
 use Rattle.conflict_min.specs.Conflicts.{places_from}
 use Rattle.world_watch.specs.Kinds.{set_at, seen_lines}
 use Rattle.run_ends.specs.Ends.{in_lines, line_of}
@@ -23,20 +25,20 @@ same_count k j (true ∷ flags) = ap suc (same_count (k + 1) (j + 1) flags)
 same_count k j (false ∷ flags) = same_count (k + 1) (j + 1) flags
 
 -- one more flag is counted where it is true
-count_at : (flags : List Bool) (k : ℕ) (b : Bool) → k < length flags → b ≡ get_or flags k b → length (places_from 0 (drop k flags)) ≡ length (places_from 0 (b ∷ drop (k + 1) flags))
-count_at flags k b h is = ap (λ fs. length (places_from 0 fs)) (drop_more flags k b h ∙ ap (λ v. v ∷ drop (k + 1) flags) (sym is))
+count_at : (flags : List Bool) (k : ℕ) (b d : Bool) → k < length flags → b ≡ get_or flags k d → length (places_from 0 (drop k flags)) ≡ length (places_from 0 (b ∷ drop (k + 1) flags))
+count_at flags k b d h is = ap (λ fs. length (places_from 0 fs)) (drop_more flags k d h ∙ ap (λ v. v ∷ drop (k + 1) flags) (sym is))
 
-pub counted_kept : (flags : List Bool) (k count : ℕ) → k < length flags → true ≡ get_or flags k true → count + length (places_from 0 (drop k flags)) ≡ length (places_from 0 flags)
+pub counted_kept : (flags : List Bool) (k count : ℕ) (d : Bool) → k < length flags → true ≡ get_or flags k d → count + length (places_from 0 (drop k flags)) ≡ length (places_from 0 flags)
     → count + 1 + length (places_from 0 (drop (k + 1) flags)) ≡ length (places_from 0 flags)
-counted_kept flags k count h is so_far =
-    let here = count_at flags k true h is in
+counted_kept flags k count d h is so_far =
+    let here = count_at flags k true d h is in
     let rest = same_count 1 0 (drop (k + 1) flags) in
     omega (arith, so_far, here, rest)
 
-pub counted_dropped : (flags : List Bool) (k count : ℕ) → k < length flags → false ≡ get_or flags k false → count + length (places_from 0 (drop k flags)) ≡ length (places_from 0 flags)
+pub counted_dropped : (flags : List Bool) (k count : ℕ) (d : Bool) → k < length flags → false ≡ get_or flags k d → count + length (places_from 0 (drop k flags)) ≡ length (places_from 0 flags)
     → count + length (places_from 0 (drop (k + 1) flags)) ≡ length (places_from 0 flags)
-counted_dropped flags k count h is so_far =
-    let here = count_at flags k false h is in
+counted_dropped flags k count d h is so_far =
+    let here = count_at flags k false d h is in
     let rest = same_count 1 0 (drop (k + 1) flags) in
     omega (arith, so_far, here, rest)
 
@@ -48,34 +50,33 @@ counted_all flags k count end so_far =
 -- what a place of a list holds
 item_at : {X : Type 0} (xs : List X) (k : ℕ) → k < length xs → (x : X) × (slice_get xs k ≡ Some x) × (drop k xs ≡ x ∷ drop (k + 1) xs)
 item_at [] k h = absurd (omega arith)
-item_at (x ∷ xs) zero h = (x, refl, refl)
-item_at (x ∷ xs) (suc k) h = item_at xs k (omega (arith, h))
+item_at (x ∷ xs) k h = (get_or (x ∷ xs) k x, slice_get-get_or (x ∷ xs) k x h, drop_more (x ∷ xs) k x h)
 
 -- the lines of the articulations from a place on
 abbrev pub lines_at : Problem → List Bool → ℕ → List ℕ
 lines_at p kept k = numbered_lines p (k + 1) (drop k p.articulations) (drop k kept)
 
-line_at : (p : Problem) (kept : List Bool) (k : ℕ) (b : Bool) (a : Articulation) → k < length kept → b ≡ get_or kept k b → drop k p.articulations ≡ a ∷ drop (k + 1) p.articulations
+line_at : (p : Problem) (kept : List Bool) (k : ℕ) (b d : Bool) (a : Articulation) → k < length kept → b ≡ get_or kept k d → drop k p.articulations ≡ a ∷ drop (k + 1) p.articulations
     → lines_at p kept k ≡ numbered_lines p (k + 1) (a ∷ drop (k + 1) p.articulations) (b ∷ drop (k + 1) kept)
-line_at p kept k b a h is at =
+line_at p kept k b d a h is at =
     ap (λ xs. numbered_lines p (k + 1) xs (drop k kept)) at
-    ∙ ap (λ fs. numbered_lines p (k + 1) (a ∷ drop (k + 1) p.articulations) fs) (drop_more kept k b h ∙ ap (λ v. v ∷ drop (k + 1) kept) (sym is))
+    ∙ ap (λ fs. numbered_lines p (k + 1) (a ∷ drop (k + 1) p.articulations) fs) (drop_more kept k d h ∙ ap (λ v. v ∷ drop (k + 1) kept) (sym is))
 
 -- one more line is put where the flag is true
-pub line_kept : (p : Problem) (kept : List Bool) (k : ℕ) (old new whole : List ℕ) → k < length kept → length kept ≡ length p.articulations → true ≡ get_or kept k true
+pub line_kept : (p : Problem) (kept : List Bool) (k : ℕ) (d : Bool) (old new whole : List ℕ) → k < length kept → length kept ≡ length p.articulations → true ≡ get_or kept k d
     → old ++ lines_at p kept k ≡ whole → IsNumberedAt p k old new → new ++ lines_at p kept (k + 1) ≡ whole
-line_kept p kept k old new whole h flags is so_far put =
+line_kept p kept k d old new whole h flags is so_far put =
     let item = item_at p.articulations k (omega (arith, h, flags)) in
     ap (λ xs. xs ++ lines_at p kept (k + 1)) (put item.0 item.1)
     ∙ append_assoc old (numbered_line p (k + 1) item.0) (lines_at p kept (k + 1))
-    ∙ ap (λ xs. old ++ xs) (sym (line_at p kept k true item.0 h is item.2))
+    ∙ ap (λ xs. old ++ xs) (sym (line_at p kept k true d item.0 h is item.2))
     ∙ so_far
 
-pub line_dropped : (p : Problem) (kept : List Bool) (k : ℕ) (old whole : List ℕ) → k < length kept → length kept ≡ length p.articulations → false ≡ get_or kept k false
+pub line_dropped : (p : Problem) (kept : List Bool) (k : ℕ) (d : Bool) (old whole : List ℕ) → k < length kept → length kept ≡ length p.articulations → false ≡ get_or kept k d
     → old ++ lines_at p kept k ≡ whole → old ++ lines_at p kept (k + 1) ≡ whole
-line_dropped p kept k old whole h flags is so_far =
+line_dropped p kept k d old whole h flags is so_far =
     let item = item_at p.articulations k (omega (arith, h, flags)) in
-    ap (λ xs. old ++ xs) (sym (line_at p kept k false item.0 h is item.2)) ∙ so_far
+    ap (λ xs. old ++ xs) (sym (line_at p kept k false d item.0 h is item.2)) ∙ so_far
 
 pub lines_all : (p : Problem) (kept : List Bool) (k : ℕ) (old whole : List ℕ) → length p.articulations ≤ k → old ++ lines_at p kept k ≡ whole → old ≡ whole
 lines_all p kept k old whole end so_far =
@@ -93,11 +94,17 @@ ended_numbered p number (a ∷ more) (true ∷ flags) before ended =
 ended_numbered p number (a ∷ more) (false ∷ flags) before ended = ended_numbered p (number + 1) more flags before ended
 
 ended_answer : (p : Problem) (a : Answer) → IsEnded (answer_text p a)
-ended_answer p (Possible mir some) = ended_behind (seen_lines p (λ k. has (set_at mir.sets.items k))) (mir_line (length (cross_pairs p))) (ended_line _)
+ended_answer p (Possible mir some) = ended_behind (seen_lines p (λ k. has (set_at mir.sets.items k))) (mir_line (length (cross_pairs p))) (ended_line (codes "mir " ++ decimal (length (cross_pairs p))))
 ended_answer p Consistent = ended_line (codes "consistent")
-ended_answer p (Conflict kept) = ended_numbered p 1 p.articulations kept (conflict_line (length (places_from 0 kept))) (ended_line _)
+ended_answer p (Conflict kept) = ended_numbered p 1 p.articulations kept (conflict_line (length (places_from 0 kept))) (ended_line (codes "conflict " ++ decimal (length (places_from 0 kept))))
 
 -- so what is put in lines is the answer
 pub answer_put : {T : Type 0} (p : Problem) (a : Answer) (text : List ℕ) (r : Result T StoreFault) (old new : SinkState) → text ≡ answer_text p a → LeavesPiece r (in_lines text) old new
     → LeavesPiece r (answer_text p a) old new
 answer_put p a text r old new is put = subst (λ xs. LeavesPiece r xs old new) (ap in_lines is ∙ ended_lines (answer_text p a) (ended_answer p a)) put
+
+-- the lines of possible relations do not hang on whether there is a world
+pub possible_text : {V E : Type 0} (r : Result V E) (items : V → List ℕ) (p : Problem) (mir : MirSets) (some : Bool) (a : Answer) → a ≡ Possible mir some → IfOk r (λ t. (any : Bool) → items t ≡ answer_text p (Possible mir any))
+    → IfOk r (λ t. items t ≡ answer_text p a)
+possible_text (Ok v) items p mir some a is told = told some ∙ ap (answer_text p) (sym is)
+possible_text (Err e) items p mir some a is told = tt
