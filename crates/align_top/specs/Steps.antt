@@ -1,5 +1,5 @@
 -- The steps of a listing: an order is read, and then carried out.
-use Rattle.std.specs.Prelude.{◌≡◌, ◌≢◌, ℕ, ◌==◌, ◌&&◌, if◌then◌else◌, bytes_eq, Bool, true, false, List, [], ◌∷◌, length, Option, None, Some, option_map, IfSome, IfNone, IfOk, OnErr, Result, Ok, Err, ⊤, ⊥, ◌⊎◌}
+use Rattle.std.specs.Prelude.{◌≡◌, ◌≢◌, ℕ, ◌==◌, ◌&&◌, if◌then◌else◌, bytes_eq, Bool, true, false, List, [], ◌∷◌, length, Option, None, Some, option_map, IfSome, IfNone, IfOk, OnErr, Result, Ok, Err, ⊤, ◌⊎◌}
 use Rattle.std.specs.Option.{option_to_list}
 use Rattle.outer_store.specs.Bytes.{GrownInPart, added}
 use Rattle.outer_store.specs.Contents.{Contents, OthersKept}
