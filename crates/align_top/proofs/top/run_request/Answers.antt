@@ -8,3 +8,6 @@ run_reporting-requires g c = made_for_report (watched (λ z. (goal.WorldWatcher-
 
 pub run_plain-requires : goal.run_plain-requires
 run_plain-requires g c = made_plain (watched (λ z. (goal.WorldWatcher-dyn g (z.vtable, z.value)).name z.value) (λ z. (goal.WorldWatcher-dyn g (z.vtable, z.value)).text z.value) c.args.watchers.items) c.args.request (search rules) c.requires
+
+pub returns : goal.returns
+returns g c = c.run_plain.ensures (watched (λ z. (goal.WorldWatcher-dyn g (z.vtable, z.value)).name z.value) (λ z. (goal.WorldWatcher-dyn g (z.vtable, z.value)).text z.value) c.args.watchers.items)
