@@ -4,12 +4,8 @@
 # line, clingo's by their number. Processor seconds and the peak memory of the program.
 # Words choose problems, as `flat 3 5` or `flat 3 5 coverage=off`, one word each; without any, a list of them is taken.
 # With NOCLINGO=1 clingo is left out.
-set -eu
-top=$(git rev-parse --show-toplevel)
-cd "$top/crates/euler_align"
-[ -x out/euler_align ] || rt run -- align in=data/p.txt >/dev/null
-folder=$(mktemp -d)
-trap 'rm -r "$folder"' EXIT
+# shellcheck source=/dev/null
+. "$(git rev-parse --show-toplevel)/bench/built.sh"
 g++ -O2 -o "$folder/walk" "$top/bench/walk.cc"
 [ $# -gt 0 ] || set -- "generated 7 14" "generated 7 96" "generated 7 256" "generated 7 512" "generated 7 1024" "flat 3 4" "flat 3 5" "flat 3 6" \
   "flat 4 5" "loose 2 4" "loose 4 10" "loose 6 10" "chain 3 4" "chain 5 3" "chain 8 3" "sums 6 3" "split 4 4" "roots 3 2" \

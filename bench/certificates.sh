@@ -3,11 +3,8 @@
 # many worlds there are, the lines and bytes of the certificate, how many lines are tree lines and how many the derivation's,
 # and the processor time and peak memory of the listing and of the check (by Debian's time).
 # Words choose among them as in listing.sh; without any, all but 256 and 4x5 are written, which take minutes.
-set -eu
-cd "$(git rev-parse --show-toplevel)/crates/euler_align"
-[ -x out/euler_align ] || rt run -- align in=data/p.txt >/dev/null
-folder=$(mktemp -d)
-trap 'rm -r "$folder"' EXIT
+# shellcheck source=/dev/null
+. "$(git rev-parse --show-toplevel)/bench/built.sh"
 [ $# -gt 0 ] || set -- furniture 14 24 48 96 2x3 3x4 3x5
 for one in "$@"; do
   case $one in

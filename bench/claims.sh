@@ -2,12 +2,8 @@
 # What follows and what conflicts, with and without a certificate, and the check of each certificate: processor seconds and peak memory.
 # Words choose runs, as `mir generated 7 96`, one word each; without any, a list of them is taken.
 # With NOCERT=1 no certificate is written.
-set -eu
-top=$(git rev-parse --show-toplevel)
-cd "$top/crates/euler_align"
-[ -x out/euler_align ] || rt run -- align in=data/p.txt >/dev/null
-folder=$(mktemp -d)
-trap 'rm -r "$folder"' EXIT
+# shellcheck source=/dev/null
+. "$(git rev-parse --show-toplevel)/bench/built.sh"
 [ $# -gt 0 ] || set -- "mir generated 7 96" "mir generated 7 256" "mir generated 7 1024" "mir flat 4 5" "mir split 4 4" "mir sums 6 3" "mir chain 5 3" \
   "conflict planted 7 96" "conflict planted 7 256" "conflict repeated 100 1000" "conflict generated 7 256"
 took() { awk '{ printf "%.2f s, %.1f MiB", $1 + $2, $3 / 1024 }' "$1"; }

@@ -3,12 +3,9 @@
 # processor time, the peak memory (by Debian's time), and the nodes where a walk by crates/measure counts them soon.
 # Words choose among them: sizes to generate (14 24 48 96 160 256, or another one),
 # flat ones (2x3 3x4 3x5 3x6 4x5), furniture; without any, all are listed, the last of which takes most of a minute.
-set -eu
-cd "$(git rev-parse --show-toplevel)/crates/euler_align"
-[ -x out/euler_align ] || rt run -- align in=data/p.txt >/dev/null
+# shellcheck source=/dev/null
+. "$(git rev-parse --show-toplevel)/bench/built.sh"
 [ -x ../measure/out/measure ] || (cd ../measure && rt run >/dev/null)
-folder=$(mktemp -d)
-trap 'rm -r "$folder"' EXIT
 [ $# -gt 0 ] || set -- furniture 14 24 48 96 160 256 2x3 3x4 3x5 3x6 4x5
 for one in "$@"; do
   case $one in
