@@ -1,3 +1,4 @@
 pub mod Answered
 pub mod Joins
+pub mod RootLemmas
 pub mod Steps

@@ -1,11 +1,13 @@
 -- What is told of whole claims, so that what a log tells stays a valid list of claims.
-use Rattle.std.specs.Prelude.{◌≡◌, Bool, true, false, List, [], ◌∷◌, ◌++◌, Option, Some, None, Result, Ok, Err}
+use Rattle.std.specs.Prelude.{◌≡◌, ℕ, Bool, true, false, List, [], ◌∷◌, ◌++◌, Option, Some, None, Result, Ok, Err}
+use Rattle.lits_core.specs.Derivation.{State}
 use Rattle.world_model.specs.Problem.{Problem}
 use Rattle.point_query.specs.Asking.{AskerState}
 use Rattle.cert_text.specs.declared.line.Subject.{Subject}
 use Rattle.cert_text.specs.declared.line.CertLine.{CertLine}
 use Rattle.cert_text.specs.Logs.{Told}
 use Rattle.cert_rules.specs.ClaimLists.{subject_problem, subject_fault, Claim, Block}
+use Rattle.cert_rules.specs.Writing.{IsClosedNeed}
 use Rattle.search_log.specs.declared.fault.StepFault.{StepFault}
 use Rattle.split_search.specs.declared.choice.Choice.{Choice}
 use Rattle.split_search.specs.declared.choice.Choice.TheVariants.{Met, Refuted}
@@ -15,6 +17,11 @@ use Rattle.split_search.specs.Claiming.{ClaimsBegin, ToldClaims}
 pub record IsProblemOf (p : Problem) (subject : Subject) (q : Problem) : Type 0 where
   pub named : subject_fault p subject ≡ None
   pub problem : subject_problem p subject ≡ q
+
+-- the clause with an id is live, and leaves the need with a number, which the problem of a subject forces, no point
+pub record IsClosedSubject (p : Problem) (subject : Subject) (state : State) (need clause : ℕ) : Type 0 where
+  pub named : subject_fault p subject ≡ None
+  pub closed : IsClosedNeed (subject_problem p subject) state [] need clause
 
 -- a claim is made, with no tree open
 abbrev pub claimed : Subject → Bool → List Claim

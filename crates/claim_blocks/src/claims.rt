@@ -22,7 +22,7 @@ use split_search::{Choice, choose};
 use std::alloc::{AllocError, Global};
 
 // Puts a line behind the lines that wait.
-fn put_behind<L: TreeLog>(
+pub(crate) fn put_behind<L: TreeLog>(
     alloc: Global,
     asker: &mut Asker,
     log: &mut L,
@@ -75,7 +75,7 @@ pub fn show<L: TreeLog>(
 }
 
 // Begins the tree of a subject, which is to show that no family meets its problem.
-fn begin_tree<L: TreeLog>(
+pub(crate) fn begin_tree<L: TreeLog>(
     alloc: Global,
     subject: &Subject,
     asker: &mut Asker,

@@ -2,8 +2,10 @@
 #![tactic(auto)]
 
 mod claims;
+mod roots;
 
 pub use claims::{settle, show};
+pub use roots::refute;
 
 #[cfg(test)]
 mod tests;

@@ -5,10 +5,13 @@ use Rattle.std.specs.List.{list_all}
 use Rattle.rcc5_core.specs.declared.Rel.{Rel}
 use Rattle.rcc5_core.specs.declared.RelSet.{RelSet}
 use Rattle.rcc5_core.specs.RelationSet.{only}
+use Rattle.lits_core.specs.Derivation.{State}
 use Rattle.world_model.specs.Problem.{Problem, concept_count, pair_count, narrowed}
 use Rattle.world_model.specs.Family.{Family}
+use Rattle.world_model.specs.Alive.{IsAlive}
 use Rattle.world_model.specs.Node.{pair_at}
 use Rattle.world_model.specs.Questions.{IsMet, IsPossibleRelation}
+use Rattle.world_model.proofs.PointAlive.{met_is_alive}
 use Rattle.world_model.proofs.PointRules.{met_parts}
 use Rattle.world_model.proofs.OrderConflict.{has_flags}
 use Rattle.constraint_set.specs.Facts.{IsBuilt}
@@ -17,7 +20,9 @@ use Rattle.cert_rules.specs.declared.RejectKind.TheVariants.{WrongSubject}
 use Rattle.cert_rules.specs.ClaimLists.{subject_fault}
 use Rattle.cert_rules.specs.ClaimWriting.{ShowsSubject}
 use Rattle.split_search.specs.Choosing.{IsMetBy}
-use Rattle.claim_blocks.specs.Blocks.{IsProblemOf}
+use Rattle.dead_pairs.specs.declared.why.Closing.{Closing}
+use Rattle.dead_pairs.specs.Lone.{IsClosing}
+use Rattle.claim_blocks.specs.Blocks.{IsProblemOf, IsClosedSubject}
 use Rattle.mir_report.specs.Steps.{ShowsAt}
 use Rattle.mir_report.proofs.Laws.{shown_is_met, met_is_shown, possible_is_met}
 
@@ -68,3 +73,12 @@ few_sets p f built by =
     let full = one_each p f by in
     let few = built.concepts in
     omega (arith, full, few)
+
+-- what shows that a problem with a pair narrowed is dead closes a need of the problem of the claim
+pub closed_subject : (p : Problem) (state : State) (pair : ℕ) (rel : Rel) (closing : Closing) → pair < pair_count p → IsClosing p state (record { pair = pair; rel = rel }) closing →
+    IsClosedSubject p (Narrowed pair rel) state closing.need closing.clause
+closed_subject p state pair rel closing within closes = record { named = named p pair rel within; closed = closes.closed }
+
+-- and then the relation is not possible
+pub dead_is_impossible : (p : Problem) (pair : ℕ) (rel : Rel) → pair < pair_count p → (IsAlive (narrowed p (pair_at p pair) (only rel)) → ⊥) → IsPossibleRelation p pair rel → ⊥
+dead_is_impossible p pair rel within dead r = dead (met_is_alive (narrowed p (pair_at p pair) (only rel)) ((possible_is_met p pair rel within).0 r))

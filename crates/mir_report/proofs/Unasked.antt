@@ -1,8 +1,8 @@
 -- Which relations are asked for where nobody reads the claims.
-use Rattle.std.proofs.Common.{◌≡◌, ℕ, zero, suc, ◌+◌, ◌<◌, ◌≤◌, ◌↔◌, ◌⊎◌, true, false, not, List, [], ◌∷◌, ◌++◌, length, get_or, Some, inl, inr, refl, sym, ap, ap₂, subst, ◌∙◌, arith, IsTrue, slice_get}
+use Rattle.std.proofs.Common.{◌≡◌, ℕ, zero, suc, ◌+◌, ◌<◌, ◌≤◌, ◌⊎◌, true, false, not, List, [], ◌∷◌, ◌++◌, length, get_or, inl, inr, refl, sym, ap, ap₂, subst, ◌∙◌, arith}
 use Rattle.std.specs.Prelude.{nat_lt, filter}
 use Rattle.std.specs.List.{list_all}
-use Rattle.std.proofs.lemmas.Bool.{and_from, and_parts, cases_eq, cases_Bool, true≢false, not-true, lt-ltb}
+use Rattle.std.proofs.lemmas.Bool.{and_from, and_parts, cases_eq, cases_Bool, not-true, lt-ltb}
 use Rattle.std.proofs.lemmas.Option.{get_or_from_slice_get, slice_get_within}
 use Rattle.std.proofs.lemmas.List.{length-append}
 use Rattle.std.proofs.lemmas.List.Folds.{list_all-append}
@@ -15,7 +15,6 @@ use Rattle.rcc5_core.specs.RelationSet.{has, only, is_empty_set, both_of}
 use Rattle.world_model.specs.Problem.{Problem, Constraint, concept_count, pairs, pair_count, cross_pairs, narrowed, is_problem, is_about_pair, is_concept, all_pairs, is_cross}
 use Rattle.world_model.specs.Alive.{allowed, all_whole, IsAlive}
 use Rattle.world_model.specs.Node.{pair_at}
-use Rattle.world_model.specs.Questions.{IsPossibleRelation}
 use Rattle.world_model.proofs.Members.{In, In-get_or, all_at, all_from, contains_from_in}
 use Rattle.world_model.proofs.PointPairs.{from_pairs}
 use Rattle.world_model.proofs.PointAlive.{met_is_alive}
@@ -23,7 +22,7 @@ use Rattle.world_model.proofs.PointServed.{alive_is_met}
 use Rattle.world_model.proofs.PointWhole.{single_is_whole, has-both_of}
 use Rattle.cert_rules.proofs.NodeProblems.{children_narrow_law}
 use Rattle.point_ladder.specs.Alone.{IsAliveAlone, AreAliveAlone}
-use Rattle.mir_report.specs.Possible.{IsPossibleSet, ArePossibleSets}
+use Rattle.mir_report.specs.Possible.{ArePossibleSets}
 use Rattle.mir_report.specs.Steps.{HasPossible, AreCandidates}
 use Rattle.mir_report.proofs.Laws.{possible_is_met, refused_is_impossible, cross_within}
 

@@ -1,5 +1,5 @@
 -- What is known while the pairs are gone through.
-use Rattle.std.specs.Prelude.{◌≡◌, ℕ, ◌<◌, Bool, if◌then◌else◌, List, [], length, map, filter, slice_index_or, IsTrue}
+use Rattle.std.specs.Prelude.{◌≡◌, ℕ, ◌<◌, Bool, false, if◌then◌else◌, List, [], length, map, filter, slice_index_or, IsTrue}
 use Rattle.rcc5_core.specs.declared.Rel.{Rel}
 use Rattle.rcc5_core.specs.declared.RelSet.{RelSet}
 use Rattle.rcc5_core.specs.Relation.{relation_of}
@@ -30,6 +30,10 @@ claims_of p pair set rels = map (claim_of pair set) (filter (has (allowed p (pai
 -- the claim for one relation of a pair, where it allows that
 abbrev pub claim_if_allowed : Problem → ℕ → Rel → Bool → List Claim
 claim_if_allowed p pair rel some = if has (allowed p (pair_at p pair)) rel then claimed (Narrowed pair rel) some else []
+
+-- the claim that a relation of a pair is not possible, where it was refuted
+abbrev pub claim_if_refuted : ℕ → Rel → Bool → List Claim
+claim_if_refuted pair rel done = if done then claimed (Narrowed pair rel) false else []
 
 -- a set has each relation that is possible at a pair
 abbrev pub HasPossible : Problem → ℕ → RelSet → Type 0

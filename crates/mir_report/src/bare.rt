@@ -13,6 +13,7 @@ use crate::found::put;
 use crate::possible::{MirSets, RELS, settle_rel};
 use cert_text::NoLog;
 use constraint_set::Problem;
+use dead_pairs::Hints;
 use point_ladder::{MOST_POINTS, MOST_TRIES, alive_alone};
 use point_query::Asker;
 use rcc5_core::{Rel, RelSet};
@@ -64,7 +65,10 @@ fn ask_if_among(
         return Ok(false);
     }
     let mut log = NoLog::new();
-    match settle_rel(alloc, problem, pair, rel, families, asker, &mut log) {
+    let mut hints = Hints::none(alloc);
+    match settle_rel(
+        alloc, problem, pair, rel, families, &mut hints, asker, &mut log,
+    ) {
         Ok(some) => Ok(some),
         Err(_) => Err(AllocError),
     }

@@ -8,13 +8,15 @@ ghost use Rattle.search_log.specs.Logging.{LogGoes};
 ghost use Rattle.split_search.specs.Choosing.{IsMetBy};
 ghost use Rattle.claim_blocks.specs.Blocks.{claimed, KeepsClaims};
 ghost use Rattle.mir_report.specs.Possible.{IsPossibleSet, ArePossibleSets, pair_claims, claims_from};
-ghost use Rattle.mir_report.specs.Steps.{claim_if_allowed};
+ghost use Rattle.mir_report.specs.Steps.{claim_if_allowed, claim_if_refuted};
 
 use crate::bare::bare_sets;
 use crate::found::{put, shown_by};
 use cert_text::{Flags, Subject, TreeLog};
-use claim_blocks::{settle, show};
+use claim_blocks::{refute, settle, show};
 use constraint_set::Problem;
+use dead_pairs::{Hints, Lone, why_dead};
+use point_ladder::{MOST_POINTS, MOST_TRIES};
 use point_query::Asker;
 use rcc5_core::{Rel, RelSet};
 use search_log::StepFault;
@@ -37,8 +39,33 @@ pub struct MirSets {
     pub sets: Vec<RelSet>,
 }
 
-/// Whether a relation is possible at a pair, and the claim that says so. A family that was found for it is kept with the others.
-pub(crate) fn settle_rel<L: TreeLog>(
+// Claims that a relation is not possible at a pair, where the hints lead to why.
+fn refute_rel<L: TreeLog>(
+    alloc: Global,
+    problem: &Problem,
+    pair: u32,
+    rel: Rel,
+    hints: &mut Hints,
+    asker: &mut Asker,
+    log: &mut L,
+) -> Result<bool, StepFault>
+    requires shape { asker.old.shape ≡ shape_of problem.now }
+    requires within { pair < pair_count problem.now }
+    ensures shape { asker.new.shape ≡ asker.old.shape }
+    ensures answer { IfOk result (λ done. IsTrue done → IsPossibleRelation problem.now pair rel → ⊥) }
+    ensures keeps { KeepsClaims problem.now result (λ done more. more ≡ claim_if_refuted pair rel done) (L.lines log.old) (L.lines log.new) asker.old asker.new }
+    ensures log { LogGoes L.drops L.lines L.faults L.steady L.quiet result log.old log.new }
+{
+    let Some(closing) = why_dead(problem, asker, hints, Lone { pair, rel })? else {
+        return Ok(false);
+    };
+    let subject = Subject::Narrowed { pair, rel };
+    refute(alloc, &subject, closing.need, closing.clause, asker, log)?;
+    Ok(true)
+}
+
+// Searches for a family that shows a relation at a pair, and claims what comes of it. A family that is found is kept with the others.
+fn search_rel<L: TreeLog>(
     alloc: Global,
     problem: &Problem,
     pair: u32,
@@ -56,12 +83,7 @@ pub(crate) fn settle_rel<L: TreeLog>(
     ensures keeps { KeepsClaims problem.now result (λ some more. more ≡ claimed (Narrowed pair rel) some) (L.lines log.old) (L.lines log.new) asker.old asker.new }
     ensures log { LogGoes L.drops L.lines L.faults L.steady L.quiet result log.old log.new }
 {
-    problem.facts();
     let subject = Subject::Narrowed { pair, rel };
-    if let Some(family) = shown_by(families, problem, pair, rel) {
-        show(alloc, &subject, family, asker, log)?;
-        return Ok(true);
-    }
     let narrowed = problem.narrowed(alloc, pair, RelSet::one(rel))?;
     match settle(alloc, &subject, &narrowed, asker, log)? {
         Choice::Met(family) => {
@@ -72,6 +94,40 @@ pub(crate) fn settle_rel<L: TreeLog>(
     }
 }
 
+/// Whether a relation is possible at a pair, and the claim that says so. A family that was found for it is kept with the others.
+///
+/// First the families are looked at, and then why no other can show it; only where both come to nothing one is searched for.
+pub(crate) fn settle_rel<L: TreeLog>(
+    alloc: Global,
+    problem: &Problem,
+    pair: u32,
+    rel: Rel,
+    families: &mut Vec<Family>,
+    hints: &mut Hints,
+    asker: &mut Asker,
+    log: &mut L,
+) -> Result<bool, StepFault>
+    requires shape { asker.old.shape ≡ shape_of problem.now }
+    requires within { pair < pair_count problem.now }
+    requires families { All (IsMetBy problem.now) families.old.items }
+    ensures shape { asker.new.shape ≡ asker.old.shape }
+    ensures families { OnOk result (All (IsMetBy problem.now) families.new.items) }
+    ensures answer { IfOk result (λ some. IsTrue some ↔ IsPossibleRelation problem.now pair rel) }
+    ensures keeps { KeepsClaims problem.now result (λ some more. more ≡ claimed (Narrowed pair rel) some) (L.lines log.old) (L.lines log.new) asker.old asker.new }
+    ensures log { LogGoes L.drops L.lines L.faults L.steady L.quiet result log.old log.new }
+{
+    problem.facts();
+    if let Some(family) = shown_by(families, problem, pair, rel) {
+        let subject = Subject::Narrowed { pair, rel };
+        show(alloc, &subject, family, asker, log)?;
+        return Ok(true);
+    }
+    if refute_rel(alloc, problem, pair, rel, hints, asker, log)? {
+        return Ok(false);
+    }
+    search_rel(alloc, problem, pair, rel, families, asker, log)
+}
+
 // The same where the pair allows the relation. Else it is not possible, and nothing is claimed.
 fn settle_if_allowed<L: TreeLog>(
     alloc: Global,
@@ -79,6 +135,7 @@ fn settle_if_allowed<L: TreeLog>(
     pair: u32,
     rel: Rel,
     families: &mut Vec<Family>,
+    hints: &mut Hints,
     asker: &mut Asker,
     log: &mut L,
 ) -> Result<bool, StepFault>
@@ -94,7 +151,7 @@ fn settle_if_allowed<L: TreeLog>(
     if !problem.allowed(pair).has(rel) {
         return Ok(false);
     }
-    settle_rel(alloc, problem, pair, rel, families, asker, log)
+    settle_rel(alloc, problem, pair, rel, families, hints, asker, log)
 }
 
 // The possible relations of a pair, and a claim for each that it allows.
@@ -103,6 +160,7 @@ fn settle_pair<L: TreeLog>(
     problem: &Problem,
     pair: u32,
     families: &mut Vec<Family>,
+    hints: &mut Hints,
     asker: &mut Asker,
     log: &mut L,
 ) -> Result<RelSet, StepFault>
@@ -117,7 +175,7 @@ fn settle_pair<L: TreeLog>(
 {
     let mut set = RelSet::none();
     'rels: for rel in RELS {
-        if settle_if_allowed(alloc, problem, pair, rel, families, asker, log)? {
+        if settle_if_allowed(alloc, problem, pair, rel, families, hints, asker, log)? {
             set = set.with(rel);
         }
     }
@@ -143,10 +201,11 @@ pub fn mir<L: TreeLog>(
     if log.is_dropping() {
         return Ok(bare_sets(alloc, problem, asker)?);
     }
+    let mut hints = Hints::new(alloc, problem, MOST_POINTS, MOST_TRIES)?;
     let mut families = Vec::new(alloc);
     let mut sets = Vec::new(alloc);
     'pairs: for pair in 0..problem.cross_count() {
-        let set = settle_pair(alloc, problem, pair, &mut families, asker, log)?;
+        let set = settle_pair(alloc, problem, pair, &mut families, &mut hints, asker, log)?;
         put(&mut sets, set)?;
     }
     Ok(MirSets { sets })

@@ -1,4 +1,4 @@
-use Rattle.std.proofs.Common.{◌≡◌, ◌<◌, ◌≤◌, ◌∙◌, true, sym, ap, arith}
+use Rattle.std.proofs.Common.{◌∙◌, sym, ap, arith}
 use Rattle.rcc5_core.specs.Region.{is_whole_set}
 use Rattle.mir_report.proofs.Unasked.{whole_more, whole_from}
 use Rattle.mir_report.proofs.bare.are_whole.Goals as goal

@@ -1,10 +1,9 @@
-use Rattle.std.proofs.Common.{◌≡◌, ◌∙◌, ◌++◌, ◌∷◌, [], ℕ, length, slice_get, Some, All, refl, sym, ap, subst, arith}
+use Rattle.std.proofs.Common.{◌≡◌, ◌∙◌, ◌∷◌, [], ℕ, length, slice_get, Some, All, refl, sym, ap, subst, arith}
 use Rattle.std.proofs.lemmas.List.{length-append}
 use Rattle.std.proofs.lemmas.List.Elements.{All-nil}
 use Rattle.rcc5_core.specs.declared.RelSet.{RelSet}
 use Rattle.split_search.specs.Choosing.{IsMetBy}
 use Rattle.mir_report.specs.Possible.{IsPossibleSet}
-use Rattle.mir_report.specs.Steps.{HasPossible}
 use Rattle.mir_report.proofs.Laws.{cross_within}
 use Rattle.mir_report.proofs.Claims.{sets_more}
 use Rattle.mir_report.proofs.bare.ask_all.Goals as goal

@@ -8,7 +8,7 @@ use Rattle.claim_blocks.proofs.Joins.{keeps_join, keeps_nothing, keeps_untold}
 use Rattle.mir_report.specs.Possible.{IsPossibleSet, pair_claims, claims_from}
 use Rattle.mir_report.proofs.Laws.{cross_within}
 use Rattle.mir_report.proofs.Claims.{claims_next, sets_more}
-use Rattle.mir_report.proofs.Told.{err_after, err_later}
+use Rattle.mir_report.proofs.Told.{err_first, err_after, err_later}
 use Rattle.mir_report.proofs.possible.mir.Goals as goal
 
 pub returns-in_err-bare_sets-clause-keeps : goal.returns-in_err-bare_sets-clause-keeps
@@ -111,3 +111,7 @@ returns-clause-keeps g c = c.pairs.invariant.keeps
 
 pub returns-clause-log : goal.returns-clause-log
 returns-clause-log g c = log_ok_as _ _ c.args.log.now c.pairs.log c.pairs.invariant.log
+
+pub returns-in_err-hints-clause-keeps : goal.returns-in_err-hints-clause-keeps
+returns-in_err-hints-clause-keeps g c =
+    err_first _ c.from_residual-in_err-hints.result c.args.problem.now (λ mir more. more ≡ claims_from c.args.problem.now 0 mir.sets.items) (g.L.TreeLog.lines c.args.log.now) c.args.asker.now c.from_residual-in_err-hints.ensures.1

@@ -1,13 +1,11 @@
-use Rattle.std.proofs.Common.{◌≡◌, ◌∙◌, true≢false, All, Ok, refl, sym, subst}
-use Rattle.std.proofs.lemmas.List.Elements.{All-push}
+use Rattle.std.proofs.Common.{◌≡◌, ◌∙◌, true≢false, [], ◌++◌, Ok, refl, sym, ap, subst}
 use Rattle.cert_text.specs.declared.line.Subject.TheVariants.{Narrowed}
-use Rattle.search_log.proofs.Logs.{log_as, log_memory, log_ok_as, log_then_memory}
-use Rattle.split_search.specs.Choosing.{IsMetBy, IsChoice}
-use Rattle.claim_blocks.specs.Blocks.{claimed, settled, KeepsClaims}
-use Rattle.claim_blocks.proofs.Joins.{keeps_err}
+use Rattle.search_log.proofs.Logs.{log_as, log_joins, log_ok_as}
+use Rattle.claim_blocks.specs.Blocks.{claimed, KeepsClaims}
+use Rattle.claim_blocks.proofs.Joins.{keeps_err, keeps_join}
+use Rattle.mir_report.specs.Steps.{claim_if_refuted}
 use Rattle.mir_report.proofs.Laws.{possible_by}
-use Rattle.mir_report.proofs.Subjects.{shows_subject, pair_problem, met_by_above, met_is_possible, few_sets}
-use Rattle.mir_report.proofs.Told.{err_first, err_after}
+use Rattle.mir_report.proofs.Subjects.{shows_subject, few_sets}
 use Rattle.mir_report.proofs.possible.settle_rel.Goals as goal
 
 pub show-requires : goal.show-requires
@@ -36,75 +34,41 @@ returns-in-Some-clause-keeps g c =
 pub returns-in-Some-clause-log : goal.returns-in-Some-clause-log
 returns-in-Some-clause-log g c = log_ok_as _ _ c.args.log.now c.show.new.log c.in_ok-show.ensures.log
 
-pub returns-in_err-narrowed-clause-keeps : goal.returns-in_err-narrowed-clause-keeps
-returns-in_err-narrowed-clause-keeps g c =
-    err_first _ c.from_residual-in_err-narrowed.result c.args.problem.now (λ some more. more ≡ claimed (Narrowed c.args.pair c.args.rel) some) (g.L.TreeLog.lines c.args.log.now) c.args.asker.now c.from_residual-in_err-narrowed.ensures.1
+pub returns-in_err-refute_rel-clause-keeps : goal.returns-in_err-refute_rel-clause-keeps
+returns-in_err-refute_rel-clause-keeps g c =
+    keeps_err (λ f. f ≡ c.in_err-refute_rel.field-0.0) c.from_residual-in_err-refute_rel.result c.args.problem.now (λ some more. more ≡ claimed (Narrowed c.args.pair c.args.rel) some) (g.L.TreeLog.lines c.args.log.now)
+    (g.L.TreeLog.lines c.refute_rel.new.log) c.args.asker.now c.refute_rel.new.asker c.from_residual-in_err-refute_rel.ensures.1 c.in_err-refute_rel.ensures.keeps
 
-pub returns-in_err-narrowed-clause-log : goal.returns-in_err-narrowed-clause-log
-returns-in_err-narrowed-clause-log g c =
-    log_memory c.from_residual-in_err-narrowed.result c.args.log.now (g.met.L.TreeLog.steady_stays c.args.log.now) (g.met.L.TreeLog.quiet_stays c.args.log.now) c.from_residual-in_err-narrowed.ensures.1
+pub returns-in_err-refute_rel-clause-log : goal.returns-in_err-refute_rel-clause-log
+returns-in_err-refute_rel-clause-log g c = log_as _ c.from_residual-in_err-refute_rel.result c.args.log.now c.refute_rel.new.log c.from_residual-in_err-refute_rel.ensures.1 c.in_err-refute_rel.ensures.log
 
-pub settle-requires : goal.settle-requires
-settle-requires g c = record { shape = c.requires.shape ∙ sym c.in_ok-narrowed.ensures.shape }
+pub returns-then-branch-clause-answer : goal.returns-then-branch-clause-answer
+returns-then-branch-clause-answer g c = (
+  λ h. absurd (true≢false (sym h)),
+  λ r. absurd (c.in_ok-refute_rel.ensures.answer c.if-branch.true r),
+)
 
-pub returns-in_err-family-clause-keeps : goal.returns-in_err-family-clause-keeps
-returns-in_err-family-clause-keeps g c =
-    let p = c.args.problem.now in
-    keeps_err (λ f. f ≡ c.in_err-family.field-0.0) c.from_residual-in_err-family.result p (λ some more. more ≡ claimed (Narrowed c.args.pair c.args.rel) some) (g.L.TreeLog.lines c.args.log.now) (g.L.TreeLog.lines c.settle.new.log) c.args.asker.now c.settle.new.asker
-    c.from_residual-in_err-family.ensures.1 (c.in_err-family.ensures.keeps p (pair_problem p c.args.pair c.args.rel c.one.result c.in_ok-narrowed.narrowed c.requires.within c.one.ensures c.in_ok-narrowed.ensures.value))
+pub returns-then-branch-clause-keeps : goal.returns-then-branch-clause-keeps
+returns-then-branch-clause-keeps g c =
+    subst (λ done. KeepsClaims c.args.problem.now (Ok done) (λ done more. more ≡ claim_if_refuted c.args.pair c.args.rel done) (g.L.TreeLog.lines c.args.log.now) (g.L.TreeLog.lines c.refute_rel.new.log) c.args.asker.now c.refute_rel.new.asker)
+    c.if-branch.true c.in_ok-refute_rel.ensures.keeps
 
-pub returns-in_err-family-clause-log : goal.returns-in_err-family-clause-log
-returns-in_err-family-clause-log g c = log_as _ c.from_residual-in_err-family.result c.args.log.now c.settle.new.log c.from_residual-in_err-family.ensures.1 c.in_err-family.ensures.log
-
-pub returns-in_err-put-in-Met-clause-keeps : goal.returns-in_err-put-in-Met-clause-keeps
-returns-in_err-put-in-Met-clause-keeps g c =
-    let p = c.args.problem.now in
-    err_after _ c.from_residual-in_err-put-in-Met.result c.in_ok-family.field-0 p (λ choice more. more ≡ settled (Narrowed c.args.pair c.args.rel) choice) (λ some more. more ≡ claimed (Narrowed c.args.pair c.args.rel) some)
-    (g.L.TreeLog.lines c.args.log.now) (g.L.TreeLog.lines c.settle.new.log) c.args.asker.now c.settle.new.asker c.from_residual-in_err-put-in-Met.ensures.1
-    (c.in_ok-family.ensures.keeps p (pair_problem p c.args.pair c.args.rel c.one.result c.in_ok-narrowed.narrowed c.requires.within c.one.ensures c.in_ok-narrowed.ensures.value))
-
-pub returns-in_err-put-in-Met-clause-log : goal.returns-in_err-put-in-Met-clause-log
-returns-in_err-put-in-Met-clause-log g c =
-    log_then_memory _ c.from_residual-in_err-put-in-Met.result c.args.log.now c.settle.new.log c.from_residual-in_err-put-in-Met.ensures.1 c.in_ok-family.ensures.log
-
-pub returns-in-Met-clause-families : goal.returns-in-Met-clause-families
-returns-in-Met-clause-families g c =
-    let p = c.args.problem.now in
-    let met = subst (IsChoice c.in_ok-narrowed.narrowed) c.in-Met.is c.in_ok-family.ensures.answer in
-    subst (All (IsMetBy p)) (sym c.in_ok-put-in-Met.ensures)
-    (All-push (IsMetBy p) c.args.families.now.items c.in-Met.family c.requires.families
-    (met_by_above p c.in_ok-narrowed.narrowed c.args.pair c.args.rel c.one.result c.in-Met.family c.one.ensures c.in_ok-narrowed.ensures.value met))
-
-pub returns-in-Met-clause-answer : goal.returns-in-Met-clause-answer
-returns-in-Met-clause-answer g c =
-    let p = c.args.problem.now in
-    let met = subst (IsChoice c.in_ok-narrowed.narrowed) c.in-Met.is c.in_ok-family.ensures.answer in (
-      λ _. (met_is_possible p c.in_ok-narrowed.narrowed c.args.pair c.args.rel c.one.result c.requires.within c.one.ensures c.in_ok-narrowed.ensures.value).0 (c.in-Met.family, met.met),
-      λ _. refl,
-    )
-
-pub returns-in-Met-clause-keeps : goal.returns-in-Met-clause-keeps
-returns-in-Met-clause-keeps g c =
-    let p = c.args.problem.now in
-    subst (λ choice. KeepsClaims p (Ok choice) (λ choice more. more ≡ settled (Narrowed c.args.pair c.args.rel) choice) (g.L.TreeLog.lines c.args.log.now) (g.L.TreeLog.lines c.settle.new.log) c.args.asker.now c.settle.new.asker) c.in-Met.is
-    (c.in_ok-family.ensures.keeps p (pair_problem p c.args.pair c.args.rel c.one.result c.in_ok-narrowed.narrowed c.requires.within c.one.ensures c.in_ok-narrowed.ensures.value))
-
-pub returns-in-Met-clause-log : goal.returns-in-Met-clause-log
-returns-in-Met-clause-log g c = log_ok_as _ _ c.args.log.now c.settle.new.log c.in_ok-family.ensures.log
-
-pub returns-clause-answer : goal.returns-clause-answer
-returns-clause-answer g c =
-    let p = c.args.problem.now in
-    let none = subst (IsChoice c.in_ok-narrowed.narrowed) c.in-Refuted.is c.in_ok-family.ensures.answer in (
-      λ h. absurd (true≢false (sym h)),
-      λ r. absurd (none ((met_is_possible p c.in_ok-narrowed.narrowed c.args.pair c.args.rel c.one.result c.requires.within c.one.ensures c.in_ok-narrowed.ensures.value).1 r)),
-    )
+pub returns-then-branch-clause-log : goal.returns-then-branch-clause-log
+returns-then-branch-clause-log g c = log_ok_as _ _ c.args.log.now c.refute_rel.new.log c.in_ok-refute_rel.ensures.log
 
 pub returns-clause-keeps : goal.returns-clause-keeps
 returns-clause-keeps g c =
     let p = c.args.problem.now in
-    subst (λ choice. KeepsClaims p (Ok choice) (λ choice more. more ≡ settled (Narrowed c.args.pair c.args.rel) choice) (g.L.TreeLog.lines c.args.log.now) (g.L.TreeLog.lines c.settle.new.log) c.args.asker.now c.settle.new.asker) c.in-Refuted.is
-    (c.in_ok-family.ensures.keeps p (pair_problem p c.args.pair c.args.rel c.one.result c.in_ok-narrowed.narrowed c.requires.within c.one.ensures c.in_ok-narrowed.ensures.value))
+    let old = g.L.TreeLog.lines c.args.log.now in
+    let mid = g.L.TreeLog.lines c.refute_rel.new.log in
+    let new = g.L.TreeLog.lines c.search_rel.new.log in
+    let one = c.args.asker.now in
+    let two = c.refute_rel.new.asker in
+    let none = subst (λ done. KeepsClaims p (Ok done) (λ done more. more ≡ claim_if_refuted c.args.pair c.args.rel done) old mid one two) c.if-branch.false c.in_ok-refute_rel.ensures.keeps in
+    keeps_join c.search_rel.result p (λ more. more ≡ []) (λ some more. more ≡ claimed (Narrowed c.args.pair c.args.rel) some) (λ some more. more ≡ claimed (Narrowed c.args.pair c.args.rel) some) old mid new one two c.search_rel.new.asker
+    c.in_ok-refute_rel.ensures.log.told (λ some first second h k. ap (λ claims. claims ++ second) h ∙ k) none c.search_rel.ensures.keeps
 
 pub returns-clause-log : goal.returns-clause-log
-returns-clause-log g c = log_ok_as _ _ c.args.log.now c.settle.new.log c.in_ok-family.ensures.log
+returns-clause-log g c =
+    log_joins _ c.search_rel.result c.args.log.now c.refute_rel.new.log c.search_rel.new.log (g.met.L.TreeLog.steady_joins c.args.log.now c.refute_rel.new.log c.search_rel.new.log)
+    (g.met.L.TreeLog.quiet_joins c.args.log.now c.refute_rel.new.log c.search_rel.new.log) c.in_ok-refute_rel.ensures.log c.search_rel.ensures.log

@@ -1,0 +1,38 @@
+use Rattle.std.proofs.Common.{◌≡◌, ◌∙◌, [], get_or, Some, inl, inr, sym, ap, subst, arith}
+use Rattle.std.specs.Prelude.{MatchOption, Contains}
+use Rattle.std.proofs.lemmas.Bool.{cases_lt}
+use Rattle.watch_arena.proofs.Watching.{index_of}
+use Rattle.lits_core.specs.Literals.{negation_of}
+use Rattle.lits_core.specs.Derivation.{live_clause}
+use Rattle.cert_model.specs.Forced.{asked_of, IsClosedAt}
+use Rattle.point_encode.specs.Needs.{need_seen}
+use Rattle.dead_pairs.specs.Lone.{lone_problem}
+use Rattle.dead_pairs.proofs.closes.closes.Goals as goal
+
+pub loop-place-preserved : goal.loop-place-preserved
+loop-place-preserved c =
+    let q = lone_problem c.args.problem.now c.args.lone in
+    let need = need_seen c.args.problem.now c.args.need in
+    record {
+      each = λ k lt. elim (cases_lt k c.loop-place.place) [
+        | inl early ↦ c.loop-place.invariant.each k early
+        | inr late ↦
+            let here : k ≡ c.loop-place.place = omega arith in
+            let asked : Contains (asked_of q [] need) c.negate.result = c.is_asked.ensures c.if-not-is_asked.false in
+            subst (λ l. Contains (asked_of q [] need) l) (c.negate.ensures ∙ ap negation_of (c.lit.ensures ∙ ap (λ n. get_or c.in-Some.lits n 0) (sym here))) asked
+      ];
+    }
+
+pub returns : goal.returns
+returns c = λ yes.
+    let q = lone_problem c.args.problem.now c.args.lone in
+    let need = need_seen c.args.problem.now c.args.need in
+    let end = c.loop-place-test.false in
+    let count = c.count-place-end.ensures in
+    let closed : IsClosedAt q [] need c.in-Some.lits = λ lit has.
+    let index = index_of c.in-Some.lits lit has in
+    let lt = index.1 in
+    subst (λ l. Contains (asked_of q [] need) (negation_of l)) index.2 (c.loop-place.invariant.each index.0 (omega arith)) in
+    let found : live_clause c.args.asker.now.solver.state c.args.id ≡ Some c.in-Some.lits = sym c.clause.ensures ∙ c.in-Some.is in
+    let here : MatchOption (Some c.in-Some.lits) ⊥ (IsClosedAt q [] need) = closed in
+    subst (λ o. MatchOption o ⊥ (IsClosedAt q [] need)) (sym found) here
