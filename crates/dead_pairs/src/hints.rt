@@ -23,12 +23,14 @@ pub(crate) struct Lost {
     pub place: Option<usize>,
 }
 
-/// The points of each concept, and those of each need that a problem forces.
+/// The points of each concept, and those of each need that a problem forces: regions of pairs, and then the concepts.
 #[derive(Drop)]
 pub(crate) struct Table {
     concepts: Rows,
     needs: Vec<u64>,
     rows: Rows,
+    /// The place of the first concept among the needs.
+    first: usize,
 }
 
 // The cell of a region.
@@ -78,9 +80,13 @@ impl Table {
             concepts,
             needs: Vec::new(alloc),
             rows,
+            first: 0,
         };
         let forced = needs_of(alloc, problem, &Position::new(alloc))?;
         for need in &forced {
+            if let Need::Region { .. } = need {
+                table.first = table.first.saturating_add(1);
+            }
             table.add(problem, *need)?;
         }
         Ok(Some(table))
@@ -159,19 +165,36 @@ impl Table {
         self.lost_by(left, right, kept_cells(words))
     }
 
-    // A need of the problem without a point in some cells of two concepts.
+    // A need of the problem without a point in some cells of two concepts. The concepts come first, since what is asked about them
+    // is asked about their regions too.
     fn lost_by(&self, left: u32, right: u32, kept: Cells) -> Option<Lost> {
-        let (left, right) = (self.points(left), self.points(right));
+        for concept in [left, right] {
+            let place = self.first.saturating_add(concept as usize);
+            let lost = self.lost_at(place, left, right, kept);
+            if lost.is_some() {
+                return lost;
+            }
+        }
         for place in 0..self.needs.len() {
-            let row = row_of(&self.rows, place);
-            if !meets(row, row, left, right, kept) {
-                return Some(Lost {
-                    number: self.needs[place],
-                    place: Some(place),
-                });
+            let lost = self.lost_at(place, left, right, kept);
+            if lost.is_some() {
+                return lost;
             }
         }
         None
+    }
+
+    // The need with a place, if it has no point in some cells of two concepts.
+    fn lost_at(&self, place: usize, left: u32, right: u32, kept: Cells) -> Option<Lost> {
+        let number = *self.needs.get(place)?;
+        let row = row_of(&self.rows, place);
+        if meets(row, row, self.points(left), self.points(right), kept) {
+            return None;
+        }
+        Some(Lost {
+            number,
+            place: Some(place),
+        })
     }
 }
 
