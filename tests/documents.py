@@ -10,8 +10,8 @@ lines of the command stand behind `> `. What follows up to the next `$ ` is what
 `...` stands for any text: within a line for a part of it, and on a line of its own for lines, or none. The command lines of a page
 are run one after the other by bash, in a folder of their own that has the examples and tools, with the program on the path.
 
-Besides: each relative link of each page leads to a file, and to a heading of it; each crate stands in docs/CODE.md; and the table of
-what must be read, in docs/PROOF.md, is what tools/reading_list counts.
+Besides: each relative link of each page leads to a file, and to a heading of it; each crate stands in docs/CODE.md once, and stands on
+no crate that the line of its layer rules out; and the table of what must be read, in docs/PROOF.md, is what tools/reading_list counts.
 """
 
 import os
@@ -128,11 +128,49 @@ def link_faults():
     return count, faults
 
 
+def below():
+    """For each crate of crates.txt all crates that it stands on."""
+    out = {}
+    for line in lines_of("crates.txt"):
+        if line and not line.startswith("#"):
+            name, _, others = line.partition(":")
+            direct = [other for other in others.split() if other in out]
+            out[name] = set(direct).union(*(out[other] for other in direct))
+    return out
+
+
+def layers():
+    """The crates of each layer of docs/CODE.md, by the first word of its heading but `The`."""
+    out, current = {}, None
+    for line in lines_of("docs/CODE.md"):
+        if line.startswith("## "):
+            current = line[3:].replace("The ", "").split()[0].lower()
+        elif line.startswith("| `") and current:
+            out.setdefault(current, []).extend(re.findall(r"`(\w+)`", line.split("|")[1]))
+    return out
+
+
 def crate_faults():
-    listed = [line.split(":")[0] for line in lines_of("crates.txt") if line and not line.startswith("#")]
-    told = {name for line in lines_of("docs/CODE.md") if line.startswith("| `") for name in re.findall(r"`(\w+)`", line.split("|")[1])}
-    faults = [f"docs/CODE.md: the crate {name} is missing" for name in listed if name not in told]
-    return len(listed), faults + [f"docs/CODE.md: there is no crate {name}" for name in told if name not in listed]
+    under, layer = below(), layers()
+    names = ["subject", "derivations", "solver", "bridge", "certificates", "search", "outside", "top", "references"]
+    faults = [f"docs/CODE.md: there is no layer `{name}`" for name in names if name not in layer]
+    if faults:
+        return 0, faults
+    told = [crate for name in names for crate in layer[name]]
+    faults += [f"docs/CODE.md: the crate {crate} is missing" for crate in under if crate not in told]
+    faults += [f"docs/CODE.md: there is no crate {crate}" for crate in told if crate not in under]
+    faults += [f"docs/CODE.md: the crate {crate} stands there twice" for crate in set(told) if told.count(crate) > 1]
+    asks = set(layer["solver"]) | {"point_pool", "point_query"}
+    every = set(under)
+    ruled_out = {crate: every - set(layer["subject"]) - {"lits_core", "proof_text"} for crate in layer["subject"]}
+    ruled_out.update({crate: every - set(layer["derivations"]) for crate in layer["derivations"]})
+    ruled_out.update({crate: every - set(layer["solver"]) - set(layer["derivations"]) for crate in layer["solver"]})
+    ruled_out.update({crate: asks for crate in ("bit_rows", "point_table", "point_ladder", "table_walk")})
+    ruled_out.update({crate: asks | set(layer["search"]) for crate in layer["certificates"] + ["check_run"]})
+    ruled_out["euler_align"] = set(layer["references"])
+    for crate, others in ruled_out.items():
+        faults += [f"docs/CODE.md: {crate} stands on {other}, which its layer rules out" for other in sorted(under[crate] & others)]
+    return len(under), faults
 
 
 def reading_faults():
