@@ -11,7 +11,8 @@ lines of the command stand behind `> `. What follows up to the next `$ ` is what
 are run one after the other by bash, in a folder of their own that has the examples and tools, with the program on the path.
 
 Besides: each relative link of each page leads to a file, and to a heading of it; each crate stands in docs/CODE.md once, and stands on
-no crate that the line of its layer rules out; and the table of what must be read, in docs/PROOF.md, is what tools/reading_list counts.
+no crate that the line of its layer rules out; the table of what must be read, in docs/PROOF.md, is what tools/reading_list counts; and
+docs/FORMATS.md, the manual page and the completion have the commands and keys of the program's table.
 """
 
 import os
@@ -179,6 +180,35 @@ def reading_faults():
     return len(rows), [f"docs/PROOF.md: the table of what must be read lacks: {row}" for row in rows if row not in told]
 
 
+def commands_in_code():
+    """The commands with their keys, by the table of the specification."""
+    text = "\n".join(lines_of("crates/command_line/specs/Words.antt"))
+    rows = re.findall(r'name = codes "(\w+)";\s+required = ([^;]*);\s+optional = ([^;]*);', text)
+    keys = lambda part: [word.lower() for word in re.findall(r"\w+", part)]
+    return {name: (keys(required), keys(optional)) for name, required, optional in rows}
+
+
+def word_faults():
+    table, faults = commands_in_code(), []
+    formats = "\n".join(lines_of("docs/FORMATS.md"))
+    manual = re.sub(r"\\f[A-Z]", "", "\n".join(lines_of("man/euler_align.1")))
+    completion = "\n".join(lines_of("completions/euler_align.bash"))
+    for name, (required, optional) in table.items():
+        row = f"| `{name}` | " + " ".join([f"`{key}=`" for key in required] + [f"[`{key}=`]" for key in optional]) + " |"
+        if row not in formats:
+            faults.append(f"docs/FORMATS.md: no row of commands begins {row}")
+        synopsis = re.search(rf"^euler_align {name} .*(?:\n    .*)?", manual, re.M)
+        shown = synopsis.group(0).replace("SWITCHES", "nonempty= sibling= coverage=") if synopsis else ""
+        if sorted(re.findall(r"(\w+)=", shown)) != sorted(required + optional):
+            faults.append(f"man/euler_align.1: the synopsis of {name} has other keys than {' '.join(required + optional)}")
+        case = re.search(rf"^ +(?:\w+ \| )*{name}(?: \| \w+)*\) keys=\"(.*)\"", completion, re.M)
+        if not case or case.group(1).replace("=", "").split() != required + optional:
+            faults.append(f"completions/euler_align.bash: {name} has other keys than {' '.join(required + optional)}")
+    if f'compgen -W "{" ".join(table)}"' not in completion:
+        faults.append("completions/euler_align.bash: the commands are others")
+    return len(table), faults
+
+
 def main():
     program = sys.argv[1] if len(sys.argv) > 1 else os.path.join(ROOT, "crates/euler_align/out/euler_align")
     faults, told = [], []
@@ -192,7 +222,7 @@ def main():
         told.append(f"{count} command lines run")
     else:
         told.append(f"no program at {os.path.relpath(program)}, so no command line was run")
-    for name, look in [("links", link_faults), ("crates", crate_faults), ("rows of what must be read", reading_faults)]:
+    for name, look in [("links", link_faults), ("crates", crate_faults), ("rows of what must be read", reading_faults), ("commands", word_faults)]:
         count, wrong = look()
         told.append(f"{count} {name}")
         faults += wrong
