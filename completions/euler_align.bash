@@ -27,7 +27,12 @@ _euler_align() {
       compopt -o filenames
       ;;
     nonempty= | sibling= | coverage=) mapfile -t COMPREPLY < <(compgen -W "on off" -- "$current") ;;
-    kinds=) mapfile -t COMPREPLY < <(compgen -W "count tally seen merge json" -- "$current") ;;
+    kinds=)
+      # what stands before the last comma stays
+      local before=
+      [[ $current == *,* ]] && before=${current%,*},
+      mapfile -t COMPREPLY < <(compgen -P "$before" -W "count tally seen merge json" -- "${current##*,}")
+      ;;
   esac
 }
 

@@ -10,7 +10,8 @@ lines of the command stand behind `> `. What follows up to the next `$ ` is what
 `...` stands for any text: within a line for a part of it, and on a line of its own for lines, or none. The command lines of a page
 are run one after the other by bash, in a folder of their own that has the examples and tools, with the program on the path.
 
-Besides: each relative link of each page leads to a file, and to a heading of it; each crate stands in docs/CODE.md once, and stands on
+Besides: each relative link of each page leads to a file, and to a heading of it; what stands between backticks is there, where it looks
+like a path or, on the pages about the proof, like a name in the code; each crate stands in docs/CODE.md once, and stands on
 no crate that the line of its layer rules out; the table of what must be read, in docs/PROOF.md, is what tools/reading_list counts; and
 docs/FORMATS.md, the manual page and the completion have the commands and keys of the program's table.
 """
@@ -23,6 +24,7 @@ import tempfile
 
 ROOT = os.path.join(os.path.dirname(os.path.abspath(__file__)), "..")
 SHOWN = ["README.md", "docs/GUIDE.md", "examples/README.md"]
+NAMING = ["docs/PROOF.md", "docs/DEFINITIONS.md", "docs/CONTRACTS.md"]
 MARK = "\x01"
 
 
@@ -129,6 +131,30 @@ def link_faults():
     return count, faults
 
 
+def quote_faults():
+    """Paths and names between backticks that are nowhere."""
+    count, faults, text = 0, [], []
+    crates = os.listdir(os.path.join(ROOT, "crates"))
+    for folder, _, names in os.walk(os.path.join(ROOT, "crates")):
+        for name in names:
+            if name.endswith((".antt", ".rt")):
+                with open(os.path.join(folder, name), encoding="utf-8") as file:
+                    text.append(file.read())
+    known = set(re.findall(r"\w+", "\n".join(text))) | set(crates)
+    for page in [page for page in pages() if page.startswith("docs/") or page == "README.md"]:
+        for number, line in enumerate(lines_of(page), 1):
+            for quote in [] if line.startswith("    ") else re.findall(r"`([^`]+)`", line):
+                first = quote.split("/")[0]
+                if re.fullmatch(r"[\w.]+(/[\w.]+)+/?", quote) and (first in crates or os.path.isdir(os.path.join(ROOT, first))):
+                    count += 1
+                    if not any(os.path.exists(os.path.join(ROOT, top, quote)) for top in ("", "crates")) and "/out/" not in quote:
+                        faults.append(f"{page}:{number}: there is no {quote}")
+                elif page in NAMING and re.fullmatch(r"[A-Za-z_]\w*((::|\.)[A-Za-z_]\w*)*", quote) and not quote.endswith((".antt", ".md")):
+                    count += 1
+                    faults += [f"{page}:{number}: {name} is no name in the code" for name in re.split(r"::|\.", quote) if name not in known]
+    return count, faults
+
+
 def below():
     """For each crate of crates.txt all crates that it stands on."""
     out = {}
@@ -222,7 +248,7 @@ def main():
         told.append(f"{count} command lines run")
     else:
         told.append(f"no program at {os.path.relpath(program)}, so no command line was run")
-    for name, look in [("links", link_faults), ("crates", crate_faults), ("rows of what must be read", reading_faults), ("commands", word_faults)]:
+    for name, look in [("links", link_faults), ("quotes", quote_faults), ("crates", crate_faults), ("rows of what must be read", reading_faults), ("commands", word_faults)]:
         count, wrong = look()
         told.append(f"{count} {name}")
         faults += wrong
