@@ -1,0 +1,110 @@
+#!/usr/bin/env python3
+"""Tests of tools/draw, by what it puts for lines of `report kinds=json`.
+
+    python3 tools/test_draw.py
+"""
+
+import os
+import shutil
+import subprocess
+import sys
+import tempfile
+import unittest
+
+HERE = os.path.dirname(os.path.abspath(__file__))
+TWO_WORLDS = r"""report count
+2
+report json
+{"classes":[["1.A","2.A"],["1.B"],["2.B"]],"splits":[["1.B*2.B","1.B\\2.B","2.B\\1.B"]],"under":[[2,1],[3,1]]}
+{"classes":[["1.A","2.A"],["1.B","2.B"]],"splits":[],"under":[[2,1]]}
+complete 2
+"""
+
+
+def draw(text, *words):
+    data = text if isinstance(text, bytes) else text.encode()
+    done = subprocess.run([sys.executable, os.path.join(HERE, "draw"), *words], input=data, capture_output=True, check=False)
+    return done.returncode, done.stdout.decode(), done.stderr.decode()
+
+
+class Draw(unittest.TestCase):
+    def test_each_world_is_a_frame(self):
+        code, out, err = draw(TWO_WORLDS)
+        self.assertEqual((code, err), (0, ""))
+        self.assertEqual(
+            out,
+            r"""digraph merged {
+  rankdir=BT;
+  node [shape=box, fillcolor="#e8eef7"];
+  subgraph cluster_1 {
+    label="world 1";
+    w1c1 [label="1.A\n2.A", style=filled];
+    w1c2 [label="1.B"];
+    w1c3 [label="2.B"];
+    w1c2 -> w1c1;
+    w1c3 -> w1c1;
+    w1c2 -> w1c3 [style=dashed, dir=none, constraint=false];
+  }
+  subgraph cluster_2 {
+    label="world 2";
+    w2c1 [label="1.A\n2.A", style=filled];
+    w2c2 [label="1.B\n2.B", style=filled];
+    w2c2 -> w2c1;
+  }
+}
+""",
+        )
+
+    def test_one_world_alone(self):
+        code, out, _ = draw(TWO_WORLDS, "--world", "2")
+        self.assertEqual(code, 0)
+        self.assertNotIn("cluster", out)
+        self.assertIn('  w2c2 [label="1.B\\n2.B", style=filled];\n', out)
+        self.assertNotIn("w1c1", out)
+
+    def test_splits_of_one_pair_of_classes_are_one_line(self):
+        line = (
+            r'{"classes":[["1.A"],["2.B","3.B"]],"splits":[["1.A*2.B","1.A\\2.B","2.B\\1.A"],'
+            r'["1.A*3.B","1.A\\3.B","3.B\\1.A"]],"under":[]}'
+        )
+        code, out, _ = draw(line + "\n")
+        self.assertEqual((code, out.count("dashed")), (0, 1))
+
+    def test_quotes_backslashes_and_stars_in_names(self):
+        line = (
+            r'{"classes":[["1.a\"b"],["2.x*y"],["1.c\\d"]],"splits":[["1.c\\d*2.x*y","1.c\\d\\2.x*y","2.x*y\\1.c\\d"]],"under":[]}'
+        )
+        code, out, err = draw(line + "\n")
+        self.assertEqual((code, err), (0, ""))
+        self.assertIn(r'[label="1.a\"b"]', out)
+        self.assertIn(r'[label="1.c\\d"]', out)
+        self.assertIn("w1c2 -> w1c3 [style=dashed", out)
+
+    def test_what_it_refuses(self):
+        for text, says in [
+            ("report json\ncomplete 0\n", "no world to draw"),
+            ("report json\n{\n", "line 2: not JSON"),
+            ('{"classes":[["1.A"]],"splits":[]}\n', "line 1: not a merged taxonomy"),
+            ('{"classes":[["1.A"]],"splits":[],"under":[[1,2]]}\n', "line 1: not a merged taxonomy"),
+            ('{"classes":[["1.A"]],"splits":[["a","b","c"]],"under":[]}\n', "of no two names"),
+            (b"\xff\n", "can't decode"),
+        ]:
+            code, out, err = draw(text)
+            self.assertEqual((code, out), (1, ""), text)
+            self.assertIn(says, err)
+        code, _, err = draw(TWO_WORLDS, "--world", "3")
+        self.assertEqual(code, 1)
+        self.assertIn("there is no world 3: there are 2", err)
+
+    @unittest.skipUnless(shutil.which("dot"), "dot is not installed")
+    def test_dot_takes_the_graph(self):
+        with tempfile.TemporaryDirectory() as folder:
+            path = os.path.join(folder, "picture.svg")
+            code, out, err = draw(TWO_WORLDS, "--svg", path)
+            self.assertEqual((code, out, err), (0, "", ""))
+            with open(path, encoding="utf-8") as file:
+                self.assertIn("</svg>", file.read())
+
+
+if __name__ == "__main__":
+    unittest.main()
