@@ -107,7 +107,7 @@ class Subject:
             bits = said[1]
             if len(bits) != len(problem.articulations):
                 raise Rejected("WrongSubject")
-        self.allowed = [set(LETTERS) for _ in problem.pairs]
+        self.allowed = [frozenset(LETTERS) for _ in problem.pairs]
         self.sums, seen = [], 0  # those that are kept, by their numbers among all
         for a, bit in zip(problem.articulations, bits):
             if a[0] == "sum":

@@ -4,6 +4,7 @@ It shares no code with the program, but it was written by somebody who knew that
 points, and prints reports, tokens, summaries and faults. `differential.py` sets it beside the built program.
 """
 
+import functools
 import hashlib
 import itertools
 
@@ -18,7 +19,7 @@ CONVERSE = {"=": "=", ">": "<", "<": ">", "x": "x", "!": "!"}
 ROWS = {"=": (0, None, 0), ">": (1, None, 0), "<": (0, None, 1), "x": (1, 1, 1), "!": (1, 0, 1)}
 
 
-MOST_PREFIXES = 3000
+MOST_PREFIXES = 1500
 
 
 class TooMany(Exception):
@@ -46,13 +47,19 @@ class Problem:
         self.pairs = self.cross + [p for p in pairs if self.owners[p[0]] == self.owners[p[1]]]
         self.allowed = []
         for pair in self.pairs:
-            letters = set(LETTERS)
+            letters = frozenset(LETTERS)
             for a in self.articulations:
                 if a[0] == "pair" and (a[1], a[2]) == pair:
                     letters &= set(a[3])
             self.allowed.append(letters)
         self.points = [b for b in itertools.product((0, 1), repeat=len(self.names)) if self.is_point(b)]
+        # which points lie in each region of each pair, and in each concept, as the bits of a number
+        self.in_region = [[self.marks(lambda p: lies(p, (i, j, g))) for g in range(3)] for i, j in self.pairs]
+        self.in_concept = [self.marks(lambda p: p[c]) for c in concepts]
         return self
+
+    def marks(self, has):
+        return sum(1 << k for k, p in enumerate(self.points) if has(p))
 
     def is_point(self, bits):
         nonempty, sibling, coverage = self.switches
@@ -97,23 +104,17 @@ class Problem:
 
     # Aliveness of a prefix, by points.
     def is_alive(self, prefix):
-        sets = [
-            self.allowed[k] & {prefix[k]} if k < len(prefix) else self.allowed[k] for k in range(len(self.pairs))
-        ]
+        sets = [self.allowed[k] & {r} for k, r in enumerate(prefix)] + self.allowed[len(prefix) :]
         if not all(sets):
             return False
-        empty, needs = [], []
-        for (i, j), letters in zip(self.pairs, sets):
-            for region in range(3):
-                words = {ROWS[r][region] for r in letters}
-                if words == {0}:
-                    empty.append((i, j, region))
-                if words == {1}:
-                    needs.append((i, j, region))
-        left = [p for p in self.points if not any(lies(p, e) for e in empty)]
-        if not all(any(lies(p, need) for p in left) for need in needs):
-            return False
-        return not self.switches[0] or all(any(p[c] for p in left) for c in range(len(self.names)))
+        empty, needs = 0, list(self.in_concept) if self.switches[0] else []
+        for regions, letters in zip(self.in_region, sets):
+            for points, word in zip(regions, forced_words(letters)):
+                if word == 0:
+                    empty |= points
+                if word == 1:
+                    needs.append(points)
+        return all(need & ~empty for need in needs)
 
     def walk(self, start):
         """The nodes from a position on, in order, each with whether it is a world."""
@@ -173,6 +174,13 @@ class Problem:
 def lies(bits, region):
     i, j, place = region
     return ((bits[i] and not bits[j]), (bits[i] and bits[j]), (not bits[i] and bits[j]))[place]
+
+
+@functools.cache
+def forced_words(letters):
+    """What a set of relations says of the three regions together: 0 empty, 1 occupied, None nothing."""
+    words = [{ROWS[r][region] for r in letters} for region in range(3)]
+    return [said.pop() if len(said) == 1 else None for said in words]
 
 
 def relation(x, y):
