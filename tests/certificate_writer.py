@@ -6,7 +6,7 @@ reason or a branch would do, where a listing ends, and trees that are left unfin
 """
 
 import plain
-from certificates import LETTERS, forced, given_clauses, is_whole, rank, region_literals, region_selector, sum_selector
+from certificates import LETTERS, forced, given_clauses, is_whole, region_literals, region_selector, sum_selector
 
 MOST_LINES = 1500
 
@@ -132,7 +132,7 @@ class Writer:
 
     def tree(self, subject, order, start, node=""):
         """Puts the lines of a tree from a node on; yields each node before its line."""
-        if not start.startswith(node) and rank(node) < rank(start):
+        if not start.startswith(node) and plain.rank(node) < plain.rank(start):
             return
         yield node
         self.forget()

@@ -5,6 +5,8 @@ each rule of the page as one short definition, in the page's order; it is not fa
 plain.py only what a problem and a relation are. The forms of lines are in certificate_lines.py.
 """
 
+import functools
+
 import plain
 from certificate_lines import Text, TextFault, read_line
 
@@ -147,6 +149,7 @@ class Subject:
         return "".join(plain.relation(set(sets[x]), set(sets[y])) for x, y in self.problem.pairs)
 
 
+@functools.cache
 def forced(letters, region):
     """0 where the letters force a region empty, 1 where they force it occupied, else None."""
     words = {plain.ROWS[r][region] for r in letters}
@@ -177,7 +180,7 @@ class Tree:
         return sets
 
     def is_shown(self, node):
-        return self.start.startswith(node) or rank(node) >= rank(self.start)
+        return self.start.startswith(node) or plain.rank(node) >= plain.rank(self.start)
 
     def below(self, node):
         """The nodes that come right below a node."""
@@ -190,7 +193,7 @@ class Tree:
         while node:
             up = node[:-1]
             for other in self.below(up):
-                if rank(other) > rank(node):
+                if plain.rank(other) > plain.rank(node):
                     return other
             node = up
         return None
@@ -246,10 +249,6 @@ class Tree:
             raise Rejected("ExtraBranch")
         if self.at != position:
             raise Rejected("MissingBranch")
-
-
-def rank(position):
-    return [LETTERS.index(r) for r in position]
 
 
 # Whole certificates.

@@ -9,6 +9,7 @@ import hashlib
 import itertools
 
 LETTERS = "=><x!"
+ORDER = str.maketrans(LETTERS, "01234")
 WORDS = {
     "equals": "=", "==": "=", "includes": ">", ">": ">", "is_included_in": "<", "<": "<",
     "overlaps": "x", "><": "x", "disjoint": "!", "!": "!",
@@ -118,7 +119,7 @@ class Problem:
 
     def walk(self, start):
         """The nodes from a position on, in order, each with whether it is a world."""
-        rank = [LETTERS.index(r) for r in start]
+        least = rank(start)
         if not hasattr(self, "alive"):
             self.alive = {}
 
@@ -130,11 +131,10 @@ class Problem:
             return self.alive[prefix]
 
         def go(prefix):
-            ranks = [LETTERS.index(r) for r in prefix]
             alive = is_alive(prefix)
-            if ranks >= rank:
+            if rank(prefix) >= least:
                 yield prefix, alive and len(prefix) == len(self.pairs)
-            elif ranks != rank[: len(ranks)]:
+            elif not start.startswith(prefix):
                 return
             if alive and len(prefix) < len(self.pairs):
                 for r in LETTERS:
@@ -168,7 +168,12 @@ class Problem:
                 table = "".join(relation(sets[i], sets[j]) for i, j in self.pairs)
                 if all(r in letters for r, letters in zip(table, self.allowed)):
                     tables.add(table)
-        return sorted(tables, key=lambda t: [LETTERS.index(r) for r in t])
+        return sorted(tables, key=rank)
+
+
+def rank(position):
+    """What positions are ordered by: a prefix first, then by the order of the relations."""
+    return position.translate(ORDER)
 
 
 def lies(bits, region):
