@@ -77,7 +77,7 @@ BREAKS = [
     # derivations
     ("a hint with two literals left is unit", "certificates", "if len(left) > 1:", "if len(left) > 2:"),
     ("a forgotten clause is still there", "certificates", "del self.clauses[number]", "pass"),
-    ("given clauses may be forgotten", "certificates", "or number <= self.given:", "or number < self.given:"),
+    ("given clauses may be forgotten", "certificates", "or number <= self.given:", "or False:"),
     ("an id may be used again", "certificates", "if number in self.clauses:", "if number <= self.given:"),
     ("hints without a contradiction are enough", "certificates", 'raise Rejected("NoConflict")', "self.clauses[number] = frozenset(literals)"),
     ("an implied literal is held false", "certificates", "false |= {-literal for literal in left}", "false |= left"),

@@ -11,6 +11,10 @@ from certificates import LETTERS, forced, given_clauses, is_whole, region_litera
 MOST_LINES = 1500
 
 
+class NotShown(Exception):
+    """These literals have a model of the given clauses."""
+
+
 class Writer:
     def __init__(self, problem, rng):
         self.problem, self.rng = problem, rng
@@ -57,7 +61,9 @@ class Writer:
         for number, clause in enumerate(self.given, 1):
             if all(-literal in held for literal in clause):
                 return number, frozenset(clause)
-        variable = next(c for c in range(1, len(self.problem.names) + 1) if c not in held and -c not in held)
+        variable = next((c for c in range(1, len(self.problem.names) + 1) if c not in held and -c not in held), None)
+        if variable is None:
+            raise NotShown(sorted(held))
         parts = []
         for literal in (variable, -variable):
             number, clause = self.refute(true, assumed | {literal})

@@ -114,6 +114,8 @@ def check_other_certificates(runner, problem, words, rng):
             data = getattr(certificate_writer.Writer(problem, rng), kind)()
         except plain.TooMany:
             continue
+        except certificate_writer.NotShown as fault:
+            raise Difference(f"no point lies in a need, which the given clauses don't show: {fault}")
         if same_check(runner, problem, words, data)[0] != 0:
             raise Difference(f"a certificate of certificate_writer.py is not accepted:\n{data.decode()}")
         for _ in range(3):
@@ -251,11 +253,14 @@ def check_trial(runner, rng):
 
 
 def check_words(runner, rng):
-    words = [rng.choice(random_cases.USAGE_WORDS[:7])] if rng.random() < 0.9 else []
-    words += [rng.choice(random_cases.USAGE_WORDS) for _ in range(rng.randint(0, 4))]
+    words = random_cases.random_words(rng)
     kind = plain_words.usage_of(words)
     if kind:
         runner.same(words, 2, f"usage {kind}\n")
+        return
+    code, text = runner.run(words)
+    if code == 2:
+        raise Difference(f"words: {' '.join(words)}\nwanted: no usage fault\ngot: {text}")
 
 
 def check_damage(runner, text, switches, rng):

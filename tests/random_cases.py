@@ -6,11 +6,34 @@ import plain
 
 SWITCHES = [(a, b, c) for a in (True, False) for b in (True, False) for c in (True, False)]
 KINDS = ["count", "tally", "seen", "merge", "json"]
-USAGE_WORDS = [
-    "align", "check", "report", "trial", "mir", "conflict", "lattice", "in=p", "in=", "in=q", "cert=c", "cert=p", "token=t", "token=p",
-    "resume=r", "nodes=1", "nodes=0", "nodes=01", "worlds=2", "worlds=-1", "nonempty=on", "nonempty=On", "sibling=off", "coverage=1", "kinds=count", "kinds=",
-    "kinds=count,seen", "kinds=count,count", "kinds=seen,x", "seed=3", "seed=+3", "size=14", "size=15", "size=300", "x", "=x", "y=z",
+REQUESTS = [
+    "align in=p", "align in=p cert=c", "align in=p nodes=3 token=t", "align in=p worlds=2 token=t resume=r cert=c sibling=off", "check in=p cert=c",
+    "mir in=p cert=c coverage=off", "conflict in=p nonempty=off", "report in=p kinds=count,seen", "trial seed=3 size=14",
 ]
+OTHER_WORDS = [
+    "align", "check", "report", "trial", "mir", "conflict", "lattice", "in=p", "in=", "in=c", "cert=c", "cert=p", "cert=", "token=t", "token=p", "token=c",
+    "resume=r", "resume=t", "resume=p", "nodes=1", "nodes=0", "nodes=01", "worlds=2", "worlds=-1", "worlds=18446744073709551616", "nonempty=on", "nonempty=On",
+    "sibling=off", "coverage=1", "kinds=count", "kinds=", "kinds=count,seen", "kinds=count,count", "kinds=seen,x", "kinds=seen,", "seed=3", "seed=+3", "size=14",
+    "size=15", "size=300", "x", "=x", "y=z", "", "In=p", "--help",
+]
+
+
+def random_words(rng):
+    """The words of a request with a few changes."""
+    words = rng.choice(REQUESTS).split(" ")
+    for _ in range(rng.choice([1, 1, 2, 3])):
+        place, draw = rng.randrange(len(words) + 1), rng.random()
+        if draw < 0.35:
+            words.insert(max(place, rng.choice([0, 1, 1, 1])), rng.choice(OTHER_WORDS))
+        elif draw < 0.6:
+            words[place : place + 1] = [rng.choice(OTHER_WORDS)]
+        elif draw < 0.8:
+            del words[place : place + 1]
+        elif draw < 0.9:
+            words[place:place] = words[place : place + 1]
+        elif place < len(words) and words[place].split("=")[0] in ("in", "cert", "token", "resume"):
+            words[place] = words[place].split("=")[0] + "=" + rng.choice("pctr")
+    return words
 
 
 def random_switches(rng):
@@ -57,18 +80,20 @@ def random_problem(rng):
 
 TEXT_PIECES = [
     b"", b" ", b"(", b")", b"[", b"]", b"{", b"}", b"#", b"\n", b"\r\n", b".", b"\xff", b"\xef\xbb\xbf", b"taxonomy 9\n", b"articulations x\n",
-    b"(A0 A0)\n", b"[1.A0 == 2.B0]\n", b"\x01", b"x" * 130, "é".encode(), b"[1.A0 sums 2.B0 2.B0]\n",
+    b"(A0 A0)\n", b"[1.A0 == 2.B0]\n", b"\x01", b"x" * 130, "é".encode(), b"[1.A0 sums 2.B0 2.B0]\n", b" # a # b\n", b"\r# a\n",
 ]
 WORD_PIECES = [b"", b" ", b"\n", b".", b"-", b"0", b"1", b",", b"=", b"x", b"!", b"\r", b"\xff", b"\0", b"18446744073709551615", b"4294967296"]
 
 
 def damaged(rng, data, pieces):
-    """A few bytes changed, or pieces put in."""
+    """A few bytes changed, or pieces put in; a line mostly where a line begins."""
     data = bytearray(data)
-    for _ in range(rng.randint(1, 3)):
+    for _ in range(rng.choice([1, 1, 2, 3])):
         place = rng.randrange(len(data) + 1)
         piece = rng.choice(pieces)
         drop = rng.choice([0, 0, 1, 1, 2, 5])
+        if len(piece) > 1 and piece.endswith(b"\n") and rng.random() < 0.8:
+            place, drop = data.rfind(b"\n", 0, place) + 1, 0
         data[place : place + drop] = piece
     return bytes(data)
 
