@@ -2,12 +2,13 @@
 """Sets the built program beside the plain ones (plain.py, plain_words.py, certificates.py), on random problems, texts, words, tokens and
 certificates.
 
-    tests/differential.py [--count N] [--seed S] [--program PATH]
+    tests/differential.py [--count N] [--seed S] [--program PATH] [--alone]
 
 Each case makes a small problem (two to four taxonomies, sums, all switches), and compares what the program puts and its exit code with
 what the plain ones say: listings whole, cut and resumed, their tokens, what follows and what conflicts, reports, trials, damaged texts,
 tokens and certificates, and words that are no request. Certificates that the program writes must be accepted by the plain checker too,
-and its own checker must answer what the plain one does of any bytes. It ends with status 1 at the first difference, and shows it.
+and its own checker must answer what the plain one does of any bytes. What is accepted must be so by plain.py. With --alone no program is
+run, and the plain ones are set beside each other. It ends with status 1 at the first difference, and shows it.
 """
 
 import argparse
@@ -93,7 +94,27 @@ def same_check(runner, problem, words, data):
         runner.same(["check", "in=p", "cert=d"] + words, code, text)
     except Difference as difference:
         raise Difference(f"{difference}\nof the certificate\n{data.decode('utf-8', 'backslashreplace')}")
+    if code == 0 and not is_so(problem, text.split("\n")[:-1]):
+        raise Difference(f"accepted, and not so:\n{text}of the certificate\n{data.decode()}")
     return code, text
+
+
+def is_so(problem, rows):
+    """Whether what an accepted certificate says is so, by plain.py."""
+    worlds = problem.worlds()
+    if rows[0].startswith("from "):
+        start, end = rows[0][5:].replace(".", ""), rows[-2][3:].replace(".", "")
+        between = lambda w: plain.rank(w) >= plain.rank(start) and (end == "-" or plain.rank(w) < plain.rank(end))
+        return rows[1:-2] == [w for w in worlds if between(w)] and rows[-1] == f"accepted {len(rows) - 3}"
+    for row in rows[:-1]:
+        said, kind, *rest = row.split(" ")
+        if kind == "m":
+            holds = any(w[int(rest[0])] == rest[1] for w in worlds)
+        else:
+            holds = plain.is_consistent(problem, rest[0].replace(".", ""))
+        if holds != (said == "some"):
+            return False
+    return rows[-1] == f"accepted {len(rows) - 1}"
 
 
 def check_written(runner, problem, words, rng, text=None):
@@ -299,23 +320,31 @@ def case(runner, rng):
         check_trial(runner, rng)
 
 
-def default_program():
-    return os.path.join(os.path.dirname(os.path.abspath(__file__)), "../crates/euler_align/out/euler_align")
+class NoProgram(Runner):
+    def same(self, words, code, text):
+        pass
+
+
+def case_alone(runner, rng):
+    """What of a case needs no program: the plain ones beside each other."""
+    problem = plain.read_problem(random_cases.random_problem(rng).encode(), random_cases.random_switches(rng)).finish()
+    check_other_certificates(runner, problem, [], rng)
 
 
 def main():
     parser = argparse.ArgumentParser()
     parser.add_argument("--count", type=int, default=500)
     parser.add_argument("--seed", type=int, default=1)
-    parser.add_argument("--program", default=default_program())
+    parser.add_argument("--program", default=os.path.join(os.path.dirname(os.path.abspath(__file__)), "../crates/euler_align/out/euler_align"))
+    parser.add_argument("--alone", action="store_true")
     given = parser.parse_args()
     with tempfile.TemporaryDirectory() as folder:
-        runner = Runner(given.program, folder)
+        runner = (NoProgram if given.alone else Runner)(given.program, folder)
         skipped = 0
         for number in range(given.count):
             rng = random.Random(f"{given.seed} {number}")
             try:
-                case(runner, rng)
+                (case_alone if given.alone else case)(runner, rng)
             except plain.TooMany:
                 skipped += 1
             except Difference as difference:

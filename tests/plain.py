@@ -155,7 +155,9 @@ class Problem:
         return found, None
 
     def worlds(self):
-        return self.listing("")[0]
+        if not hasattr(self, "listed"):
+            self.listed = self.listing("")[0]
+        return self.listed
 
     def families_by_sets_of_points(self):
         """All tables of families, by trying every set of points: for very small problems alone."""
