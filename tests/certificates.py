@@ -270,8 +270,7 @@ def listing(problem, text, start):
             last = "-" if said is None else said or "."
             return [f"from {start or '.'}"] + worlds + [f"to {last}", f"accepted {len(worlds)}"]
         else:
-            if kind == "w":
-                node = tree.at
+            node = tree.at
             tree.line(kind, said)
             if kind == "w":
                 worlds.append(node)

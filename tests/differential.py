@@ -2,7 +2,7 @@
 """Sets the built program beside the plain ones (plain.py, plain_words.py, certificates.py), on random problems, texts, words, tokens and
 certificates.
 
-    tests/differential.py [--count N] [--seed S] [--program PATH] [--alone]
+    tests/differential.py [--count N] [--seed S] [--program PATH] [--alone] [--tally]
 
 Each case makes a small problem (two to four taxonomies, sums, all switches), and compares what the program puts and its exit code with
 what the plain ones say: listings whole, cut and resumed, their tokens, what follows and what conflicts, reports, trials, damaged texts,
@@ -12,6 +12,7 @@ run, and the plain ones are set beside each other. It ends with status 1 at the 
 """
 
 import argparse
+import collections
 import json
 import os
 import random
@@ -38,6 +39,7 @@ class Runner:
         self.program = os.path.abspath(program)
         self.folder = folder
         self.runs = 0
+        self.answers = collections.Counter()  # last lines that are compared, without their numbers
 
     def hold(self, name, data):
         with open(os.path.join(self.folder, name), "wb") as f:
@@ -65,6 +67,8 @@ class Runner:
 
     def same(self, words, code, text):
         got = self.run(words)
+        last = text.split("\n")[-2]
+        self.answers["conflict" if last.endswith("]") else " ".join(word for word in last.split(" ") if not word.isdigit())] += 1
         if got != (code, text):
             raise Difference(f"words: {' '.join(words)}\nwanted: {code}\n{text}\ngot: {got[0]}\n{got[1]}")
 
@@ -284,8 +288,7 @@ def check_words(runner, rng):
         raise Difference(f"words: {' '.join(words)}\nwanted: no usage fault\ngot: {text}")
 
 
-def check_damage(runner, text, switches, rng):
-    data = random_cases.damaged(rng, text.encode(), random_cases.TEXT_PIECES)
+def check_text(runner, data, switches):
     runner.hold("p", data)
     words = switch_words(switches)
     try:
@@ -314,15 +317,17 @@ def case(runner, rng):
     check_reports(runner, problem, words, worlds, rng)
     check_possible(runner, problem, words, worlds, rng)
     check_conflict(runner, problem, words, rng)
-    check_damage(runner, text, switches, rng)
+    check_text(runner, random_cases.damaged(rng, text.encode(), random_cases.TEXT_PIECES), switches)
     check_words(runner, rng)
+    if rng.random() < 0.05:
+        check_text(runner, random_cases.text_at_limit(rng), switches)
     if rng.random() < 0.1:
         check_trial(runner, rng)
 
 
 class NoProgram(Runner):
     def same(self, words, code, text):
-        pass
+        self.answers[text.split("\n")[-2].split(" ")[0]] += 1
 
 
 def case_alone(runner, rng):
@@ -337,6 +342,7 @@ def main():
     parser.add_argument("--seed", type=int, default=1)
     parser.add_argument("--program", default=os.path.join(os.path.dirname(os.path.abspath(__file__)), "../crates/euler_align/out/euler_align"))
     parser.add_argument("--alone", action="store_true")
+    parser.add_argument("--tally", action="store_true", help="tell how often each last line was compared")
     given = parser.parse_args()
     with tempfile.TemporaryDirectory() as folder:
         runner = (NoProgram if given.alone else Runner)(given.program, folder)
@@ -351,6 +357,8 @@ def main():
                 print(f"case {number} of seed {given.seed}: {difference}")
                 print((runner.bytes_of("p") or b"").decode("utf-8", "replace"))
                 return 1
+        for answer, times in sorted(runner.answers.items()) if given.tally else []:
+            print(f"{times} {answer}")
         print(f"{given.count - skipped} cases, {runner.runs} runs: no difference ({skipped} left out, with too many nodes)")
     return 0
 

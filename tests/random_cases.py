@@ -78,9 +78,29 @@ def random_problem(rng):
     return "".join(line + "\n" for line in lines)
 
 
+def text_at_limit(rng):
+    """A problem text at one of the limits, or one past it."""
+    more = rng.choice([0, 1])
+    two = b"taxonomy 1\n(A)\ntaxonomy 2\n(B)\narticulation\n"
+    return [
+        # past the limit of concepts alone: as many as are allowed are more than can be walked
+        lambda: b"taxonomy 1\n" + b"".join(b"(c%d)\n" % k for k in range(1025 - rng.randint(0, 2))) + b"taxonomy 2\n(A B)\n(C)\n",
+        lambda: two + b"[1.A {== >} 2.B]\n" * (4096 + more),
+        lambda: two + b"[1.A ! 2.B]\n" * 4096 + rng.choice([b"[1.A ! 2.C]\n", b"[1.A sums 2.B 2.B]\n", b"[2.B is 1.A]\n"]),
+        lambda: b"".join(b"taxonomy %d\n" % k for k in range(8 + more)) + rng.choice([b"", b"(A)\n", b"(A B)\n"]),
+        lambda: rng.choice([b"", b"taxonomy 1\n", b"taxonomy 1\n(A)\n", b"taxonomy 1\n(A)\narticulation\n[1.A ! 2.B]\n"]),
+        lambda: two + b"#" * (1048576 - len(two) + more),
+        lambda: two.replace(b"A", b"A" * (128 + more)),
+        lambda: two.replace(b"A", "\u00e9".encode() * 64 + b"A" * more),
+    ][rng.randrange(8)]()
+
+
 TEXT_PIECES = [
     b"", b" ", b"(", b")", b"[", b"]", b"{", b"}", b"#", b"\n", b"\r\n", b".", b"\xff", b"\xef\xbb\xbf", b"taxonomy 9\n", b"articulations x\n",
     b"(A0 A0)\n", b"[1.A0 == 2.B0]\n", b"\x01", b"x" * 130, "é".encode(), b"[1.A0 sums 2.B0 2.B0]\n", b" # a # b\n", b"\r# a\n",
+    b"(A0 A1)\n", b"(A1 A0)\n", b"(A0 A2 A1)\n", b"(B1 A0 B0)\n", b"(B0 B1 B1)\n", b"[1.A0 == 1.A1]\n", b"[1.A0 {} 2.B0]\n", b"[1.A0 {sums} 2.B0]\n",
+    b"taxonomy 1\n", b"taxonomy a.b\n", b"taxonomy (\n", b"[2.B0 sums 1.A0 2.B0]\n", b"[2.B0 sums 1.A0]\n", b"[1.A0 like 2.B0]\n", b"[A0 == 2.B0]\n",
+    b"[2.B0 {> ><} 1.A0]\n", b"[1.A0 sums 3.C0 2.B0]\n",
 ]
 WORD_PIECES = [b"", b" ", b"\n", b".", b"-", b"0", b"1", b",", b"=", b"x", b"!", b"\r", b"\xff", b"\0", b"18446744073709551615", b"4294967296"]
 
