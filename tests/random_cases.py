@@ -68,7 +68,7 @@ def random_problem(rng):
             a, b = rng.sample(places, 2)
             x, y = rng.choice(all_names[a]), rng.choice(all_names[b])
             others = [n for t in places if t != a for n in all_names[t]]
-            if rng.random() < 0.15 and len(others) >= 2:
+            if rng.random() < 0.2 and len(others) >= 2:
                 lines.append(f"[{x} sums {' '.join(rng.sample(others, rng.randint(2, min(3, len(others)))))}]")
             elif rng.random() < 0.5:
                 lines.append(f"[{x} {rng.choice(words)} {y}]")
@@ -227,7 +227,7 @@ def change_meaning(rng, words, lines):
     """Another line of the same form, or nearly."""
     kind = words[0]
     letter = lambda: rng.choice(plain.LETTERS)
-    ids = [line.split(" ")[1] for line in lines if line.startswith("d ")] + [str(rng.randint(1, 30))]
+    ids = [line.split(" ")[1] for line in lines if line.startswith("d ")] + [str(rng.choice([0, rng.randint(1, 30)]))]
     if kind in ("certificate", "claims"):
         place = rng.randrange(2, len(words))
         words[place] = rng.choice(["on", "off"]) if place < 5 else random_position(rng, 4) or "."
