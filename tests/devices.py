@@ -29,8 +29,9 @@ NOBODY = 65534
 TOLD = {1, 2}
 READ_FAULT, WRITE_FAULT = (3, "read fault\n"), (4, "")
 
-PROBLEM = b"taxonomy 1\n(A B C)\ntaxonomy 2\n(D E F)\narticulation\n[1.A equals 2.D]\n"
-CONFLICT = b"taxonomy 1\n(A B)\ntaxonomy 2\n(C D)\narticulation\n[1.A equals 2.C]\n[1.B disjoint 2.C]\n[1.B equals 2.D]\n"
+# a problem with several worlds, and one statement more that makes it a conflict
+SMALL = b"taxonomy 1\n(A B C)\ntaxonomy 2\n(D E F)\narticulation\n[1.A equals 2.D]\n", b"[1.B disjoint 2.D]\n"
+LARGER = plain.made_text(7, 40).encode(), b"[1.b1 disjoint 2.r]\n"
 KINDS = "kinds=count,tally,seen,merge,json"
 # name: words, the files that are read, the files that are written
 COMMANDS = {
@@ -52,30 +53,29 @@ class Failed(Exception):
 class Bench:
     """A folder with the files of a try, and the program run in it."""
 
-    def __init__(self, program, folder):
+    def __init__(self, program, folder, problem):
         self.folder = folder
         self.program = os.path.join(folder, "euler_align")
         shutil.copy(program, self.program)  # so that any user may run it
         os.chmod(self.program, 0o755)
         self.place = os.path.join(folder, "place")
-        self.files = {"p": PROBLEM, "q": CONFLICT}
+        self.files = {"p": problem[0], "q": b"".join(problem)}
         self.right = {}
         self.tries = self.silent = 0
         self.prepare()
 
     def prepare(self):
-        """What the commands put and write where nothing fails: it is what `differential.py` looks at."""
-        problem = plain.read_problem(PROBLEM, (True, True, True)).finish()
-        self.files["r"] = plain.print_token(problem, problem.worlds()[1]).encode()
-        self.fresh()
-        self.run("align in=p cert=k".split())
-        self.files["k"] = self.held()["k"]
+        """What the commands put and write where nothing fails: differential.py looks at whether it is right."""
+        for words, name in (("align in=p worlds=1 token=r", "r"), ("align in=p cert=k", "k")):
+            self.fresh()
+            self.run(words.split())
+            self.files[name] = self.held()[name]
         for name, (words, _, written) in COMMANDS.items():
             self.fresh()
             code, out, _ = self.run(words.split())
             held = self.held()
-            self.right[name] = code, out, {n: held[n] for n in written.values()}
-            if code not in (0, 5) or any(not data for data in self.right[name][2].values()):
+            self.right[name] = code, out, {n: held.get(n) for n in written.values()}
+            if code not in (0, 5) or not all(self.right[name][2].values()):
                 raise SystemExit(f"devices: {words} ends with {code}, before anything is tried")
 
     def fresh(self):
@@ -282,10 +282,21 @@ def loader_handed_over(bench, words, kilobytes):
     return (done.returncode, done.stdout, done.stderr), b"transferring control: " + bench.program.encode() in told
 
 
+def least_limit(bench, words):
+    """The least limit, in KiB and by steps of 64, under which the loader comes to its end."""
+    kilobytes = 64
+    while not loader_handed_over(bench, words, kilobytes)[1]:
+        kilobytes += 64
+    return kilobytes
+
+
 def memory_tries(bench, name):
-    """Runs a command under limits from small to ample; answers how many runs were right, wanted memory, or never began."""
+    """Runs a command under limits from small to ample; answers what the runs came to."""
     words, counts = COMMANDS[name][0].split(), {"right": 0, "no memory": 0, "not begun": 0}
-    for kilobytes in list(range(1024, 12288, 128)) + [16384, 32768, 65536, 262144, 1048576]:
+    bench.fresh()
+    least = least_limit(bench, words)
+    counts["not begun"] = least // 64 - 1
+    for kilobytes in list(range(least, least + 2048, 16)) + [least + more for more in (4096, 8192, 16384, 65536, 262144, 1048576)]:
         bench.fresh()
         got, began = loader_handed_over(bench, words, kilobytes)
         if not began:
@@ -293,14 +304,27 @@ def memory_tries(bench, name):
             continue
         try:
             # where no memory is found for the words themselves, nothing is put
-            faults = [None, (9, "no memory\n" if got[1] else "")]
-            bench.judge(name, got, faults)
+            bench.judge(name, got, [None, (9, "no memory\n" if got[1] else "")])
         except Failed as failed:
             raise Failed(f"under {kilobytes} KiB: {failed}")
         counts["no memory" if got[0] == 9 else "right"] += 1
     if got[0] == 9 or not began:
         raise Failed("no answer with ample memory")
     return counts
+
+
+def report(title, make, verbose):
+    """Makes a try, and tells what it came to; whether it was as wanted."""
+    try:
+        counts = make()
+    except (Failed, subprocess.TimeoutExpired) as fault:
+        print(f"{title}: {fault}")
+        return False
+    if counts:
+        print(f"{title}: " + ", ".join(f"{n} {what}" for what, n in counts.items()))
+    elif verbose:
+        print(f"{title}: as wanted")
+    return True
 
 
 def main():
@@ -310,31 +334,22 @@ def main():
     parser.add_argument("--no-memory", action="store_true")
     parser.add_argument("--verbose", action="store_true")
     given = parser.parse_args()
-    passed, failed = 0, 0
     with tempfile.TemporaryDirectory() as folder:
         os.chmod(folder, stat.S_IRWXU | stat.S_IXGRP | stat.S_IXOTH)
-        bench = Bench(given.program, folder)
-        for name in COMMANDS:
-            for title, make in [] if given.memory_only else tries_of(bench, name):
-                bench.fresh()
-                try:
-                    make()
-                    passed += 1
-                    if given.verbose:
-                        print(f"{name}, {title}: as wanted")
-                except (Failed, subprocess.TimeoutExpired) as fault:
-                    failed += 1
-                    print(f"{name}, {title}: {fault}")
-            if not given.no_memory:
-                try:
-                    counts = memory_tries(bench, name)
-                    passed += 1
-                    print(f"{name}, under limits of memory: " + ", ".join(f"{n} {what}" for what, n in counts.items()))
-                except (Failed, subprocess.TimeoutExpired) as fault:
-                    failed += 1
-                    print(f"{name}, under limits of memory: {fault}")
-        print(f"devices: {passed} passed, {failed} failed, {bench.tries} runs; {bench.silent} faults with nothing on standard error")
-    return 1 if failed else 0
+        benches, came = [Bench(given.program, folder, SMALL)], []
+        for name in [] if given.memory_only else COMMANDS:
+            for title, make in tries_of(benches[0], name):
+                benches[0].fresh()
+                came.append(report(f"{name}, {title}", make, given.verbose))
+        if not given.no_memory:
+            benches.append(Bench(given.program, folder, LARGER))
+        for number, bench in enumerate([] if given.no_memory else benches):
+            for name in COMMANDS:
+                title = f"{name} of a {['small', 'larger'][number]} problem, under limits of memory"
+                came.append(report(title, lambda: memory_tries(bench, name), given.verbose))
+        runs, silent = sum(b.tries for b in benches), sum(b.silent for b in benches)
+        print(f"devices: {sum(came)} passed, {len(came) - sum(came)} failed, {runs} runs; {silent} faults with nothing on standard error")
+    return 0 if all(came) else 1
 
 
 if __name__ == "__main__":
