@@ -226,6 +226,10 @@ def change_words(rng, words, lines):
 def change_meaning(rng, words, lines):
     """Another line of the same form, or nearly."""
     kind = words[0]
+    if len(words) < 3 and kind not in ("end", "quit", "done", "k"):
+        # an earlier change took its words
+        change_words(rng, words, lines)
+        return
     letter = lambda: rng.choice(plain.LETTERS)
     ids = [line.split(" ")[1] for line in lines if line.startswith("d ")] + [str(rng.choice([0, rng.randint(1, 30)]))]
     if kind in ("certificate", "claims"):
