@@ -295,7 +295,7 @@ def change_family(rng, words, at):
             del members[rng.randrange(len(members))]
         words[place] = ",".join(members) or "-"
     else:
-        members = sorted(set(members) | {str(rng.randrange(8))}, key=int) if rng.random() < 0.8 else members[::-1]
+        members = sorted(set(members) | {str(rng.randrange(8))}, key=lambda x: (len(x), x)) if rng.random() < 0.8 else members[::-1]
         words[place] = ",".join(members) or "-"
 
 
