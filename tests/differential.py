@@ -1,15 +1,18 @@
 #!/usr/bin/env python3
-"""Sets the built program beside the plain one of plain.py, on random problems, texts, words and tokens.
+"""Sets the built program beside the plain ones (plain.py, plain_words.py, certificates.py), on random problems, texts, words, tokens and
+certificates.
 
-    tests/differential.py [--count N] [--seed S] [--program PATH]
+    tests/differential.py [--count N] [--seed S] [--program PATH] [--alone] [--tally]
 
 Each case makes a small problem (two to four taxonomies, sums, all switches), and compares what the program puts and its exit code with
-what the plain one says: listings whole, cut and resumed, their tokens, what follows and what conflicts, reports, trials, damaged texts and
-tokens, and words that are no request. Certificates that the program writes must be accepted by its checker; a damaged one must not be accepted with
-other worlds. It ends with status 1 at the first difference, and shows it.
+what the plain ones say: listings whole, cut and resumed, their tokens, what follows and what conflicts, reports, trials, damaged texts,
+tokens and certificates, and words that are no request. Certificates that the program writes must be accepted by the plain checker too,
+and its own checker must answer what the plain one does of any bytes. What is accepted must be so by plain.py. With --alone no program is
+run, and the plain ones are set beside each other. It ends with status 1 at the first difference, and shows it.
 """
 
 import argparse
+import collections
 import json
 import os
 import random
@@ -17,15 +20,12 @@ import subprocess
 import sys
 import tempfile
 
+import certificate_writer
+import certificates
 import plain
-
-SWITCHES = [(a, b, c) for a in (True, False) for b in (True, False) for c in (True, False)]
-KINDS = ["count", "tally", "seen", "merge", "json"]
-USAGE_WORDS = [
-    "align", "check", "report", "trial", "mir", "conflict", "lattice", "in=p", "in=", "in=q", "cert=c", "cert=p", "token=t", "token=p",
-    "resume=r", "nodes=1", "nodes=0", "nodes=01", "worlds=2", "worlds=-1", "nonempty=on", "nonempty=On", "sibling=off", "coverage=1", "kinds=count", "kinds=",
-    "kinds=count,seen", "kinds=count,count", "kinds=seen,x", "seed=3", "seed=+3", "size=14", "size=15", "size=300", "x", "=x", "y=z",
-]
+import plain_words
+import random_cases
+from random_cases import KINDS
 
 
 class Difference(Exception):
@@ -33,14 +33,17 @@ class Difference(Exception):
 
 
 class Runner:
+    """Runs the program in a folder of its own, and counts the runs."""
+
     def __init__(self, program, folder):
         self.program = os.path.abspath(program)
         self.folder = folder
         self.runs = 0
+        self.answers = collections.Counter()  # last lines that are compared, without their numbers
 
     def hold(self, name, data):
         with open(os.path.join(self.folder, name), "wb") as f:
-            f.write(data if isinstance(data, bytes) else data.encode())
+            f.write(data)
 
     def bytes_of(self, name):
         try:
@@ -49,12 +52,11 @@ class Runner:
         except FileNotFoundError:
             return None
 
-    def drop(self, *names):
-        for name in names:
-            try:
-                os.remove(os.path.join(self.folder, name))
-            except FileNotFoundError:
-                pass
+    def drop(self, name):
+        try:
+            os.remove(os.path.join(self.folder, name))
+        except FileNotFoundError:
+            pass
 
     def run(self, words):
         self.runs += 1
@@ -65,60 +67,10 @@ class Runner:
 
     def same(self, words, code, text):
         got = self.run(words)
+        last = text.split("\n")[-2]
+        self.answers["conflict" if last.endswith("]") else " ".join(word for word in last.split(" ") if not word.isdigit())] += 1
         if got != (code, text):
             raise Difference(f"words: {' '.join(words)}\nwanted: {code}\n{text}\ngot: {got[0]}\n{got[1]}")
-
-
-def random_problem(rng):
-    """A problem text with few concepts, and now and then a sum."""
-    count = rng.choice([2, 2, 2, 3, 3, 4])
-    left = rng.randint(count, 6)
-    lines, all_names = [], []
-    for t in range(1, count + 1):
-        size = min(left - (count - t), rng.randint(1, 3)) if t < count else rng.randint(0, min(3, left))
-        left -= size
-        names = [f"{chr(64 + t)}{k}" for k in range(size)]
-        lines.append(f"taxonomy {t}")
-        free = names[:]
-        if free and rng.random() < 0.3:
-            rng.shuffle(free)
-        while free:
-            row = free[: rng.randint(1, len(free))]
-            lines.append("(" + " ".join(row) + ")")
-            free = free[len(row):]
-            if free and rng.random() < 0.4 and len(row) > 1:
-                lines.append(f"({row[rng.randrange(len(row))]} {free.pop()})")
-        all_names.append([f"{t}.{n}" for n in names])
-    lines.append("articulation")
-    words = list(plain.WORDS)
-    places = [t for t in range(count) if all_names[t]]
-    if len(places) >= 2:
-        for _ in range(rng.randint(0, 4)):
-            a, b = rng.sample(places, 2)
-            x, y = rng.choice(all_names[a]), rng.choice(all_names[b])
-            others = [n for t in places if t != a for n in all_names[t]]
-            if rng.random() < 0.15 and len(others) >= 2:
-                lines.append(f"[{x} sums {' '.join(rng.sample(others, rng.randint(2, min(3, len(others)))))}]")
-            elif rng.random() < 0.5:
-                lines.append(f"[{x} {rng.choice(words)} {y}]")
-            else:
-                chosen = rng.sample(words, rng.randint(1, 4))
-                lines.append(f"[{x} {{{' '.join(chosen)}}} {y}]")
-    return "".join(line + "\n" for line in lines)
-
-
-def damaged(rng, data):
-    """A few bytes changed, lines moved, or pieces put in."""
-    data = bytearray(data)
-    for _ in range(rng.randint(1, 3)):
-        place = rng.randrange(len(data) + 1)
-        piece = rng.choice(
-            [b"", b" ", b"(", b")", b"[", b"]", b"{", b"}", b"#", b"\n", b"\r\n", b".", b"\xff", b"\xef\xbb\xbf", b"taxonomy 9\n",
-             b"articulations x\n", b"(A0 A0)\n", b"[1.A0 == 2.B0]\n", b"\x01", b"x" * 130, "é".encode(), b"[1.A0 sums 2.B0 2.B0]\n"]
-        )
-        drop = rng.choice([0, 0, 1, 1, 2, 5])
-        data[place : place + drop] = piece
-    return bytes(data)
 
 
 def switch_words(switches):
@@ -130,92 +82,133 @@ def lines(worlds, last):
     return "".join(w + "\n" for w in worlds) + last + "\n"
 
 
+def status_of(worlds, start=""):
+    """The exit code of a run that lists all worlds from a position on."""
+    return 6 if not worlds and start == "" else 0
+
+
+# Certificates.
+
+
+def same_check(runner, problem, words, data):
+    """Both checkers must answer the same of these bytes; it is the answer."""
+    code, text = certificates.check(problem, data)
+    runner.hold("d", data)
+    try:
+        runner.same(["check", "in=p", "cert=d"] + words, code, text)
+    except Difference as difference:
+        raise Difference(f"{difference}\nof the certificate\n{data.decode('utf-8', 'backslashreplace')}")
+    if code == 0 and not is_so(problem, text.split("\n")[:-1]):
+        raise Difference(f"accepted, and not so:\n{text}of the certificate\n{data.decode()}")
+    return code, text
+
+
+def is_so(problem, rows):
+    """Whether what an accepted certificate says is so, by plain.py."""
+    worlds = problem.worlds()
+    if rows[0].startswith("from "):
+        start, end = rows[0][5:].replace(".", ""), rows[-2][3:].replace(".", "")
+        between = lambda w: plain.rank(w) >= plain.rank(start) and (end == "-" or plain.rank(w) < plain.rank(end))
+        return rows[1:-2] == [w for w in worlds if between(w)] and rows[-1] == f"accepted {len(rows) - 3}"
+    for row in rows[:-1]:
+        said, kind, *rest = row.split(" ")
+        if kind == "m":
+            holds = any(w[int(rest[0])] == rest[1] for w in worlds)
+        else:
+            holds = plain.is_consistent(problem, rest[0].replace(".", ""))
+        if holds != (said == "some"):
+            return False
+    return rows[-1] == f"accepted {len(rows) - 1}"
+
+
+def check_written(runner, problem, words, rng, text=None):
+    """The certificate `c`, that the program wrote, must be accepted, with this text; and both checkers say the same of damaged ones."""
+    data = runner.bytes_of("c")
+    code, got = same_check(runner, problem, words, data)
+    if code != 0 or text not in (None, got):
+        raise Difference(f"a written certificate: {code}\n{got}\nwanted: {text}\n{data.decode()}")
+    for _ in range(2):
+        same_check(runner, problem, words, random_cases.damaged_certificate(rng, data))
+    return got.split("\n")[:-2]
+
+
+def check_other_certificates(runner, problem, words, rng):
+    """Certificates that no solver wrote."""
+    for kind in ("listing", "claims"):
+        try:
+            data = getattr(certificate_writer.Writer(problem, rng), kind)()
+        except plain.TooMany:
+            continue
+        except certificate_writer.NotShown as fault:
+            raise Difference(f"no point lies in a need, which the given clauses don't show: {fault}")
+        if same_check(runner, problem, words, data)[0] != 0:
+            raise Difference(f"a certificate of certificate_writer.py is not accepted:\n{data.decode()}")
+        for _ in range(3):
+            same_check(runner, problem, words, random_cases.damaged_certificate(rng, data))
+
+
+# Listings.
+
+
 def check_listing(runner, problem, words, rng):
     worlds = problem.worlds()
     whole = lines(worlds, f"complete {len(worlds)}")
-    code = 0 if worlds else 6
-    runner.same(["align", "in=p"] + words, code, whole)
+    runner.same(["align", "in=p"] + words, status_of(worlds), whole)
     runner.drop("c")
-    runner.same(["align", "in=p", "cert=c"] + words, code, whole)
-    accepted = "from .\n" + lines(worlds, "to -") + f"accepted {len(worlds)}\n"
-    runner.same(["check", "in=p", "cert=c"] + words, 0, accepted)
-    cert = runner.bytes_of("c")
-    harmed = damaged(rng, cert)
-    runner.hold("d", harmed)
-    code, text = runner.run(["check", "in=p", "cert=d"] + words)
-    if code == 0 and not text.startswith("from "):
-        raise Difference("a listing was taken for claims")
-    if code == 0:
-        judge_accepted(problem, text)
+    runner.same(["align", "in=p", "cert=c"] + words, status_of(worlds), whole)
+    check_written(runner, problem, words, rng, "from .\n" + lines(worlds, "to -") + f"accepted {len(worlds)}\n")
     return worlds
 
 
-def judge_accepted(problem, text):
-    """Whatever the checker accepts is the listing between the positions that it names."""
-    rows = text.split("\n")[:-1]
-    start, end = rows[0][5:], rows[-2][3:]
-    listed = rows[1:-2]
-    rank = lambda t: [plain.LETTERS.index(r) for r in t]
-    start = "" if start == "." else start
-    wanted = [
-        w
-        for w in problem.worlds()
-        if rank(w) >= rank(start) and (end == "-" or rank(w) < rank("" if end == "." else end))
-    ]
-    if listed != wanted or rows[-1] != f"accepted {len(wanted)}":
-        raise Difference(f"accepted with other worlds: {text}")
+def random_limits(rng, nodes):
+    limits = {}
+    if rng.random() < 0.7:
+        limits["nodes"] = rng.choice([1, 2, 3, rng.randint(1, nodes + 1), nodes])
+    if rng.random() < 0.6 or not limits:
+        limits["worlds"] = rng.randint(1, 4)
+    return limits
 
 
 def check_cuts(runner, problem, words, rng):
+    """Two listings that are cut by limits, and gone on with from their tokens, some of them with certificates."""
     nodes = sum(1 for _ in problem.walk(""))
-    for _ in range(3):
-        limits = {}
-        if rng.random() < 0.7:
-            limits["nodes"] = rng.choice([1, 2, 3, rng.randint(1, nodes + 1), nodes])
-        if rng.random() < 0.6 or not limits:
-            limits["worlds"] = rng.randint(1, 4)
-        start, seen = "", 0
-        while True:
+    for _ in range(2):
+        limits, start = random_limits(rng, nodes), ""
+        for _ in range(5):
             given = [f"{k}={v}" for k, v in limits.items()] + ["token=t"]
             if start:
-                runner.hold("r", plain.print_token(problem, start))
+                runner.hold("r", plain.print_token(problem, start).encode())
                 given.append("resume=r")
             worlds, cut = problem.listing(start, limits.get("nodes"), limits.get("worlds"))
             runner.drop("t")
             if cut is None:
-                code = 6 if not worlds and start == "" else 0
-                runner.same(["align", "in=p"] + given + words, code, lines(worlds, f"complete {len(worlds)}"))
+                runner.same(["align", "in=p"] + given + words, status_of(worlds, start), lines(worlds, f"complete {len(worlds)}"))
                 if runner.bytes_of("t") is not None:
                     raise Difference("a token without a cut")
                 break
-            if rng.random() < 0.3:
-                given.append("cert=c")
-            runner.same(["align", "in=p"] + given + words, 5, lines(worlds, f"cut {len(worlds)}"))
+            with_certificate = ["cert=c"] if rng.random() < 0.3 else []
+            runner.same(["align", "in=p"] + given + with_certificate + words, 5, lines(worlds, f"cut {len(worlds)}"))
             if runner.bytes_of("t") != plain.print_token(problem, cut).encode():
                 raise Difference(f"another token: {runner.bytes_of('t')}, wanted {plain.print_token(problem, cut)}")
-            if "cert=c" in given:
+            if with_certificate:
                 accepted = f"from {start or '.'}\n" + lines(worlds, f"to {cut or '.'}") + f"accepted {len(worlds)}\n"
-                runner.same(["check", "in=p", "cert=c"] + words, 0, accepted)
-            start, seen = cut, seen + 1
-            if seen > 6:
-                break
+                check_written(runner, problem, words, rng, accepted)
+            start = cut
 
 
 def check_tokens(runner, problem, words, rng):
-    position = "".join(rng.choice(plain.LETTERS) for _ in range(rng.randint(0, len(problem.pairs) + 1)))
-    token = plain.print_token(problem, position).encode()
-    if rng.random() < 0.3:
-        token = f"token 1 {problem.digest()} {position or '.'}\n".encode()
-    if rng.random() < 0.6:
-        token = damaged(rng, token)
-    runner.hold("r", token)
-    start, kind = plain.read_token(problem, token)
-    if kind:
-        runner.same(["align", "in=p", "resume=r"] + words, 7, f"token {kind}\n")
-    else:
-        worlds, _ = problem.listing(start)
-        code = 6 if not worlds and start == "" else 0
-        runner.same(["align", "in=p", "resume=r"] + words, code, lines(worlds, f"complete {len(worlds)}"))
+    for _ in range(2):
+        token = random_cases.random_token(rng, problem)
+        runner.hold("r", token)
+        start, kind = plain.read_token(problem, token)
+        if kind:
+            runner.same(["align", "in=p", "resume=r"] + words, 7, f"token {kind}\n")
+        else:
+            worlds, _ = problem.listing(start)
+            runner.same(["align", "in=p", "resume=r"] + words, status_of(worlds, start), lines(worlds, f"complete {len(worlds)}"))
+
+
+# Questions and reports.
 
 
 def check_reports(runner, problem, words, worlds, rng):
@@ -225,40 +218,30 @@ def check_reports(runner, problem, words, worlds, rng):
     for kind in kinds:
         wanted += [f"report {kind}"] + plain.report(problem, kind, worlds)
     wanted.append(f"complete {len(worlds)}")
-    got = text.split("\n")[:-1]
-    got = [json.loads(x) if isinstance(y, dict) else x for x, y in zip(got, wanted)] + got[len(wanted):]
-    if got != wanted or code != (0 if worlds else 6):
+    # a line of JSON is compared by what it says, and by its having no spaces and its keys in order
+    wanted = [json.dumps(x, separators=(",", ":"), ensure_ascii=False) if isinstance(x, dict) else x for x in wanted]
+    if text.split("\n")[:-1] != wanted or code != status_of(worlds):
         raise Difference(f"report {kinds}: {code}\n{text}\nwanted {wanted}")
 
 
-def claims_of(runner, words):
-    """The claims that the checker accepts of the certificate `c`."""
-    code, text = runner.run(["check", "in=p", "cert=c"] + words)
-    rows = text.split("\n")[:-1]
-    if code != 0 or rows[-1] != f"accepted {len(rows) - 1}":
-        raise Difference(f"the claims are not accepted: {code}\n{text}")
-    return rows[:-1]
-
-
-def check_possible(runner, problem, words, worlds):
+def check_possible(runner, problem, words, worlds, rng):
     sets = plain.possible(problem, worlds)
     text = "".join(row + "\n" for row in plain.possible_lines(problem, sets))
-    code = 0 if worlds else 6
-    runner.same(["mir", "in=p"] + words, code, text)
+    runner.same(["mir", "in=p"] + words, status_of(worlds), text)
     runner.drop("c")
-    runner.same(["mir", "in=p", "cert=c"] + words, code, text)
+    runner.same(["mir", "in=p", "cert=c"] + words, status_of(worlds), text)
     wanted = [
         f"{'some' if r in letters else 'none'} m {k} {r}"
         for k, letters in enumerate(sets)
         for r in plain.LETTERS
         if r in problem.allowed[k]
     ]
-    claims = claims_of(runner, words)
+    claims = check_written(runner, problem, words, rng)
     if claims[: len(wanted)] != wanted or (problem.cross and claims != wanted):
         raise Difference(f"mir claims {claims}\nwanted {wanted}")
 
 
-def check_conflict(runner, problem, words):
+def check_conflict(runner, problem, words, rng):
     count = len(problem.articulations)
     if count > 6:
         return
@@ -268,7 +251,7 @@ def check_conflict(runner, problem, words):
     runner.same(["conflict", "in=p"] + words, code, text)
     runner.drop("c")
     runner.same(["conflict", "in=p", "cert=c"] + words, code, text)
-    claims = claims_of(runner, words)
+    claims = check_written(runner, problem, words, rng)
     if bits is None:
         wanted = [f"some a {'1' * count or '.'}"]
         if claims != wanted:
@@ -278,80 +261,6 @@ def check_conflict(runner, problem, words):
     wanted = [f"none a {bits}"] + [f"some a {loss}" for loss in losses]
     if not set(wanted) <= set(claims):
         raise Difference(f"conflict claims {claims}\nwanted {wanted}")
-
-
-def usage_of(words):
-    """The first usage fault of words, or None."""
-    rows = {
-        "align": (["in"], ["cert", "nonempty", "sibling", "coverage", "nodes", "worlds", "token", "resume"]),
-        "check": (["in", "cert"], ["nonempty", "sibling", "coverage"]),
-        "mir": (["in"], ["cert", "nonempty", "sibling", "coverage"]),
-        "conflict": (["in"], ["cert", "nonempty", "sibling", "coverage"]),
-        "report": (["in", "kinds"], ["nonempty", "sibling", "coverage"]),
-        "trial": (["seed", "size"], []),
-    }
-    if not words:
-        return "NoCommand"
-    if words[0] not in rows:
-        return "UnknownCommand"
-    required, optional = rows[words[0]]
-    given = {}
-    for word in words[1:]:
-        if "=" not in word:
-            return "NotOperand"
-        key, value = word.split("=", 1)
-        if key not in required + optional:
-            return "UnknownKey"
-        if key in given:
-            return "KeyTwice"
-        if key in ("nonempty", "sibling", "coverage") and value not in ("on", "off"):
-            return "BadSwitch"
-        if key in ("nodes", "worlds", "seed") and not plain.is_number(value, 0, 2**64 - 1):
-            return "BadNumber"
-        if key == "size" and (not plain.is_number(value, 14, 256) or int(value) % 2):
-            return "BadNumber"
-        if key in ("nodes", "worlds") and value == "0":
-            return "ZeroBudget"
-        if key in ("in", "cert", "token", "resume") and not value:
-            return "EmptyName"
-        if key == "kinds":
-            kinds = value.split(",")
-            if any(k not in KINDS for k in kinds):
-                return "UnknownKind"
-            if len(set(kinds)) < len(kinds):
-                return "KindTwice"
-        given[key] = value
-    if any(key not in given for key in required):
-        return "MissingKey"
-    if ("nodes" in given or "worlds" in given) and "token" not in given:
-        return "BudgetWithoutToken"
-    files = [given[k] for k in ("in", "cert", "token", "resume") if k in given]
-    if len(set(files)) < len(files):
-        return "SameName"
-    return None
-
-
-def check_words(runner, rng):
-    words = [rng.choice(USAGE_WORDS[:7])] if rng.random() < 0.9 else []
-    words += [rng.choice(USAGE_WORDS) for _ in range(rng.randint(0, 4))]
-    kind = usage_of(words)
-    if kind:
-        runner.same(words, 2, f"usage {kind}\n")
-
-
-def check_damage(runner, text, switches, rng):
-    data = damaged(rng, text.encode())
-    runner.hold("p", data)
-    words = switch_words(switches)
-    try:
-        problem = plain.read_problem(data, switches)
-    except plain.Fault as fault:
-        line, kind = fault.args
-        runner.same(["align", "in=p"] + words, 1, f"refused {line} {kind}\n")
-        return
-    if len(problem.names) <= 6:
-        worlds = problem.finish().worlds()
-        runner.same(["align", "in=p"] + words, 0 if worlds else 6, lines(worlds, f"complete {len(worlds)}"))
 
 
 def check_trial(runner, rng):
@@ -365,46 +274,91 @@ def check_trial(runner, rng):
     )
 
 
-def case(runner, rng):
-    text = random_problem(rng)
-    switches = (True, True, True) if rng.random() < 0.5 else rng.choice(SWITCHES)
+# Words and texts that are refused.
+
+
+def check_words(runner, rng):
+    words = random_cases.random_words(rng)
+    kind = plain_words.usage_of(words)
+    if kind:
+        runner.same(words, 2, f"usage {kind}\n")
+        return
+    code, text = runner.run(words)
+    if code == 2:
+        raise Difference(f"words: {' '.join(words)}\nwanted: no usage fault\ngot: {text}")
+
+
+def check_text(runner, data, switches):
+    runner.hold("p", data)
     words = switch_words(switches)
-    runner.hold("p", text)
+    try:
+        problem = plain.read_problem(data, switches)
+    except plain.Fault as fault:
+        line, kind = fault.args
+        runner.same(["align", "in=p"] + words, 1, f"refused {line} {kind}\n")
+        return
+    if len(problem.names) <= 6:
+        worlds = problem.finish().worlds()
+        runner.same(["align", "in=p"] + words, status_of(worlds), lines(worlds, f"complete {len(worlds)}"))
+
+
+def case(runner, rng):
+    text = random_cases.random_problem(rng)
+    switches = random_cases.random_switches(rng)
+    words = switch_words(switches)
+    runner.hold("p", text.encode())
     problem = plain.read_problem(text.encode(), switches).finish()
     worlds = check_listing(runner, problem, words, rng)
     if len(problem.points) <= 10 and len(problem.pairs) <= 6 and worlds != problem.families_by_sets_of_points():
         raise Difference("the plain walk and the sets of points differ")
+    check_other_certificates(runner, problem, words, rng)
     check_cuts(runner, problem, words, rng)
     check_tokens(runner, problem, words, rng)
     check_reports(runner, problem, words, worlds, rng)
-    check_possible(runner, problem, words, worlds)
-    check_conflict(runner, problem, words)
-    check_damage(runner, text, switches, rng)
+    check_possible(runner, problem, words, worlds, rng)
+    check_conflict(runner, problem, words, rng)
+    check_text(runner, random_cases.damaged(rng, text.encode(), random_cases.TEXT_PIECES), switches)
     check_words(runner, rng)
+    if rng.random() < 0.05:
+        check_text(runner, random_cases.text_at_limit(rng), switches)
     if rng.random() < 0.1:
         check_trial(runner, rng)
 
 
+class NoProgram(Runner):
+    def same(self, words, code, text):
+        self.answers[text.split("\n")[-2].split(" ")[0]] += 1
+
+
+def case_alone(runner, rng):
+    """What of a case needs no program: the plain ones beside each other."""
+    problem = plain.read_problem(random_cases.random_problem(rng).encode(), random_cases.random_switches(rng)).finish()
+    check_other_certificates(runner, problem, [], rng)
+
+
 def main():
-    here = os.path.dirname(os.path.abspath(__file__))
     parser = argparse.ArgumentParser()
     parser.add_argument("--count", type=int, default=500)
     parser.add_argument("--seed", type=int, default=1)
-    parser.add_argument("--program", default=os.path.join(here, "../crates/euler_align/out/euler_align"))
+    parser.add_argument("--program", default=os.path.join(os.path.dirname(os.path.abspath(__file__)), "../crates/euler_align/out/euler_align"))
+    parser.add_argument("--alone", action="store_true")
+    parser.add_argument("--tally", action="store_true", help="tell how often each last line was compared")
     given = parser.parse_args()
     with tempfile.TemporaryDirectory() as folder:
-        runner = Runner(given.program, folder)
+        runner = (NoProgram if given.alone else Runner)(given.program, folder)
         skipped = 0
         for number in range(given.count):
             rng = random.Random(f"{given.seed} {number}")
             try:
-                case(runner, rng)
+                (case_alone if given.alone else case)(runner, rng)
             except plain.TooMany:
                 skipped += 1
             except Difference as difference:
                 print(f"case {number} of seed {given.seed}: {difference}")
-                print(runner.bytes_of("p").decode("utf-8", "replace"))
+                print((runner.bytes_of("p") or b"").decode("utf-8", "replace"))
                 return 1
+        for answer, times in sorted(runner.answers.items()) if given.tally else []:
+            print(f"{times} {answer}")
         print(f"{given.count - skipped} cases, {runner.runs} runs: no difference ({skipped} left out, with too many nodes)")
     return 0
 

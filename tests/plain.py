@@ -4,10 +4,12 @@ It shares no code with the program, but it was written by somebody who knew that
 points, and prints reports, tokens, summaries and faults. `differential.py` sets it beside the built program.
 """
 
+import functools
 import hashlib
 import itertools
 
 LETTERS = "=><x!"
+ORDER = str.maketrans(LETTERS, "01234")
 WORDS = {
     "equals": "=", "==": "=", "includes": ">", ">": ">", "is_included_in": "<", "<": "<",
     "overlaps": "x", "><": "x", "disjoint": "!", "!": "!",
@@ -18,7 +20,7 @@ CONVERSE = {"=": "=", ">": "<", "<": ">", "x": "x", "!": "!"}
 ROWS = {"=": (0, None, 0), ">": (1, None, 0), "<": (0, None, 1), "x": (1, 1, 1), "!": (1, 0, 1)}
 
 
-MOST_PREFIXES = 3000
+MOST_PREFIXES = 1500
 
 
 class TooMany(Exception):
@@ -46,13 +48,19 @@ class Problem:
         self.pairs = self.cross + [p for p in pairs if self.owners[p[0]] == self.owners[p[1]]]
         self.allowed = []
         for pair in self.pairs:
-            letters = set(LETTERS)
+            letters = frozenset(LETTERS)
             for a in self.articulations:
                 if a[0] == "pair" and (a[1], a[2]) == pair:
                     letters &= set(a[3])
             self.allowed.append(letters)
         self.points = [b for b in itertools.product((0, 1), repeat=len(self.names)) if self.is_point(b)]
+        # which points lie in each region of each pair, and in each concept, as the bits of a number
+        self.in_region = [[self.marks(lambda p: lies(p, (i, j, g))) for g in range(3)] for i, j in self.pairs]
+        self.in_concept = [self.marks(lambda p: p[c]) for c in concepts]
         return self
+
+    def marks(self, has):
+        return sum(1 << k for k, p in enumerate(self.points) if has(p))
 
     def is_point(self, bits):
         nonempty, sibling, coverage = self.switches
@@ -97,27 +105,21 @@ class Problem:
 
     # Aliveness of a prefix, by points.
     def is_alive(self, prefix):
-        sets = [
-            self.allowed[k] & {prefix[k]} if k < len(prefix) else self.allowed[k] for k in range(len(self.pairs))
-        ]
+        sets = [self.allowed[k] & {r} for k, r in enumerate(prefix)] + self.allowed[len(prefix) :]
         if not all(sets):
             return False
-        empty, needs = [], []
-        for (i, j), letters in zip(self.pairs, sets):
-            for region in range(3):
-                words = {ROWS[r][region] for r in letters}
-                if words == {0}:
-                    empty.append((i, j, region))
-                if words == {1}:
-                    needs.append((i, j, region))
-        left = [p for p in self.points if not any(lies(p, e) for e in empty)]
-        if not all(any(lies(p, need) for p in left) for need in needs):
-            return False
-        return not self.switches[0] or all(any(p[c] for p in left) for c in range(len(self.names)))
+        empty, needs = 0, list(self.in_concept) if self.switches[0] else []
+        for regions, letters in zip(self.in_region, sets):
+            for points, word in zip(regions, forced_words(letters)):
+                if word == 0:
+                    empty |= points
+                if word == 1:
+                    needs.append(points)
+        return all(need & ~empty for need in needs)
 
     def walk(self, start):
         """The nodes from a position on, in order, each with whether it is a world."""
-        rank = [LETTERS.index(r) for r in start]
+        least = rank(start)
         if not hasattr(self, "alive"):
             self.alive = {}
 
@@ -129,11 +131,10 @@ class Problem:
             return self.alive[prefix]
 
         def go(prefix):
-            ranks = [LETTERS.index(r) for r in prefix]
             alive = is_alive(prefix)
-            if ranks >= rank:
+            if rank(prefix) >= least:
                 yield prefix, alive and len(prefix) == len(self.pairs)
-            elif ranks != rank[: len(ranks)]:
+            elif not start.startswith(prefix):
                 return
             if alive and len(prefix) < len(self.pairs):
                 for r in LETTERS:
@@ -154,7 +155,9 @@ class Problem:
         return found, None
 
     def worlds(self):
-        return self.listing("")[0]
+        if not hasattr(self, "listed"):
+            self.listed = self.listing("")[0]
+        return self.listed
 
     def families_by_sets_of_points(self):
         """All tables of families, by trying every set of points: for very small problems alone."""
@@ -167,12 +170,24 @@ class Problem:
                 table = "".join(relation(sets[i], sets[j]) for i, j in self.pairs)
                 if all(r in letters for r, letters in zip(table, self.allowed)):
                     tables.add(table)
-        return sorted(tables, key=lambda t: [LETTERS.index(r) for r in t])
+        return sorted(tables, key=rank)
+
+
+def rank(position):
+    """What positions are ordered by: a prefix first, then by the order of the relations."""
+    return position.translate(ORDER)
 
 
 def lies(bits, region):
     i, j, place = region
     return ((bits[i] and not bits[j]), (bits[i] and bits[j]), (not bits[i] and bits[j]))[place]
+
+
+@functools.cache
+def forced_words(letters):
+    """What a set of relations says of the three regions together: 0 empty, 1 occupied, None nothing."""
+    words = [{ROWS[r][region] for r in letters} for region in range(3)]
+    return [said.pop() if len(said) == 1 else None for said in words]
 
 
 def relation(x, y):

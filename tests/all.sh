@@ -1,0 +1,43 @@
+#!/usr/bin/env bash
+# Tries the built program from outside, part by part, the quick parts first: a line each, with what it came to and its seconds. What a
+# part prints is kept, and shown where it failed.
+#
+#   tests/all.sh [--quick] [PROGRAM]
+#
+# With --quick only what takes under three minutes together on one processor.
+set -u
+cd "$(dirname "$0")" || exit 2
+quick=
+if [ "${1:-}" = --quick ]; then
+  quick=1
+  shift
+fi
+program=$(realpath -m "${1:-../crates/euler_align/out/euler_align}")
+if [ ! -x "$program" ]; then
+  echo "all: there is no program at $program"
+  exit 2
+fi
+told=$(mktemp)
+trap 'rm "$told"' EXIT
+status=0
+part() {
+  local name=$1 begun=$SECONDS
+  shift
+  if "$@" >"$told" 2>&1; then
+    echo "$name: passed, $((SECONDS - begun)) s: $(tail -n 1 "$told")"
+  else
+    echo "$name: failed, $((SECONDS - begun)) s"
+    tail -n 40 "$told"
+    status=1
+  fi
+}
+part "json_names" python3 json_names.py --program "$program"
+part "devices" python3 devices.py "$program"
+part "hostile, small" python3 hostile.py "$program" --quick
+part "differential, 500 cases" python3 differential.py --program "$program"
+if [ -z "$quick" ]; then
+  part "hostile" python3 hostile.py "$program"
+  part "differential, 5,000 other cases" python3 differential.py --count 5000 --seed 2 --program "$program"
+  part "breaks" python3 breaks.py --program "$program"
+fi
+exit $status

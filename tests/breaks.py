@@ -1,0 +1,208 @@
+#!/usr/bin/env python3
+"""Shows that differential.py finds mistakes: each of a list of breaks, planted in the plain programs, one at a time.
+
+    tests/breaks.py [--count N] [--seed S] [--program PATH] [NAME ..]
+
+A break is one change of the text of one file: its old text stands there exactly once. For each it is told after how many cases
+differential.py found a difference, and it ends with status 1 if one was not found within N cases (5,000 if not given). What the program
+answers is kept, so that it runs once for the same words and files.
+"""
+
+import argparse
+import hashlib
+import os
+import random
+import sys
+import tempfile
+import time
+import types
+
+HERE = os.path.dirname(os.path.abspath(__file__))
+# in the order in which they import each other
+MODULES = ["plain", "random_cases", "plain_words", "certificate_lines", "certificates", "certificate_writer", "differential"]
+
+# name, file, old text, new text
+BREAKS = [
+    # what worlds are
+    ("a sum is what all parts have in common", "plain", "bits[a[1]] == int(any(bits[part]", "bits[a[1]] == int(all(bits[part]"),
+    ("a sum's whole may have more than its parts", "plain", "bits[a[1]] == int(any(bits[part]", "bits[a[1]] >= int(any(bits[part]"),
+    ("coverage is ignored", "plain", "if coverage and kids and bits[c]", "if False and bits[c]"),
+    ("coverage binds concepts without children", "plain", "if coverage and kids and bits[c]", "if coverage and bits[c]"),
+    ("siblings may overlap", "plain", "if sibling and sum(bits[k] for k in kids) > 1", "if sibling and sum(bits[k] for k in kids) > 2"),
+    ("a child may leave its parent", "plain", "if any(bits[k] and not bits[c] for k in kids):", "if False:"),
+    ("concepts may be empty", "plain", "list(self.in_concept) if self.switches[0] else []", "[]"),
+    ("overlap asks for no common point", "plain", '"x": (1, 1, 1)', '"x": (1, None, 1)'),
+    ("disjoint leaves the right one free", "plain", '"!": (1, 0, 1)', '"!": (1, 0, None)'),
+    ("articulations of one pair are joined", "plain", "letters &= set(a[3])", "letters = frozenset(a[3])"),
+    ("another order of letters", "plain", 'LETTERS = "=><x!"', 'LETTERS = "=<>x!"'),
+    ("inside pairs come first", "plain", "self.pairs = self.cross + [p for p in pairs if self.owners[p[0]] == self.owners[p[1]]]", "self.pairs = [p for p in pairs if self.owners[p[0]] == self.owners[p[1]]] + self.cross"),
+    ("an empty set is disjoint from others", "plain", "    if x <= y:\n", "    if x <= y and x:\n"),
+    # texts
+    ("the converse of includes is includes", "plain", '">": "<", "<": ">"', '">": ">", "<": "<"'),
+    ("an entry is not turned round", "plain", "    if left > right:\n", "    if False:\n"),
+    ("the return before a line feed stays", "plain", 'if text.endswith("\\r"):', "if False:"),
+    ("a comment begins at the last mark", "plain", 'text.split("#", 1)[0]', 'text.rsplit("#", 1)[0]'),
+    ("rows may stand behind articulations", "plain", "self.in_rows, self.in_entries = False, True", "self.in_entries = True"),
+    ("names may be longer", "plain", "1 <= len(text.encode()) <= 128", "1 <= len(text.encode()) <= 256"),
+    ("parts may stand twice", "plain", "if len(set(places[1:])) < len(places) - 1:", "if False:"),
+    ("bad letters are told at the next line", "plain", 'data[: error.start].count(b"\\n") + 1', 'data[: error.start].count(b"\\n") + 2'),
+    # cuts and tokens
+    ("one node too many", "plain", "seen >= nodes", "seen > nodes"),
+    ("one world too many", "plain", "len(found) >= worlds", "len(found) > worlds"),
+    ("the digest is without switches", "plain", 'f"switches {on}\\n"', '""'),
+    ("a whole position is refused", "plain", "if len(position) > len(problem.pairs) or", "if len(position) >= len(problem.pairs) or"),
+    ("an old token for three taxonomies", "plain", "if old and len(problem.taxonomies) > 2:", "if old and len(problem.taxonomies) > 3:"),
+    ("a token's numbers are ignored", "plain", "if new and (int(words[2])", "if False and (int(words[2])"),
+    # answers
+    ("the greatest conflict", "plain", 'itertools.product("01", repeat=count)', 'itertools.product("10", repeat=count)'),
+    ("statements are numbered from 0", "plain", "enumerate(zip(problem.articulations, bits), 1)", "enumerate(zip(problem.articulations, bits))"),
+    ("possible is what all worlds have", "plain", "for r in LETTERS if any(w[k] == r for w in worlds)) for k in", "for r in LETTERS if all(w[k] == r for w in worlds)) for k in"),
+    ("the tally in another order", "plain", "for w in worlds)) for r in LETTERS)", "for w in worlds)) for r in sorted(LETTERS))"),
+    ("under skips what lies between", "plain", "if below(a, b) and not any(below(a, m) and below(m, b) for m in places)", "if below(a, b)"),
+    ("a class is led by its last concept", "plain", "leader = [min(", "leader = [max("),
+    ("the parts of a split change places", "plain", 'f"{x}\\\\{y}", f"{y}\\\\{x}"', 'f"{y}\\\\{x}", f"{x}\\\\{y}"'),
+    # words
+    ("a key may stand twice", "plain_words", "if key in given:", "if False:"),
+    ("names may be the same", "plain_words", "if len(set(files)) < len(files):", "if False:"),
+    ("a missing token is looked for first", "plain_words", 'if ("nodes" in given or "worlds" in given) and "token" not in given:', "if False:"),
+    # the text of certificates
+    ("a literal of 2147483648 is refused", "certificate_lines", "2**31", "2**31 - 1"),
+    ("an id of 18446744073709551615 is refused", "certificate_lines", "2**64 - 1", "2**64 - 2"),
+    ("ids begin at 0", "certificate_lines", "return number_in(word, 1, LARGE)", "return number_in(word, 0, LARGE)"),
+    ("bytes may follow the last line", "certificate_lines", "if self.at < len(self.data):", "if False:"),
+    ("words may follow a line's last one", "certificate_lines", "        if self.at < len(self.words):\n            raise", "        if False:\n            raise"),
+    ("an unfinished line is looked at", "certificate_lines", 'raise TextFault("EndsEarly")', 'raise TextFault("EndsEarly" if until == self.at else "BadLine")'),
+    ("a tree of a claim ends before a position", "certificate_lines", 'words.end("w" in kinds)', "words.end(True)"),
+    ("a missing element is no fault of a number", "certificate_lines", 'for x in word.split(",")]', 'for x in word.split(",") if x]'),
+    # derivations
+    ("a hint with two literals left is unit", "certificates", "if len(left) > 1:", "if len(left) > 2:"),
+    ("a forgotten clause is still there", "certificates", "del self.clauses[number]", "pass"),
+    ("given clauses may be forgotten", "certificates", "or number <= self.given:", "or False:"),
+    ("an id may be used again", "certificates", "if number in self.clauses:", "if number <= self.given:"),
+    ("hints without a contradiction are enough", "certificates", 'raise Rejected("NoConflict")', "self.clauses[number] = frozenset(literals)"),
+    ("an implied literal is held false", "certificates", "false |= {-literal for literal in left}", "false |= left"),
+    ("coverage clauses follow the sibling switch", "certificates", "    if coverage:\n", "    if sibling:\n"),
+    ("selectors of regions in another order", "certificates", "return n + 3 * pair + region + 1", "return n + 3 * pair + 3 - region"),
+    ("selectors of sums are off by one", "certificates", "+ 3 * len(problem.pairs) + j + 1", "+ 3 * len(problem.pairs) + j + 2"),
+    ("parts in another order", "certificates", "concept(whole)} for part in parts]", "concept(whole)} for part in parts[::-1]]"),
+    # trees
+    ("needs of concepts are off by one", "certificates", "concept = need - 3 * count", "concept = need - 3 * count - 1"),
+    ("needs of empty regions count", "certificates", "if forced(sets[pair], region) != 1:", "if forced(sets[pair], region) is None:"),
+    ("concepts are asked for without the switch", "certificates", "if concept >= n or not problem.switches[0]:", "if concept >= n:"),
+    ("any literal may stand in a closing clause", "certificates", 'if any(-literal not in true for literal in self.book.clauses[number]):', "if False:"),
+    ("a dropped sum counts", "certificates", "for j in self.subject.sums}", "for j in range(len(sums_of(problem)))}"),
+    ("no sum counts", "certificates", "for j in self.subject.sums}", "for j in []}"),
+    ("a pair that allows something is empty", "certificates", "or self.sets(self.at)[said[1]]:", "or False:"),
+    ("the letter of a node is not compared", "certificates", "if (depth, letter) != (len(self.at), self.at[-1:]):", "if depth != len(self.at):"),
+    ("a branch at full depth", "certificates", "if depth == len(self.order):", "if False:"),
+    ("the greatest letter is expected first", "certificates", "[node + r for r in LETTERS if", "[node + r for r in LETTERS[::-1] if"),
+    ("nodes before the start are shown", "certificates", "return self.start.startswith(node) or", "return True or"),
+    ("TO is not compared", "certificates", "if self.at != position:", "if self.at is None and position is not None:"),
+    ("an end behind all may have a position", "certificates", "if self.at is None and position is not None:", "if False:"),
+    ("claims branch on every pair", "certificates", "if letters and not is_whole(letters)]", "if letters]"),
+    # families, headers, claims
+    ("a family is not compared with the table", "certificates", "if self.subject.table(sets) != self.at:", "if False:"),
+    ("the universe may be an element", "certificates", "any(x >= universe for x in members)", "any(x > universe for x in members)"),
+    ("elements in any order", "certificates", "if members != sorted(set(members)) or", "if len(members) != len(set(members)) or"),
+    ("families may leave out a part of a sum", "certificates", "return all(sets[every[j][0]] == set()", "return all(sets[every[j][0]] >= set()"),
+    ("families need not cover", "certificates", "if coverage and kids and sets[c] != set()", "if False and sets[c] != set()"),
+    ("too few bits of a subject", "certificates", "if len(bits) != len(problem.articulations):", "if len(bits) > len(problem.articulations):"),
+    ("the start has fewer letters than pairs", "certificates", "if len(start) > len(problem.pairs):", "if len(start) >= len(problem.pairs):"),
+    ("the header's switches are not compared", "certificates", "if switches != problem.switches:", "if False:"),
+    ("an unfinished tree is a claim", "certificates", 'elif kind == "quit":\n            return False', 'elif kind == "quit":\n            return True'),
+]
+
+
+def load(file=None, old="", new=""):
+    """The plain programs and differential.py as new modules, with one change; answers the module of differential.py."""
+    for name in MODULES:
+        path = os.path.join(HERE, name + ".py")
+        with open(path) as f:
+            source = f.read()
+        if name == file:
+            if source.count(old) != 1:
+                raise SystemExit(f"breaks: {old!r} stands {source.count(old)} times in {name}.py")
+            source = source.replace(old, new)
+        module = types.ModuleType(name)
+        module.__file__ = path
+        sys.modules[name] = module
+        exec(compile(source, path, "exec"), module.__dict__)
+    return sys.modules["differential"]
+
+
+def remembering(base, program, folder, known):
+    """A runner whose files are in memory, and which runs the program once for the same words and files."""
+
+    class Remembering(base):
+        def __init__(self):
+            super().__init__(program, folder)
+            self.files = {}
+
+        def hold(self, name, data):
+            self.files[name] = data
+
+        def bytes_of(self, name):
+            return self.files.get(name)
+
+        def drop(self, name):
+            self.files.pop(name, None)
+
+        def run(self, words):
+            names = [word.split("=", 1) for word in words if "=" in word]
+            is_read = lambda key: key in ("in", "resume") or (key == "cert" and words[0] == "check")
+            read = [name for key, name in names if is_read(key)]
+            written = [name for key, name in names if key in ("cert", "token") and not is_read(key)]
+            asked = hashlib.sha256(repr((words, [self.files.get(name) for name in read])).encode()).digest()
+            if asked not in known:
+                for name in read:
+                    if name in self.files:
+                        base.hold(self, name, self.files[name])
+                    elif name:
+                        base.drop(self, name)
+                for name in written:
+                    if name and name not in read:
+                        base.drop(self, name)
+                known[asked] = base.run(self, words), {name: base.bytes_of(self, name) for name in written if name}
+            answer, left = known[asked]
+            self.files.update({name: data for name, data in left.items() if data is not None})
+            return answer
+
+    return Remembering()
+
+
+def found_after(differential, runner, seed, count):
+    """After how many cases there was a difference, or None."""
+    for number in range(count):
+        try:
+            differential.case(runner, random.Random(f"{seed} {number}"))
+        except sys.modules["plain"].TooMany:
+            pass
+        except differential.Difference:
+            return number + 1
+    return None
+
+
+def main():
+    parser = argparse.ArgumentParser()
+    parser.add_argument("--count", type=int, default=5000)
+    parser.add_argument("--seed", type=int, default=1)
+    parser.add_argument("--program", default=os.path.join(HERE, "../crates/euler_align/out/euler_align"))
+    parser.add_argument("names", nargs="*")
+    given = parser.parse_args()
+    begun, known, missed, tried = time.monotonic(), {}, 0, 0
+    with tempfile.TemporaryDirectory() as folder:
+        for name, file, old, new in BREAKS:
+            if given.names and name not in given.names:
+                continue
+            differential = load(file, old, new)
+            runner = remembering(differential.Runner, given.program, folder, known)
+            after = found_after(differential, runner, given.seed, given.count)
+            tried += 1
+            missed += after is None
+            print(f"{file}.py, {name}: {'not found' if after is None else f'found after {after}'}", flush=True)
+    print(f"breaks: {tried} planted, {missed} not found, {time.monotonic() - begun:.0f} s")
+    return 1 if missed or not tried else 0
+
+
+if __name__ == "__main__":
+    sys.exit(main())

@@ -1,0 +1,356 @@
+#!/usr/bin/env python3
+"""What the built program does where a file, a folder, a device or standard output fails it, and where memory is scarce.
+
+    tests/devices.py [PROGRAM] [--memory-only | --no-memory] [--verbose]
+
+For each command, each file that it reads or writes, and standard output: an endless device, a full one, a folder, a file or a folder
+without permission, an absent name, a name in an absent folder, a closed standard output, a pipe whose reader left, a file that grows.
+Each try looks at the exit code; at standard output, which is the right one, or a first part of it and then the last line of the fault; at
+what is in the folder, where nothing may change but the files that the command writes, and these hold a first part of what is right, or
+what they held; and at standard error, which says something where the fault is one of the words or of a text. Then each command runs under
+`ulimit -v` from small to ample: it answers rightly, or ends with 9 and `no memory`. A run counts as the program's where the system's
+loader handed it control (glibc's LD_DEBUG says so); what fails before that is not the program's. It ends with status 1 if a try failed.
+"""
+
+import argparse
+import os
+import shutil
+import stat
+import subprocess
+import sys
+import tempfile
+import threading
+
+import plain
+
+HERE = os.path.dirname(os.path.abspath(__file__))
+NOBODY = 65534
+# exit codes whose cause a person is told on standard error
+TOLD = {1, 2}
+READ_FAULT, WRITE_FAULT = (3, "read fault\n"), (4, "")
+
+# a problem with several worlds, and one statement more that makes it a conflict
+SMALL = b"taxonomy 1\n(A B C)\ntaxonomy 2\n(D E F)\narticulation\n[1.A equals 2.D]\n", b"[1.B disjoint 2.D]\n"
+LARGER = plain.made_text(7, 40).encode(), b"[1.b1 disjoint 2.r]\n"
+KINDS = "kinds=count,tally,seen,merge,json"
+# name: words, the files that are read, the files that are written
+COMMANDS = {
+    "align": ("align in=p worlds=2 resume=r token=t cert=c", {"in": "p", "resume": "r"}, {"token": "t", "cert": "c"}),
+    "check": ("check in=p cert=k", {"in": "p", "cert": "k"}, {}),
+    "mir": ("mir in=p cert=c", {"in": "p"}, {"cert": "c"}),
+    "conflict": ("conflict in=q cert=c", {"in": "q"}, {"cert": "c"}),
+    "report": (f"report in=p {KINDS}", {"in": "p"}, {}),
+    "trial": ("trial seed=7 size=14", {}, {}),
+}
+# what an endless file comes to, by its key; that of a certificate is one line without an end, for which memory is wanting
+ENDLESS = {"in": (1, "refused 0 TooLong\n"), "resume": (7, "token BadToken\n"), "cert": (9, "no memory\n")}
+
+
+class Failed(Exception):
+    pass
+
+
+class Bench:
+    """A folder with the files of a try, and the program run in it."""
+
+    def __init__(self, program, folder, problem):
+        self.folder = folder
+        self.program = os.path.join(folder, "euler_align")
+        shutil.copy(program, self.program)  # so that any user may run it
+        os.chmod(self.program, 0o755)
+        self.place = os.path.join(folder, "place")
+        self.files = {"p": problem[0], "q": b"".join(problem)}
+        self.right = {}
+        self.tries = self.silent = 0
+        self.prepare()
+
+    def prepare(self):
+        """What the commands put and write where nothing fails: differential.py looks at whether it is right."""
+        for words, name in (("align in=p worlds=1 token=r", "r"), ("align in=p cert=k", "k")):
+            self.fresh()
+            self.run(words.split())
+            self.files[name] = self.held()[name]
+        for name, (words, _, written) in COMMANDS.items():
+            self.fresh()
+            code, out, _ = self.run(words.split())
+            held = self.held()
+            self.right[name] = code, out, {n: held.get(n) for n in written.values()}
+            if code not in (0, 5) or not all(self.right[name][2].values()):
+                raise SystemExit(f"devices: {words} ends with {code}, before anything is tried")
+
+    def fresh(self):
+        shutil.rmtree(self.place, ignore_errors=True)
+        os.mkdir(self.place)
+        os.chmod(self.place, 0o777)
+        for name, data in self.files.items():
+            self.hold(name, data)
+
+    def hold(self, name, data, mode=0o666):
+        path = os.path.join(self.place, name)
+        with open(path, "wb") as f:
+            f.write(data)
+        os.chmod(path, mode)
+
+    def make_folder(self, name):
+        """A folder in place of a file."""
+        path = os.path.join(self.place, name)
+        if os.path.exists(path):
+            os.remove(path)
+        os.mkdir(path)
+
+    def held(self):
+        found = {}
+        for name in sorted(os.listdir(self.place)):
+            path = os.path.join(self.place, name)
+            if os.path.isfile(path):
+                with open(path, "rb") as f:
+                    found[name] = f.read()
+            else:
+                found[name] = sorted(os.listdir(path)) if os.path.isdir(path) else "a device"
+        return found
+
+    def run(self, words, stdout=subprocess.PIPE, kilobytes=None, nobody=False, before=None):
+        self.tries += 1
+        command = [self.program] + words
+        if kilobytes:
+            command = ["sh", "-c", f'ulimit -v {kilobytes}; exec "$@"', "sh"] + command
+        user = {"user": NOBODY, "group": NOBODY, "extra_groups": []} if nobody and os.geteuid() == 0 else {}
+        done = subprocess.run(command, cwd=self.place, stdout=stdout, stderr=subprocess.PIPE, timeout=120, preexec_fn=before, **user)
+        return done.returncode, done.stdout, done.stderr
+
+    def judge(self, name, got, fault, changed=(), before=None):
+        """What a try came to: the right answer where `fault` is None, or else one of some faults, as codes and last lines."""
+        code, out, told = got
+        right_code, right_out, right_files = self.right[name]
+        faults = fault if isinstance(fault, list) else [fault]
+        ways = [(right_code, right_out) if f is None else (f[0], f[1].encode()) for f in faults]
+        way = next((w for w in ways if w[0] == code), None)
+        if way is None:
+            raise Failed(f"exit code {code}, wanted {' or '.join(str(w[0]) for w in ways)}; {out[-200:]!r} {told[-200:]!r}")
+        if out is not None and out != way[1]:
+            if code == right_code or not out.endswith(way[1]) or not right_out.startswith(out[: len(out) - len(way[1])]):
+                raise Failed(f"standard output {out!r}")
+        if code in TOLD and not told.strip():
+            raise Failed(f"nothing on standard error, exit code {code}")
+        self.silent += code not in (0, 5, 6, 10) and not told.strip()
+        after = self.held()
+        before = self.files if before is None else before
+        for file in sorted(set(before) | set(after)):
+            if before.get(file) == after.get(file) or file in changed:
+                continue
+            if file not in right_files:
+                raise Failed(f"{file} is changed or left behind: {after.get(file)!r}")
+            if not isinstance(after.get(file), bytes) or not right_files[file].startswith(after[file]):
+                raise Failed(f"{file} holds {after.get(file)!r}")
+        if code == right_code and out is not None and not set(right_files) & set(changed):
+            if any(after.get(file) != data for file, data in right_files.items()):
+                raise Failed("right, but its files are not")
+
+
+def changed_words(words, key, value):
+    return [f"{key}={value}" if word.startswith(key + "=") else word for word in words.split()]
+
+
+def tries_of(bench, name):
+    """The tries of one command: what each is called, and a function that makes it."""
+    words, read, written = COMMANDS[name]
+
+    def with_name(key, value, fault, kilobytes=None):
+        return lambda: bench.judge(name, bench.run(changed_words(words, key, value), kilobytes=kilobytes), fault)
+
+    def folder(file, fault):
+        def make():
+            bench.make_folder(file)
+            before = bench.held()
+            bench.judge(name, bench.run(words.split()), fault, before=before)
+        return make
+
+    def without_permission(file, fault):
+        def make():
+            bench.hold(file, bench.files.get(file, b"what it held"), 0o000)
+            before = bench.held()
+            bench.judge(name, bench.run(words.split(), nobody=True), fault, before=before)
+            if bench.held()[file] != before[file]:
+                raise Failed(f"{file} is changed")
+        return make
+
+    def in_closed_folder(key, fault):
+        def make():
+            os.mkdir(os.path.join(bench.place, "closed"), 0o555)
+            before = bench.held()
+            bench.judge(name, bench.run(changed_words(words, key, "closed/f"), nobody=True), fault, before=before)
+        return make
+
+    for key, file in read.items():
+        limit = 1 << 20 if key == "cert" else None
+        yield f"{key} endless", with_name(key, "/dev/zero", ENDLESS[key], limit)
+        yield f"{key} a folder", folder(file, READ_FAULT)
+        yield f"{key} without permission", without_permission(file, READ_FAULT)
+        yield f"{key} absent", with_name(key, "absent", READ_FAULT)
+        yield f"{key} in an absent folder", with_name(key, "absent/f", READ_FAULT)
+        yield f"{key} below a file", with_name(key, "p/f", READ_FAULT)
+        yield f"{key} with a name that is too long", with_name(key, "n" * 300, READ_FAULT)
+        yield f"{key} grows", growing(bench, name, key, file)
+    for key, file in written.items():
+        yield f"{key} full", with_name(key, "/dev/full", WRITE_FAULT)
+        yield f"{key} a folder", folder(file, WRITE_FAULT)
+        yield f"{key} without permission", without_permission(file, WRITE_FAULT)
+        yield f"{key} in a closed folder", in_closed_folder(key, WRITE_FAULT)
+        yield f"{key} in an absent folder", with_name(key, "absent/f", WRITE_FAULT)
+        yield f"{key} below a file", with_name(key, "p/f", WRITE_FAULT)
+        yield f"{key} with a name that is too long", with_name(key, "n" * 300, WRITE_FAULT)
+        yield f"{key} held something longer", held_something(bench, name, file)
+    yield "standard output full", output(bench, name, lambda: open("/dev/full", "wb"))
+    yield "standard output without a reader", output(bench, name, pipe_without_reader)
+    yield "standard output closed", output(bench, name, None)
+
+
+def held_something(bench, name, file):
+    def make():
+        bench.hold(file, b"what it held\n" * 9999)
+        bench.judge(name, bench.run(COMMANDS[name][0].split()), None, before=bench.held())
+    return make
+
+
+def pipe_without_reader():
+    reader, writer = os.pipe()
+    os.close(reader)
+    return os.fdopen(writer, "wb")
+
+
+def output(bench, name, opened):
+    """Standard output that takes nothing: what was to be put is lost, so it is a write fault."""
+    words = COMMANDS[name][0].split()
+
+    def make():
+        if opened is None:
+            got = bench.run(words, stdout=None, before=lambda: os.close(1))
+        else:
+            with opened() as out:
+                got = bench.run(words, stdout=out)
+        bench.judge(name, got, WRITE_FAULT)
+    return make
+
+
+def growing(bench, name, key, file):
+    """The file grows while it is read: it is read as it was at some moment, or is too long, or is no token or certificate then."""
+    words = COMMANDS[name][0].split()
+    line = {"in": b"# more\n" * 64, "resume": b"more\n", "cert": b"more\n"}[key]
+    lines = bench.files[file].count(b"\n")
+    faults = {
+        "in": [None, (1, "refused 0 TooLong\n")], "resume": [None, (7, "token BadToken\n")],
+        "cert": [None, (7, f"certificate {lines + 1} BadLine\n")],
+    }[key]
+
+    def make():
+        for _ in range(8):
+            bench.fresh()
+            over = threading.Event()
+
+            def grow():
+                with open(os.path.join(bench.place, file), "ab", buffering=0) as f:
+                    while not over.is_set() and f.tell() < 1 << 23:
+                        f.write(line)
+
+            writer = threading.Thread(target=grow)
+            writer.start()
+            try:
+                got = bench.run(words)
+            finally:
+                over.set()
+                writer.join()
+            bench.judge(name, got, faults, changed=(file,))
+    return make
+
+
+# Memory.
+
+
+def loader_handed_over(bench, words, kilobytes):
+    """A run under a limit, and whether the loader handed control to the program."""
+    with tempfile.TemporaryDirectory(dir=bench.folder) as logs:
+        log = os.path.join(logs, "loader")
+        bench.tries += 1
+        command = f'ulimit -v {kilobytes}; LD_DEBUG=files LD_DEBUG_OUTPUT={log} exec "$@"'
+        done = subprocess.run(
+            ["sh", "-c", command, "sh", bench.program] + words, cwd=bench.place, stdout=subprocess.PIPE, stderr=subprocess.PIPE, timeout=120
+        )
+        told = b""
+        for name in os.listdir(logs):
+            with open(os.path.join(logs, name), "rb") as f:
+                told += f.read()
+    return (done.returncode, done.stdout, done.stderr), b"transferring control: " + bench.program.encode() in told
+
+
+def least_limit(bench, words):
+    """The least limit, in KiB and by steps of 64, under which the loader comes to its end."""
+    kilobytes = 64
+    while not loader_handed_over(bench, words, kilobytes)[1]:
+        kilobytes += 64
+    return kilobytes
+
+
+def memory_tries(bench, name):
+    """Runs a command under limits from small to ample; answers what the runs came to."""
+    words, counts = COMMANDS[name][0].split(), {"right": 0, "no memory": 0, "not begun": 0}
+    bench.fresh()
+    least = least_limit(bench, words)
+    counts["not begun"] = least // 64 - 1
+    for kilobytes in list(range(least, least + 2048, 16)) + [least + more for more in (4096, 8192, 16384, 65536, 262144, 1048576)]:
+        bench.fresh()
+        got, began = loader_handed_over(bench, words, kilobytes)
+        if not began:
+            counts["not begun"] += 1
+            continue
+        try:
+            # where no memory is found for the words themselves, nothing is put
+            bench.judge(name, got, [None, (9, "no memory\n" if got[1] else "")])
+        except Failed as failed:
+            raise Failed(f"under {kilobytes} KiB: {failed}")
+        counts["no memory" if got[0] == 9 else "right"] += 1
+    if got[0] == 9 or not began:
+        raise Failed("no answer with ample memory")
+    return counts
+
+
+def report(title, make, verbose):
+    """Makes a try, and tells what it came to; whether it was as wanted."""
+    try:
+        counts = make()
+    except (Failed, subprocess.TimeoutExpired) as fault:
+        print(f"{title}: {fault}")
+        return False
+    if counts:
+        print(f"{title}: " + ", ".join(f"{n} {what}" for what, n in counts.items()))
+    elif verbose:
+        print(f"{title}: as wanted")
+    return True
+
+
+def main():
+    parser = argparse.ArgumentParser()
+    parser.add_argument("program", nargs="?", default=os.path.join(HERE, "../crates/euler_align/out/euler_align"))
+    parser.add_argument("--memory-only", action="store_true")
+    parser.add_argument("--no-memory", action="store_true")
+    parser.add_argument("--verbose", action="store_true")
+    given = parser.parse_args()
+    with tempfile.TemporaryDirectory() as folder:
+        os.chmod(folder, stat.S_IRWXU | stat.S_IXGRP | stat.S_IXOTH)
+        benches, came = [Bench(given.program, folder, SMALL)], []
+        for name in [] if given.memory_only else COMMANDS:
+            for title, make in tries_of(benches[0], name):
+                benches[0].fresh()
+                came.append(report(f"{name}, {title}", make, given.verbose))
+        if not given.no_memory:
+            benches.append(Bench(given.program, folder, LARGER))
+        for number, bench in enumerate([] if given.no_memory else benches):
+            for name in COMMANDS:
+                title = f"{name} of a {['small', 'larger'][number]} problem, under limits of memory"
+                came.append(report(title, lambda: memory_tries(bench, name), given.verbose))
+        runs, silent = sum(b.tries for b in benches), sum(b.silent for b in benches)
+        print(f"devices: {sum(came)} passed, {len(came) - sum(came)} failed, {runs} runs; {silent} faults with nothing on standard error")
+    return 0 if all(came) else 1
+
+
+if __name__ == "__main__":
+    sys.exit(main())
