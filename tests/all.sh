@@ -33,6 +33,7 @@ part() {
 }
 part "json_names" python3 json_names.py --program "$program"
 part "devices" python3 devices.py "$program"
+part "certificate_bytes" python3 certificate_bytes.py "$program"
 part "hostile, small" python3 hostile.py "$program" --quick
 part "differential, 500 cases" python3 differential.py --program "$program"
 if [ -z "$quick" ]; then
