@@ -31,6 +31,9 @@ part() {
     status=1
   fi
 }
+part "documents" python3 documents.py "$program"
+part "tools/draw" python3 ../tools/test_draw.py
+part "tools/from_csv" python3 ../tools/test_from_csv.py
 part "json_names" python3 json_names.py --program "$program"
 part "devices" python3 devices.py "$program"
 part "certificate_bytes" python3 certificate_bytes.py "$program"
