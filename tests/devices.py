@@ -26,7 +26,7 @@ import plain
 HERE = os.path.dirname(os.path.abspath(__file__))
 NOBODY = 65534
 # exit codes whose cause a person is told on standard error
-TOLD = {1, 2}
+TOLD = {1, 2, 3, 4, 7, 8}
 READ_FAULT, WRITE_FAULT = (3, "read fault\n"), (4, "")
 
 # a problem with several worlds, and one statement more that makes it a conflict
@@ -126,7 +126,7 @@ class Bench:
         ways = [(right_code, right_out) if f is None else (f[0], f[1].encode()) for f in faults]
         way = next((w for w in ways if w[0] == code), None)
         if way is None:
-            raise Failed(f"exit code {code}, wanted {' or '.join(str(w[0]) for w in ways)}; {out[-200:]!r} {told[-200:]!r}")
+            raise Failed(f"exit code {code}, wanted {' or '.join(str(w[0]) for w in ways)}; {out!r:.200} {told!r:.200}")
         if out is not None and out != way[1]:
             if code == right_code or not out.endswith(way[1]) or not right_out.startswith(out[: len(out) - len(way[1])]):
                 raise Failed(f"standard output {out!r}")

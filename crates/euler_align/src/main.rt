@@ -1,11 +1,14 @@
 //! Lists the possible merged worlds of the taxonomies in a file.
 #![tactic(auto)]
 
+mod help;
+
 use align_top::{Status, fault_place, run, text_help, usage_help};
+use help::{certificate_help, rejection_help, token_help};
 use outer_store::{FileStore, StdoutSink};
 use std::alloc::{AllocError, Global};
 use std::process::ExitCode;
-use std::{env, io};
+use std::{env, fs, io};
 use world_watch::{
     CountWatcher, JsonWatcher, MergeWatcher, SeenWatcher, TallyWatcher, WorldWatcher,
 };
@@ -45,18 +48,62 @@ fn words(rt: &HostRuntime) -> Result<Vec<String>, NoWords> {
     Ok(words)
 }
 
-// The value of `in` among words that were a request.
-fn input_of(words: &[String]) -> &str {
+// The value of a key, with its equals sign, among words that were a request; empty where they have none.
+fn value_of<'a>(words: &'a [String], key: &str) -> &'a str {
     for word in words {
-        if let Some(name) = word.as_str().strip_prefix("in=") {
+        if let Some(name) = word.as_str().strip_prefix(key) {
             return name;
         }
     }
     ""
 }
 
-// Tells people, on standard error, what a fault of theirs means: after a usage fault the words that
-// there are, and after a refused text where it is wrong and what to do about it.
+// Whether the words ask for a check.
+fn is_check(words: &[String]) -> bool {
+    match words.first() {
+        Some(word) => word.as_str() == "check",
+        None => false,
+    }
+}
+
+// The file that is read besides the problem.
+fn read_besides(words: &[String]) -> &str {
+    if is_check(words) {
+        return value_of(words, "cert=");
+    }
+    value_of(words, "resume=")
+}
+
+// What stands between two names, of which the second may be missing.
+fn between(second: &str) -> &'static str {
+    if second.is_empty() { "" } else { " or " }
+}
+
+// Tells that a file can't be read.
+fn explain_read(rt: &impl Eprint, words: &[String]) -> io::Result<()> {
+    let input = value_of(words, "in=");
+    let other = read_besides(words);
+    let or = between(other);
+    eprintln!(rt;
+        "{input}{or}{other}: this file can't be read; check that it exists, that it is not a folder, and that you may read it"
+    )
+}
+
+// Tells that something can't be written.
+fn explain_write(rt: &impl Eprint, words: &[String]) -> io::Result<()> {
+    let token = value_of(words, "token=");
+    let cert = if is_check(words) {
+        ""
+    } else {
+        value_of(words, "cert=")
+    };
+    let (first, second) = (between(token), between(cert));
+    eprintln!(rt;
+        "standard output{first}{token}{second}{cert} can't be written; check who reads it, that the folder exists, that you may write there and that there is room. What was written is not whole: don't use it"
+    )
+}
+
+// Tells people, on standard error, what an ending means that is not good, and what to do about it.
 fn explain(rt: &impl Eprint, alloc: Global, words: &[String], status: &Status) -> io::Result<()> {
     match status {
         Status::Usage(kind) => {
@@ -64,11 +111,30 @@ fn explain(rt: &impl Eprint, alloc: Global, words: &[String], status: &Status) -
             eprint!(rt; "{kind}\n{help}")
         }
         Status::RefusedText { line, kind } => {
-            let place = fault_place(alloc, input_of(words), *line)?;
+            let place = fault_place(alloc, value_of(words, "in="), *line)?;
             let sentence = text_help(*kind);
             eprintln!(rt; "{place}{sentence}")
         }
-        Status::RefusedToken(kind) => eprintln!(rt; "{kind}"),
+        Status::ReadFault => explain_read(rt, words),
+        Status::WriteFault => explain_write(rt, words),
+        Status::RefusedToken(kind) => {
+            let name = value_of(words, "resume=");
+            let sentence = token_help(*kind);
+            eprintln!(rt; "{name}: {sentence}")
+        }
+        Status::RefusedCert { line, kind } => {
+            let name = value_of(words, "cert=");
+            let sentence = certificate_help(*kind);
+            eprintln!(rt; "{name}:{line}: {sentence}")
+        }
+        Status::Rejected { line, kind } => {
+            let name = value_of(words, "cert=");
+            let sentence = rejection_help(*kind);
+            eprintln!(rt; "{name}:{line}: {sentence}")
+        }
+        Status::NoMemory => eprintln!(rt;
+            "out of memory; free some, or ask for less: `mir` in place of a listing, or `worlds=` for a part of it"
+        ),
         _ => Ok(()),
     }
 }
@@ -89,6 +155,11 @@ fn run_words(rt: &HostRuntime, words: &[String]) -> Result<Status, AllocError> {
 }
 
 fn main(rt: HostRuntime) -> ExitCode {
+    // Where standard input, output or error is closed, a file that is opened takes its place, and what is put for people would land in
+    // it. So these take such places first: they can't be written to, as what is closed can't.
+    let _first = fs::open(&rt, "/dev/null");
+    let _second = fs::open(&rt, "/dev/null");
+    let _third = fs::open(&rt, "/dev/null");
     let words = match words(&rt) {
         Ok(words) => words,
         Err(fault) => return ExitCode::from(fault.code()),
