@@ -14,6 +14,3 @@ pub use cert_rules::RejectKind;
 pub use checking::check;
 pub use fault::CheckFault;
 pub use laws::law_written_is_accepted;
-
-#[cfg(test)]
-mod tests;

@@ -12,6 +12,3 @@ mod spot;
 pub use fault::{CertTextFault, CertTextKind};
 pub use laws::law_standing_lines_are_read;
 pub use reader::CertReader;
-
-#[cfg(test)]
-mod tests;

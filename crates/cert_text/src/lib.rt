@@ -23,6 +23,3 @@ pub use pieces::{put_position, put_subject};
 pub use printing::print_cert;
 pub use reading::{read_cert_line, read_rest};
 pub use store_log::StoreLog;
-
-#[cfg(test)]
-mod tests;

@@ -6,6 +6,3 @@ mod roots;
 
 pub use claims::{settle, show};
 pub use roots::refute;
-
-#[cfg(test)]
-mod tests;

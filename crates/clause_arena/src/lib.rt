@@ -9,6 +9,3 @@ mod place;
 pub use arena::Arena;
 pub use moves::Moves;
 pub use place::{Link, Ref};
-
-#[cfg(test)]
-mod tests;

@@ -253,6 +253,3 @@ pub struct Operand {
     pub key: Key,
     pub value: Word,
 }
-
-#[cfg(test)]
-mod tests;

@@ -5,6 +5,3 @@ mod analyzer;
 mod notes;
 
 pub use analyzer::{Analyzer, Closing, Learnt};
-
-#[cfg(test)]
-mod tests;

@@ -5,6 +5,3 @@ mod conflict;
 mod shrink;
 
 pub use conflict::{Conflict, ConflictFault, least_conflict};
-
-#[cfg(test)]
-mod tests;

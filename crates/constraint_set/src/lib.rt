@@ -12,6 +12,3 @@ mod statements;
 pub use limits::{MAX_ARTICULATIONS, MAX_CONCEPTS, MAX_PAIRS, MAX_TAXONOMIES};
 pub use problem::{Problem, one_shape_shares};
 pub use world_model::{Articulation, Parts, Switches};
-
-#[cfg(test)]
-mod tests;

@@ -257,6 +257,3 @@ pub fn law_ids_stay_distinct()
 pub fn law_literals_are_sets()
     ensures { LiteralsAreSets }
 {}
-
-#[cfg(test)]
-mod tests;

@@ -15,6 +15,3 @@ pub use laws::read_names_are_utf8;
 pub use merge::merged;
 pub use taxonomy::{Classes, MergedTaxonomy, NumberPairs};
 pub use text::merged_text;
-
-#[cfg(test)]
-mod tests;

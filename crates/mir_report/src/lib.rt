@@ -6,6 +6,3 @@ mod found;
 mod possible;
 
 pub use possible::{MirSets, has_world, mir};
-
-#[cfg(test)]
-mod tests;

@@ -21,6 +21,3 @@ pub use sink::Sink;
 pub use source::Source;
 pub use store::Store;
 pub use sure::{SureSink, SureStore};
-
-#[cfg(test)]
-mod tests;

@@ -10,6 +10,3 @@ pub use encode::given_clauses;
 pub use need::{Need, is_forced, need_lits, need_number, need_of, needs_of};
 pub use select::{add_empty_regions, allowed_at, forced_at, selectors_of};
 pub use variables::{MAX_SUM_START, MAX_VARIABLES, variable_count};
-
-#[cfg(test)]
-mod tests;

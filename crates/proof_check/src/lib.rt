@@ -152,6 +152,3 @@ fn follow_hints(clauses: &Clauses, held: &mut Held, hints: &[u64]) -> Result<(),
     }
     Err(LineFault::NoConflict)
 }
-
-#[cfg(test)]
-mod tests;

@@ -16,6 +16,3 @@ pub use numbers::{print_number, read_number};
 pub use printing::print_line;
 pub use reading::{number_at, read_derive, read_forget, read_line};
 pub use words::Words;
-
-#[cfg(test)]
-mod tests;

@@ -347,23 +347,3 @@ fn forced_by(may_be_empty: bool, may_be_occupied: bool) -> Occupancy
         _ => Occupancy::Free,
     }
 }
-
-#[cfg(test)]
-mod tests {
-    use super::*;
-    use std::cmp::Ordering;
-    use std::test::Fail;
-
-    #[test]
-    fn positions_are_ordered_lexicographically(rt: HostRuntime) -> Result<(), Fail> {
-        let mut short = Position::new(rt.alloc());
-        short.push(Rel::Includes)?;
-        let mut long = short.copy(rt.alloc())?;
-        long.push(Rel::Equals)?;
-        assert_eq!(rt; short.compare(&long), Ordering::Less);
-        assert_eq!(rt; long.pop(), Some(Rel::Equals));
-        assert_eq!(rt; short.compare(&long), Ordering::Equal);
-        assert_eq!(rt; long.len(), 1);
-        Ok(())
-    }
-}

@@ -96,6 +96,3 @@ pub fn printing_reads_back()
 {
     pairs_stand_once();
 }
-
-#[cfg(test)]
-mod tests;

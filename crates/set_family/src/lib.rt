@@ -14,8 +14,6 @@ mod merge;
 mod rules;
 mod statements;
 mod tables;
-#[cfg(test)]
-mod tests;
 
 use crate::lists::{all_sets_below, places_of};
 use lits_core::Bits;

@@ -12,6 +12,3 @@ mod walk;
 
 pub use choice::Choice;
 pub use search::choose;
-
-#[cfg(test)]
-mod tests;

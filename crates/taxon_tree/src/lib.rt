@@ -141,6 +141,3 @@ impl Forest {
         self.nodes.is_ancestor(upper, lower)
     }
 }
-
-#[cfg(test)]
-mod tests;

@@ -7,6 +7,3 @@ mod sayings;
 mod taxonomy;
 
 pub use making::make_problem;
-
-#[cfg(test)]
-mod tests;

@@ -18,6 +18,3 @@ pub use merge::MergeWatcher;
 pub use seen::{SeenWatcher, put_sets};
 pub use tally::TallyWatcher;
 pub use watcher::WorldWatcher;
-
-#[cfg(test)]
-mod tests;

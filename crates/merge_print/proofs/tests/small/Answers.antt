@@ -1,5 +1,0 @@
-use Rattle.merge_print.proofs.NameLemmas.{read_ok}
-use Rattle.merge_print.proofs.tests.small.Goals as goal
-
-pub returns : goal.returns
-returns c = read_ok _ _ c.read_problem.result c.read_problem.ensures.problem
