@@ -1,5 +1,6 @@
 //! Whole runs as transcripts: files, words, what is put, and how each run ends. A transcript is played again, and must come out as it is.
 
+use super::own_watcher::OwnWatcher;
 use align_top::run;
 use outer_store::{MemorySink, MemoryStore};
 use std::alloc::{AllocError, Global};
@@ -7,8 +8,8 @@ use world_watch::{
     CountWatcher, JsonWatcher, MergeWatcher, SeenWatcher, TallyWatcher, WorldWatcher,
 };
 
-/// The words of a line.
-pub fn words_of(alloc: Global, text: &str) -> Result<Vec<String>, AllocError> {
+// The words of a line.
+fn words_of(alloc: Global, text: &str) -> Result<Vec<String>, AllocError> {
     let mut words = Vec::new(alloc);
     for word in text.split_whitespace() {
         words.push(String::from_str(alloc, word)?)?;
@@ -16,45 +17,23 @@ pub fn words_of(alloc: Global, text: &str) -> Result<Vec<String>, AllocError> {
     Ok(words)
 }
 
-// No watcher is needed where no report is asked for.
-fn sink_into(
-    alloc: Global,
-    store: &mut MemoryStore,
-    words: &[String],
-    sink: &mut MemorySink,
-    out: &mut Vec<u8>,
-) -> Result<u8, AllocError> {
-    let code = run(alloc, words, store, sink, Vec::new(alloc)).code();
-    out.extend_from_slice(sink.bytes())?;
-    Ok(code)
-}
-
-fn run_into(
-    alloc: Global,
-    store: &mut MemoryStore,
-    words: &[String],
-    out: &mut Vec<u8>,
-) -> Result<u8, AllocError> {
-    let mut sink = MemorySink::new(alloc, Vec::new(alloc));
-    sink_into(alloc, store, words, &mut sink, out)
-}
-
-/// A run with these words over a store. What it puts goes behind what was put before, and its exit code is answered.
-pub fn align_into(
-    alloc: Global,
-    store: &mut MemoryStore,
-    text: &str,
-    out: &mut Vec<u8>,
-) -> Result<u8, AllocError> {
-    let words = words_of(alloc, text)?;
-    run_into(alloc, store, &words, out)
+// The store's call with this number fails, and no call where it is 0. A read copies one byte where the step is 1, and as many as are
+// asked for where it is 0.
+fn new_store(alloc: Global, failing: u64, step: u64) -> Result<MemoryStore, AllocError> {
+    let failing = vec![in alloc; failing]?;
+    Ok(if step == 1 {
+        MemoryStore::in_steps(alloc, failing, 1)
+    } else {
+        MemoryStore::new(alloc, failing)
+    })
 }
 
 /// What has been played of a transcript, and the store over which it runs.
 ///
 /// A line `@ NAME` begins a file, whose lines follow. `$ WORDS` is a run, `? CODE` its exit code, and what
-/// it puts stands between. `= NAME` shows what a name holds then. `% N M` takes a new store, in which
-/// the file `p` alone is held again; its call N fails, and in the next run the sink's call M. No call fails where the number is 0.
+/// it puts stands between. `& WORDS` is a run with watchers of its own: `one`, `stop`, which finds no memory at the third world, and
+/// `one` once more. `= NAME` shows what a name holds then. `% N M S` takes a new store, in which the file `p` alone is held again; its
+/// call N fails, and in the next run the sink's call M. No call fails where the number is 0. Where S is 1, a read copies one byte.
 #[derive(Drop)]
 struct Scene {
     alloc: Global,
@@ -100,10 +79,14 @@ impl Scene {
         Ok(())
     }
 
-    fn run(&mut self, text: &str) -> Result<(), AllocError> {
+    fn run(&mut self, text: &str, with_own: bool) -> Result<(), AllocError> {
         let words = words_of(self.alloc, text)?;
         let mut sink = MemorySink::new(self.alloc, vec![in self.alloc; self.failing_put]?);
-        let code = self.run_words(&words, &mut sink)?;
+        let code = if with_own {
+            self.run_with_own(&words, &mut sink)?
+        } else {
+            self.run_words(&words, &mut sink)?
+        };
         self.put_bytes(sink.bytes())?;
         let end = format!(in self.alloc; "? {code}")?;
         self.put_line(end.as_str())
@@ -120,6 +103,15 @@ impl Scene {
         Ok(run(self.alloc, words, &mut self.store, sink, watchers).code())
     }
 
+    /// Runs with watchers of its own.
+    fn run_with_own(&mut self, words: &[String], sink: &mut MemorySink) -> Result<u8, AllocError> {
+        let mut watchers: Vec<Box<dyn WorldWatcher>> = Vec::new(self.alloc);
+        watchers.push(Box::new(self.alloc, OwnWatcher::new(self.alloc, "one", "1", 5)?)?)?;
+        watchers.push(Box::new(self.alloc, OwnWatcher::new(self.alloc, "stop", "2", 2)?)?)?;
+        watchers.push(Box::new(self.alloc, OwnWatcher::new(self.alloc, "one", "3", 5)?)?)?;
+        Ok(run(self.alloc, words, &mut self.store, sink, watchers).code())
+    }
+
     /// Shows what a name holds.
     fn show(&mut self, name: &str) -> Result<(), AllocError> {
         let held = Vec::from_slice(self.alloc, self.store.bytes(name).unwrap_or(&[]))?;
@@ -128,12 +120,12 @@ impl Scene {
 
     /// Takes a new store, in which the problem is held again.
     fn renew(&mut self, numbers: &str) -> Result<(), AllocError> {
-        let mut found = [0; 2];
+        let mut found = [0; 3];
         for (place, word) in found.iter_mut().zip(numbers.split_whitespace()) {
             *place = word.parse::<u64>().unwrap_or(0);
         }
         let problem = Vec::from_slice(self.alloc, self.store.bytes("p").unwrap_or(&[]))?;
-        self.store = MemoryStore::new(self.alloc, vec![in self.alloc; found[0]]?);
+        self.store = new_store(self.alloc, found[0], found[2])?;
         self.failing_put = found[1];
         self.store.hold("p", &problem)
     }
@@ -147,7 +139,8 @@ impl Scene {
                 self.name = Some(String::from_str(self.alloc, rest)?);
                 Ok(())
             }
-            "$" => self.run(rest),
+            "$" => self.run(rest, false),
+            "&" => self.run(rest, true),
             "=" => self.show(rest),
             _ => self.renew(rest),
         }
@@ -169,7 +162,7 @@ pub fn played(alloc: Global, text: &str) -> Result<String, AllocError> {
     let mut scene = Scene::new(alloc);
     for line in text.lines() {
         match line.split_once(' ') {
-            Some((sign, rest)) if matches!(sign, "@" | "$" | "=" | "%") => {
+            Some((sign, rest)) if matches!(sign, "@" | "$" | "&" | "=" | "%") => {
                 scene.play_sign(line, sign, rest)?;
             }
             _ => scene.play_other(line)?,

@@ -1,5 +1,0 @@
-use Rattle.std.proofs.Common.{◌≡◌}
-use Rattle.checks.proofs.both_askers.walk.Given as goal
-
-abbrev pub invariant-loop : goal.invariant-loop
-invariant-loop l = l.asker.shape ≡ l.fn.asker.shape

@@ -1,5 +1,0 @@
-//! Tests of problem texts.
-#![tactic(auto)]
-
-#[cfg(test)]
-mod texts;

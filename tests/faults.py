@@ -1,0 +1,138 @@
+#!/usr/bin/env python3
+"""Every call of the store and of the sink fails once, for each command, over objects in memory.
+
+    tests/faults.py [RUN_SCENES]
+
+Transcripts for crates/run_scenes are made in which the k-th call fails, for each k until a run ends as the run without a fault does. What
+a run with a fault puts must be a first part of what is right, and `read fault` behind it where it read in vain; the certificate and the
+token must hold what they held, or a first part of what is right; other names must hold what they held. It ends with status 1 at the first
+run that is not so, and shows it.
+"""
+
+import os
+import subprocess
+import sys
+import tempfile
+
+HERE = os.path.dirname(os.path.abspath(__file__))
+ALONE = "taxonomy 1\n(A)\ntaxonomy 2\n(B)\n"
+PARTINGS = "taxonomy 1\n(A B C)\ntaxonomy 2\n(D E F)\narticulation\n[1.A equals 2.D]\n"
+EQUAL = "taxonomy 1\n(A B C)\ntaxonomy 2\n(D)\narticulation\n[1.B equals 2.D]\n[1.C equals 2.D]\n"
+SPLIT = (
+    "taxonomy 1\n(A)\ntaxonomy 2\n(B)\ntaxonomy 3\n(C)\narticulation\n"
+    "[1.A {equals disjoint} 2.B]\n[2.B {equals disjoint} 3.C]\n[1.A overlaps 3.C]\n"
+)
+TORN = SPLIT + "[1.A equals 2.B]\n"
+LISTING = "certificate 1 on on on .\nb 0 .\nw 1 = 1 0 0\nw 1 > 2 0,1 0\nw 1 < 2 0 0,1\nw 1 x 3 0,1 0,2\nw 1 ! 2 0 1\nend -\n"
+TOKEN = "token 2 2 1 0e840ad3c362ef009568403e4c4fb237f9a9b4416ef7c8fbc4f86c79753f6d10 <\n"
+OLD = {"c": "old c\n", "t": "old t\n", "z": "other\n"}
+
+# A problem, files, and words.
+CASES = [
+    (ALONE, {}, "align in=p"),
+    (PARTINGS, {}, "align in=p worlds=2 token=t"),
+    (ALONE, {}, "align in=p nodes=3 token=t cert=c"),
+    (ALONE, {"r": TOKEN}, "align in=p resume=r nodes=1 token=t cert=c"),
+    (PARTINGS, {}, "align in=p cert=c"),
+    (EQUAL, {}, "align in=p cert=c"),
+    (ALONE, {"c": LISTING}, "check in=p cert=c"),
+    (ALONE, {"c": LISTING.replace("w 1 x 3 0,1 0,2\n", "")}, "check in=p cert=c"),
+    (ALONE, {"c": LISTING[:-3]}, "check in=p cert=c"),
+    (ALONE, {"r": TOKEN[:-3]}, "align in=p resume=r"),
+    (PARTINGS, {}, "mir in=p"),
+    (SPLIT, {}, "mir in=p cert=c"),
+    (TORN, {}, "mir in=p cert=c"),
+    (TORN, {}, "conflict in=p"),
+    (TORN, {}, "conflict in=p cert=c"),
+    (SPLIT, {}, "conflict in=p cert=c"),
+    (PARTINGS, {}, "report in=p kinds=count,tally,seen,merge,json"),
+    (TORN, {}, "report in=p kinds=merge"),
+    (ALONE, {}, "trial seed=1 size=14"),
+    ("taxonomy 1\n", {}, "align in=p"),
+    (ALONE, {}, "align in=p nodes=3"),
+]
+
+
+def file_of(name, text):
+    return f"@ {name}\n{text}"
+
+
+def block(files, words, failing, put):
+    """A transcript of one run in a new store; the lines that show what the names hold end with their names."""
+    held = {**OLD, **files}
+    shown = "".join(f"= {name}\n" for name in sorted(held))
+    return f"% {failing} {put} 0\n" + "".join(file_of(name, text) for name, text in sorted(held.items())) + f"$ {words}\n" + shown
+
+
+def parts(out, names):
+    """What runs put, their exit codes and what the names hold then, run by run."""
+    for run in out.split("\n$ ")[1:]:
+        run = run.split("\n% ")[0] + "\n"
+        put, _, rest = run.partition("\n? ")
+        put = put.partition("\n")[2]
+        code, _, rest = rest.partition("\n")
+        held = {}
+        for name, following in zip(names, names[1:] + [None]):
+            head = f"= {name}\n"
+            end = len(rest) if following is None else rest.index(f"= {following}\n", len(head))
+            held[name], rest = rest[len(head) : end], rest[end:]
+        yield put + "\n" if put else "", int(code), held
+
+
+def played(program, folder, problem, files, words, kind, most):
+    """The runs in which no call fails, and then each call of the store (kind 0) or of the sink (kind 1) up to a number."""
+    blocks = "".join(block(files, words, *(number if at == kind else 0 for at in range(2))) for number in range(most + 1))
+    with open(os.path.join(folder, "t.txt"), "w") as file:
+        file.write(file_of("p", problem) + blocks)
+    done = subprocess.run([program, "t.txt"], cwd=folder, stdout=subprocess.PIPE, timeout=100, check=True)
+    return list(parts("\n" + done.stdout.decode(), sorted({**OLD, **files})))
+
+
+def is_first_part(text, whole):
+    return whole.startswith(text)
+
+
+def fault_in(words, files, right, run):
+    """What is wrong with a run in which a call failed, or None."""
+    put, code, held = run
+    if code not in (3, 4):
+        return "it ends in another way"
+    if code == 3 and not (put.endswith("read fault\n") and is_first_part(put[: -len("read fault\n")], right[0])):
+        return "what is put is not a first part of what is right, and then `read fault`"
+    if code == 4 and not is_first_part(put, right[0]):
+        return "what is put is not a first part of what is right"
+    given = {**OLD, **files}
+    for name in held:
+        is_written = f"token={name}" in words or (f"cert={name}" in words and not words.startswith("check"))
+        if held[name] != given[name] and not (is_written and is_first_part(held[name], right[2][name])):
+            return f"{name} holds something else"
+    return None
+
+
+def check_case(program, folder, case):
+    problem, files, words = case
+    count = 0
+    for kind in (0, 1):
+        right, *others = played(program, folder, problem, files, words, kind, 300)
+        ends = [run == right for run in others]
+        if True not in ends:
+            sys.exit(f"{words}: no run ends well")
+        for number, run in enumerate(others[: ends.index(True)], 1):
+            why = fault_in(words, files, right, run)
+            count += 1
+            if why:
+                sys.exit(f"{words}: call {number} of the {'sink' if kind else 'store'} fails: {why}\n{run}\nand right is\n{right}")
+        if not all(ends[ends.index(True) :]):
+            sys.exit(f"{words}: a run ends otherwise though no call of its fails")
+    return count
+
+
+def main():
+    program = os.path.abspath(sys.argv[1] if len(sys.argv) > 1 else os.path.join(HERE, "../crates/run_scenes/out/run_scenes"))
+    with tempfile.TemporaryDirectory() as folder:
+        count = sum(check_case(program, folder, case) for case in CASES)
+    print(f"{len(CASES)} runs, {count} calls that fail, nothing wrong")
+
+
+if __name__ == "__main__":
+    main()
