@@ -2,13 +2,15 @@
 #![tactic(auto)]
 
 mod help;
+mod usage;
 
-use align_top::{Status, fault_place, run, text_help, usage_help};
+use align_top::{Status, UsageKind, fault_place, run, text_help, usage_help};
 use help::{certificate_help, rejection_help, token_help};
 use outer_store::{FileStore, StdoutSink};
 use std::alloc::{AllocError, Global};
 use std::process::ExitCode;
 use std::{env, fs, io};
+use usage::wrong_word;
 use world_watch::{
     CountWatcher, JsonWatcher, MergeWatcher, SeenWatcher, TallyWatcher, WorldWatcher,
 };
@@ -103,13 +105,24 @@ fn explain_write(rt: &impl Eprint, words: &[String]) -> io::Result<()> {
     )
 }
 
+// Tells what is wrong with the words, at which word, and what may stand there.
+fn explain_usage(
+    rt: &impl Eprint,
+    alloc: Global,
+    words: &[String],
+    kind: UsageKind,
+) -> io::Result<()> {
+    let watchers = all_watchers(alloc)?;
+    let word = wrong_word(alloc, words, &watchers, kind);
+    let help = usage_help(alloc)?;
+    let colon = if word.is_empty() { "" } else { ": " };
+    eprint!(rt; "{kind}{colon}{word}\n{help}")
+}
+
 // Tells people, on standard error, what an ending means that is not good, and what to do about it.
 fn explain(rt: &impl Eprint, alloc: Global, words: &[String], status: &Status) -> io::Result<()> {
     match status {
-        Status::Usage(kind) => {
-            let help = usage_help(alloc)?;
-            eprint!(rt; "{kind}\n{help}")
-        }
+        Status::Usage(kind) => explain_usage(rt, alloc, words, *kind),
         Status::RefusedText { line, kind } => {
             let place = fault_place(alloc, value_of(words, "in="), *line)?;
             let sentence = text_help(*kind);
@@ -132,6 +145,12 @@ fn explain(rt: &impl Eprint, alloc: Global, words: &[String], status: &Status) -
             let sentence = rejection_help(*kind);
             eprintln!(rt; "{name}:{line}: {sentence}")
         }
+        Status::NoWorld => {
+            let input = value_of(words, "in=");
+            eprintln!(rt;
+                "no merged classification meets all statements; `euler_align conflict in={input}`, with the same switches, names a least set of them that can't stand together"
+            )
+        }
         Status::NoMemory => eprintln!(rt;
             "out of memory; free some, or ask for less: `mir` in place of a listing, or `worlds=` for a part of it"
         ),
@@ -139,16 +158,22 @@ fn explain(rt: &impl Eprint, alloc: Global, words: &[String], status: &Status) -
     }
 }
 
-// Does what the words ask for, on the files of the system and standard output. Where no memory is found for the watchers,
-// nothing is done.
-fn run_words(rt: &HostRuntime, words: &[String]) -> Result<Status, AllocError> {
-    let alloc = rt.alloc();
+// A watcher of each kind.
+fn all_watchers(alloc: Global) -> Result<Vec<Box<dyn WorldWatcher>>, AllocError> {
     let mut watchers: Vec<Box<dyn WorldWatcher>> = Vec::new(alloc);
     watchers.push(Box::new(alloc, CountWatcher::new(alloc))?)?;
     watchers.push(Box::new(alloc, TallyWatcher::new(alloc))?)?;
     watchers.push(Box::new(alloc, SeenWatcher::new(alloc))?)?;
     watchers.push(Box::new(alloc, MergeWatcher::new(alloc))?)?;
     watchers.push(Box::new(alloc, JsonWatcher::new(alloc))?)?;
+    Ok(watchers)
+}
+
+// Does what the words ask for, on the files of the system and standard output. Where no memory is found for the watchers,
+// nothing is done.
+fn run_words(rt: &HostRuntime, words: &[String]) -> Result<Status, AllocError> {
+    let alloc = rt.alloc();
+    let watchers = all_watchers(alloc)?;
     let mut store = FileStore::new(alloc, rt);
     let mut out = StdoutSink::new(rt);
     Ok(run(alloc, words, &mut store, &mut out, watchers))
