@@ -2,7 +2,7 @@
 # Tries the built program from outside, part by part, the quick parts first: a line each, with what it came to and its seconds. What a
 # part prints is kept, and shown where it failed.
 #
-#   tests/all.sh [--quick] [PROGRAM]
+#   tests/all.sh [--quick] [PROGRAM [RUN_SCENES]]
 #
 # With --quick only what takes under three minutes together on one processor.
 set -u
@@ -13,10 +13,13 @@ if [ "${1:-}" = --quick ]; then
   shift
 fi
 program=$(realpath -m "${1:-../crates/euler_align/out/euler_align}")
-if [ ! -x "$program" ]; then
-  echo "all: there is no program at $program"
-  exit 2
-fi
+scenes=$(realpath -m "${2:-../crates/run_scenes/out/run_scenes}")
+for built in "$program" "$scenes"; do
+  if [ ! -x "$built" ]; then
+    echo "all: there is no program at $built"
+    exit 2
+  fi
+done
 told=$(mktemp)
 trap 'rm "$told"' EXIT
 status=0
@@ -34,6 +37,8 @@ part() {
 part "documents" python3 documents.py "$program"
 part "tools/draw" python3 ../tools/test_draw.py
 part "tools/from_csv" python3 ../tools/test_from_csv.py
+part "rows" python3 rows.py "$program"
+part "faults" python3 faults.py "$scenes"
 part "json_names" python3 json_names.py --program "$program"
 part "devices" python3 devices.py "$program"
 part "certificate_bytes" python3 certificate_bytes.py "$program"

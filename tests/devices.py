@@ -26,7 +26,7 @@ import plain
 HERE = os.path.dirname(os.path.abspath(__file__))
 NOBODY = 65534
 # exit codes whose cause a person is told on standard error
-TOLD = {1, 2, 3, 4, 7, 8}
+TOLD = {1, 2, 3, 4, 6, 7, 8}
 READ_FAULT, WRITE_FAULT = (3, "read fault\n"), (4, "")
 
 # a problem with several worlds, and one statement more that makes it a conflict
@@ -132,7 +132,7 @@ class Bench:
                 raise Failed(f"standard output {out!r}")
         if code in TOLD and not told.strip():
             raise Failed(f"nothing on standard error, exit code {code}")
-        self.silent += code not in (0, 5, 6, 10) and not told.strip()
+        self.silent += code not in (0, 5, 10) and not told.strip()
         after = self.held()
         before = self.files if before is None else before
         for file in sorted(set(before) | set(after)):
