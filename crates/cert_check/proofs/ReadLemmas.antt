@@ -1,5 +1,5 @@
 -- A certificate has fewer lines than bytes.
-use Rattle.std.proofs.Common.{◌≡◌, ℕ, ◌+◌, ◌^◌, ◌<◌, ◌≤◌, suc, true, false, ◌⊎◌, inl, inr, cond, List, [], ◌∷◌, ◌++◌, length, Option, Some, None, option_map, IfSome, Result, Ok, Err, refl, sym, ap, subst, ◌∙◌, arith}
+use Rattle.std.proofs.Common.{◌≡◌, ℕ, ◌+◌, ◌^◌, ◌≤◌, inl, inr, cond, List, [], ◌∷◌, length, Option, Some, None, option_map, IfSome, Result, Ok, Err, refl, sym, ap, subst, ◌∙◌, arith}
 use Rattle.std.proofs.lemmas.Bool.{cases_Bool, ltb-false}
 use Rattle.proof_text.specs.Words.{words_of}
 use Rattle.proof_text.specs.declared.fault.LineTextFault.{LineTextFault}
@@ -7,7 +7,7 @@ use Rattle.cert_text.specs.declared.line.CertLine.{CertLine}
 use Rattle.cert_reader.specs.declared.spot.Spot.{Spot}
 use Rattle.cert_reader.specs.declared.fault.CertTextKind.{CertTextKind}
 use Rattle.cert_reader.specs.declared.fault.CertTextKind.TheVariants.{TooLong}
-use Rattle.cert_reader.specs.Reading.{Reading, with_first, whole, first_spot, spot_after, is_too_long, line_read, line_in, line_at, rest_fault, ending, going_on, reading_of, reading_from, reading}
+use Rattle.cert_reader.specs.Reading.{Reading, first_spot, spot_after, is_too_long, line_read, line_in, line_at, rest_fault, ending, going_on, reading_of}
 use Rattle.cert_reader.specs.Reader.{Reader, to_read}
 use Rattle.cert_rules.specs.Files.{Answer}
 use Rattle.cert_check.specs.declared.accepted.Accepted.{Accepted}

@@ -1,29 +1,24 @@
 -- A whole certificate, line by line.
-use Rattle.std.proofs.Common.{◌≡◌, ℕ, ◌+◌, List, [], ◌∷◌, Option, Some, None, option_map, IfSome, Result, Ok, Err, OnOk, refl, sym, ap, subst, ◌∙◌}
-use Rattle.rcc5_core.specs.declared.Rel.{Rel}
-use Rattle.world_model.specs.declared.Switches.{Switches}
+use Rattle.std.proofs.Common.{◌≡◌, ℕ, ◌+◌, List, [], ◌∷◌, Result, Ok, Err, OnOk, refl, sym, ap, ◌∙◌}
 use Rattle.world_model.specs.Problem.{Problem}
 use Rattle.cert_text.specs.declared.line.CertLine.{CertLine}
-use Rattle.cert_text.specs.declared.line.CertLine.TheVariants.{Certificate, Claims as ClaimsLine}
 use Rattle.cert_text.specs.Ends.{TextEnd, Whole, Faulty}
 use Rattle.cert_reader.specs.declared.fault.CertTextKind.{CertTextKind}
-use Rattle.cert_reader.specs.Reading.{Reading, with_first}
 use Rattle.cert_rules.specs.declared.RejectKind.{RejectKind}
 use Rattle.cert_rules.specs.Trees.{Tree}
-use Rattle.cert_rules.specs.Listings.{Stand, Status, Going, Ended, Rejected, Listed, step, steps, unless, listing_tree, start, header_fault}
-use Rattle.cert_rules.specs.ClaimLists.{ClaimStand, Claim, claim_step, claim_steps, claim_start, claims_fault}
-use Rattle.cert_rules.specs.Files.{Verdict, Answer, Accepts, Rejects, Listing, ClaimList, as_listing, settle, answer_of}
+use Rattle.cert_rules.specs.Listings.{Stand, Going, Ended, Rejected, Listed, steps}
+use Rattle.cert_rules.specs.ClaimLists.{ClaimStand, Claim, claim_steps}
+use Rattle.cert_rules.specs.Files.{Verdict, Rejects, Listing, ClaimList, as_listing, settle}
 use Rattle.cert_check.specs.declared.fault.Stop.{Stop}
 use Rattle.cert_check.specs.declared.fault.Stop.TheVariants as stop
 use Rattle.cert_check.specs.declared.listing.Turn.{Turn}
 use Rattle.cert_check.specs.declared.listing.Turn.TheVariants as turn
 use Rattle.cert_check.specs.declared.listing.Listing.{Listing as ListingSoFar}
 use Rattle.cert_check.specs.declared.claims.Claims.{Claims as ClaimsSoFar}
-use Rattle.cert_check.specs.declared.checker.Checker.{Checker}
 use Rattle.cert_check.specs.declared.checker.Checker.TheVariants as kind
 use Rattle.cert_check.specs.Checkers.{stand_of, IsStep}
 use Rattle.cert_check.specs.Claiming.{claim_stand, IsClaimStep}
-use Rattle.cert_check.specs.Whole.{answer_from, verdict_from, ended_answer, IsTaken, Starts}
+use Rattle.cert_check.specs.Whole.{ended_answer, IsTaken}
 
 -- what has ended, or was rejected, stays
 pub steps_ended : (tree : Tree) (listed : Listed) (lines : List CertLine) → steps tree (Ended listed) lines ≡ Ended listed

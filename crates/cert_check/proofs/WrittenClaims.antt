@@ -1,5 +1,5 @@
 -- What keeps up with a list of claims, with `done` behind it, is read whole and accepted.
-use Rattle.std.proofs.Common.{◌≡◌, ℕ, ◌+◌, true, false, List, [], ◌∷◌, ◌++◌, Option, Some, None, refl, sym, ap, ◌∙◌}
+use Rattle.std.proofs.Common.{◌≡◌, ℕ, ◌+◌, true, false, List, [], ◌∷◌, ◌++◌, Option, Some, None, sym, ap, ◌∙◌}
 use Rattle.lits_core.specs.Derivation.{State, next_state}
 use Rattle.lits_core.specs.declared.Line.TheVariants.{Derive, Forget}
 use Rattle.world_model.specs.Problem.{Problem}
@@ -14,7 +14,7 @@ use Rattle.cert_reader.proofs.WholeLemmas.{standing_lines_are_read_law}
 use Rattle.cert_rules.specs.declared.RejectKind.{RejectKind}
 use Rattle.cert_rules.specs.declared.RejectKind.TheVariants.{ExtraBranch}
 use Rattle.cert_rules.specs.Trees.{tree_fault, tree_next, end_fault}
-use Rattle.cert_rules.specs.Listings.{Status, Going, Ended, Rejected, unless, proof_fault}
+use Rattle.cert_rules.specs.Listings.{Going, Ended, Rejected, unless, proof_fault}
 use Rattle.cert_rules.specs.ClaimLists.{subject_fault, subject_tree, Claim, Block, ClaimStand, holds_fault, stray_kind, claim_steps, claim_start}
 use Rattle.cert_rules.specs.ClaimWriting.{one_more, open_at}
 use Rattle.cert_rules.specs.Files.{ClaimList, settle, answer_of}

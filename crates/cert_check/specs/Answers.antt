@@ -1,8 +1,8 @@
 -- What a check answers, by what there was to read.
-use Rattle.std.specs.Prelude.{◌≡◌, ℕ, List, [], Option, Some, None, option_map, Result, Ok, Err, IfSome, ⊤}
+use Rattle.std.specs.Prelude.{◌≡◌, [], Option, Some, None, option_map, Result, Ok, Err, IfSome, ⊤}
 use Rattle.world_model.specs.Problem.{Problem}
 use Rattle.cert_text.specs.declared.line.CertLine.{CertLine}
-use Rattle.cert_text.specs.Ends.{TextEnd, Faulty}
+use Rattle.cert_text.specs.Ends.{Faulty}
 use Rattle.cert_reader.specs.declared.fault.CertTextKind.{CertTextKind}
 use Rattle.cert_reader.specs.Reading.{Reading, whole, with_first}
 use Rattle.cert_rules.specs.Files.{Verdict, Answer, Accepts, Rejects, HasFault, Listing, ClaimList, answer_of}

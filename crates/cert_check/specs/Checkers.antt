@@ -1,21 +1,16 @@
 -- How a checker takes a line.
-use Rattle.std.specs.Prelude.{◌≡◌, ℕ, ◌+◌, List, [], ◌∷◌, Option, Some, None, option_map, Result, Ok, Err, IfSome, ⊤}
+use Rattle.std.specs.Prelude.{◌≡◌, ℕ, ◌+◌, Result, Ok, Err, ⊤}
 use Rattle.cert_text.specs.declared.line.CertLine.{CertLine}
-use Rattle.cert_text.specs.Ends.{TextEnd}
-use Rattle.cert_reader.specs.declared.fault.CertTextKind.{CertTextKind}
-use Rattle.world_model.specs.Problem.{Problem}
 use Rattle.cert_rules.specs.Trees.{Tree}
 use Rattle.lits_core.specs.declared.LineFault.{LineFault}
 use Rattle.lits_core.specs.declared.LineFault.TheVariants as fault
-use Rattle.cert_rules.specs.Listings.{as_kind, Stand, Status, Going, Ended, Rejected, Listed, step, steps}
-use Rattle.cert_rules.specs.ClaimLists.{ClaimStand, Block, Claim, claim_step, claim_steps, subject_tree}
-use Rattle.cert_rules.specs.Files.{Verdict, Answer, ClaimList, as_listing, settle}
+use Rattle.cert_rules.specs.Listings.{as_kind, Stand, Going, Ended, Rejected, step}
 use Rattle.cert_check.specs.declared.fault.Stop.{Stop}
 use Rattle.cert_check.specs.declared.fault.Stop.TheVariants as stop
 use Rattle.cert_check.specs.declared.listing.Listing.{Listing}
 use Rattle.cert_check.specs.declared.listing.Turn.{Turn}
 use Rattle.cert_check.specs.declared.listing.Turn.TheVariants as turn
-use Rattle.cert_tree.specs.Walks.{at_of, IsWalk}
+use Rattle.cert_tree.specs.Walks.{at_of}
 
 -- why a line of the derivation is not taken
 abbrev pub stop_of : LineFault → Stop

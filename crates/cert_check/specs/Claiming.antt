@@ -1,10 +1,11 @@
 -- How the lines of a list of claims are taken.
-use Rattle.std.specs.Prelude.{◌≡◌, ℕ, ◌+◌, Bool, true, false, Option, Some, None, option_map, Result, Ok, Err, IfSome, ⊤}
+use Rattle.std.specs.Prelude.{◌≡◌, ℕ, ◌+◌, Bool, true, false, Option, Some, option_map, Result, Ok, Err, IfSome, ⊤, List, Contains, IsTrue}
 use Rattle.world_model.specs.Problem.{Problem}
+use Rattle.world_model.specs.Family.{Family, meets}
 use Rattle.cert_text.specs.declared.line.CertLine.{CertLine}
 use Rattle.cert_text.specs.declared.line.CertLine.TheVariants.{Branch, NoPoint, NoRelation}
 use Rattle.cert_rules.specs.Listings.{Going, Ended, Rejected}
-use Rattle.cert_rules.specs.ClaimLists.{ClaimStand, Block, claim_step, subject_tree, stray_kind}
+use Rattle.cert_rules.specs.ClaimLists.{ClaimStand, Block, claim_step, subject_tree}
 use Rattle.cert_check.specs.declared.fault.Stop.{Stop}
 use Rattle.cert_check.specs.declared.fault.Stop.TheVariants as stop
 use Rattle.cert_check.specs.declared.listing.Turn.{Turn}
@@ -38,6 +39,15 @@ is_node (Branch depth last) = true
 is_node (NoPoint depth last need clause) = true
 is_node (NoRelation depth last pair) = true
 is_node line = false
+
+-- families meet the problem
+abbrev pub AreMet : Problem → List Family → Type 0
+AreMet p known = (f : Family) → Contains known f → IsTrue (meets p f)
+
+-- the open tree, if there is one, is that of its subject, and the families that are kept meet the problem
+pub record AreClaims (c : Claims) : Type 0 where
+  pub block : IsOpen c.problem c.block
+  pub known : AreMet c.problem c.known
 
 -- a line was taken as the rules take it, whatever its number: they go on, or end there, or reject it
 abbrev pub IsClaimStep : Problem → ClaimStand → CertLine → ClaimStand → Result Turn Stop → Type 0

@@ -1,5 +1,5 @@
 -- How a whole certificate is taken, of either kind.
-use Rattle.std.specs.Prelude.{◌≡◌, ℕ, ◌+◌, ◌^◌, ◌≤◌, List, [], ◌∷◌, length, Option, Some, None, option_map, Result, Ok, Err, IfSome, ⊤}
+use Rattle.std.specs.Prelude.{◌≡◌, ℕ, ◌+◌, ◌^◌, ◌≤◌, List, ◌∷◌, length, Option, option_map, Result, Ok, Err, IfSome, ⊤}
 use Rattle.rcc5_core.specs.declared.Rel.{Rel}
 use Rattle.world_model.specs.Problem.{Problem}
 use Rattle.cert_text.specs.declared.line.CertLine.{CertLine}
@@ -20,7 +20,7 @@ use Rattle.cert_check.specs.declared.checker.Checker.{Checker}
 use Rattle.cert_check.specs.declared.checker.Checker.TheVariants as kind
 use Rattle.cert_tree.specs.Walks.{IsWalk}
 use Rattle.cert_check.specs.Checkers.{stand_of}
-use Rattle.cert_check.specs.Claiming.{IsOpen, claim_stand}
+use Rattle.cert_check.specs.Claiming.{AreClaims, claim_stand}
 use Rattle.cert_check.specs.Answers.{Tells}
 
 -- the answer to the lines that are still to come, after so many
@@ -39,7 +39,7 @@ ended_answer verdict end = settle {S = Verdict} (λ v. v) (Ended verdict) end
 
 abbrev pub IsReady : Checker → Type 0
 IsReady (kind.Listing c) = IsWalk c.walk
-IsReady (kind.Claims c) = IsOpen c.problem c.block
+IsReady (kind.Claims c) = AreClaims c
 
 -- a line was taken: the answer to it and what follows is that to what follows, or stands
 abbrev pub IsTaken : Checker → CertLine → Checker → Result Turn Stop → Type 0

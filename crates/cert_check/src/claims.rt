@@ -1,17 +1,22 @@
 //! A list of claims, line by line.
 
-ghost use Rattle.std.specs.Prelude.{◌≡◌, [], IfOk, OnOk, OnErr, None, Some, false};
-ghost use Rattle.world_model.specs.Problem.{Problem, pair_count};
-ghost use Rattle.cert_rules.specs.Trees.{fault_or};
+ghost use Rattle.std.specs.Prelude.{◌≡◌, ◌<◌, [], IfOk, OnOk, OnErr, None, Some, false, Contains, IsTrue};
+ghost use Rattle.rcc5_core.specs.RelationSet.{only};
+ghost use Rattle.world_model.specs.Problem.{Problem, pair_count, narrowed};
+ghost use Rattle.world_model.specs.Family.{meets};
+ghost use Rattle.world_model.specs.Node.{pair_at};
+ghost use Rattle.set_family.specs.Sets.{family_from};
+ghost use Rattle.cert_rules.specs.Trees.{fault_or, family_fault};
 ghost use Rattle.cert_rules.specs.ClaimLists.{claim_start, claim_role, ForNode, holds_fault, subject_fault, subject_problem, subject_tree, stray_kind};
 ghost use Rattle.cert_text.specs.declared.line.CertLine.TheVariants.{Proof, Holds as HoldsLine, Fails as FailsLine, End};
 ghost use Rattle.cert_check.specs.declared.fault.Stop.TheVariants.{Rejected};
 ghost use Rattle.cert_check.specs.declared.accepted.Accepted.TheVariants.{Claims as AcceptedClaims};
 ghost use Rattle.cert_tree.specs.Walks.{IsWalk, at_of};
-ghost use Rattle.cert_check.specs.Claiming.{IsOpen, IsBlock, claim_stand, block_of, with_block, is_node, IsClaimStep};
+ghost use Rattle.cert_check.specs.Claiming.{AreClaims, IsOpen, IsBlock, AreMet, claim_stand, block_of, with_block, is_node, IsClaimStep};
 
 use crate::accepted::{Accepted, Claim, ClaimList};
 use crate::fault::{Stop, stop_at};
+use crate::known::Known;
 use crate::listing::Turn;
 use cert_rules::RejectKind;
 use cert_text::{CertLine, RawFamily, Subject};
@@ -20,7 +25,8 @@ use constraint_set::Problem;
 use lits_core::Line;
 use point_encode::given_clauses;
 use proof_check::Book;
-use rcc5_core::{Position, RelSet};
+use rcc5_core::{Position, Rel, RelSet};
+use set_family::Family;
 use std::alloc::{AllocError, Global};
 
 /// A tree that is not yet at its end.
@@ -51,13 +57,14 @@ pub(crate) struct Claims {
     pub(crate) book: Book,
     pub(crate) block: Option<OpenTree>,
     pub(crate) claims: Vec<Claim>,
+    pub(crate) known: Known,
 }
 
 impl Claims {
     /// No line yet.
     pub(crate) fn new(alloc: Global, problem: &Problem) -> Result<Claims, AllocError>
         ensures problem { IfOk result (λ claims. claims.problem ≡ problem.now) }
-        ensures block { IfOk result (λ claims. IsOpen claims.problem claims.block) }
+        ensures claims { IfOk result AreClaims }
         ensures start { IfOk result (λ claims. claim_stand claims ≡ claim_start problem.now) }
     {
         let book = Book::new(alloc, given_clauses(alloc, problem)?)?;
@@ -67,14 +74,15 @@ impl Claims {
             book,
             block: None,
             claims: Vec::new(alloc),
+            known: Known::new(alloc),
         })
     }
 
     /// Takes the next line.
     pub(crate) fn take(&mut self, line: CertLine) -> Result<Turn, Stop>
-        requires { IsOpen self.old.problem self.old.block }
+        requires { AreClaims self.old }
         ensures step { IsClaimStep self.old.problem (claim_stand self.old) line (claim_stand self.new) result }
-        ensures block { OnOk result (IsOpen self.new.problem self.new.block) }
+        ensures claims { OnOk result (AreClaims self.new) }
         ensures problem { self.new.problem ≡ self.old.problem }
     {
         match self.block.take() {
@@ -93,8 +101,7 @@ impl Claims {
 
     fn take_proof(&mut self, line: &Line) -> Result<Turn, Stop>
         ensures step { IsClaimStep self.old.problem (claim_stand self.old) (Proof line.now) (claim_stand self.new) result }
-        ensures block { self.new.block ≡ self.old.block }
-        ensures problem { self.new.problem ≡ self.old.problem }
+        ensures same { self.new ≡ record self.old { book = self.new.book } }
     {
         match self.book.add_line(line) {
             Ok(()) => Ok(Turn::Further),
@@ -104,9 +111,10 @@ impl Claims {
 
     /// Takes a line where no tree is block.
     fn take_outside(&mut self, line: CertLine) -> Result<Turn, Stop>
-        requires { self.old.block ≡ None }
+        requires claims { AreClaims self.old }
+        requires closed { self.old.block ≡ None }
         ensures step { IsClaimStep self.old.problem (claim_stand self.old) line (claim_stand self.new) result }
-        ensures block { OnOk result (IsOpen self.new.problem self.new.block) }
+        ensures claims { OnOk result (AreClaims self.new) }
         ensures problem { self.new.problem ≡ self.old.problem }
     {
         match line {
@@ -119,10 +127,11 @@ impl Claims {
     }
 
     fn take_holding(&mut self, subject: Subject, family: RawFamily) -> Result<Turn, Stop>
-        requires { self.old.block ≡ None }
+        requires known { AreMet self.old.problem self.old.known }
+        requires closed { self.old.block ≡ None }
         ensures step { IsClaimStep self.old.problem (claim_stand self.old) (HoldsLine subject family) (claim_stand self.new) result }
-        ensures block { self.new.block ≡ None }
-        ensures problem { self.new.problem ≡ self.old.problem }
+        ensures known { AreMet self.old.problem self.new.known }
+        ensures same { self.new ≡ record self.old { known = self.new.known; claims = self.new.claims } }
     {
         if let Some(kind) = self.holds_fault(&subject, family)? {
             return Err(Stop::Rejected(kind));
@@ -134,24 +143,96 @@ impl Claims {
 
     /// What is wrong with a claim that holds, by the words of a family.
     fn holds_fault(
-        &self,
+        &mut self,
         subject: &Subject,
         family: RawFamily,
     ) -> Result<Option<RejectKind>, AllocError>
-        ensures { IfOk result (λ fault. fault ≡ holds_fault self.now.problem subject.now family) }
+        requires known { AreMet self.old.problem self.old.known }
+        ensures fault { IfOk result (λ fault. fault ≡ holds_fault self.old.problem subject.now family) }
+        ensures known { AreMet self.old.problem self.new.known }
+        ensures same { self.new ≡ record self.old { known = self.new.known } }
     {
         if let Some(kind) = self.subject_fault(subject) {
             return Ok(Some(kind));
         }
+        if let Subject::Narrowed { pair, rel } = subject {
+            return self.shown_fault(*pair, *rel, family);
+        }
         let problem = self.problem_of(subject)?;
         Ok(family_fault(&problem, family))
+    }
+
+    /// What is wrong with the words of a family that is to show a relation of a pair: it must meet the problem and have the relation.
+    fn shown_fault(
+        &mut self,
+        pair: u32,
+        rel: Rel,
+        words: RawFamily,
+    ) -> Result<Option<RejectKind>, AllocError>
+        requires within { pair < pair_count self.old.problem }
+        requires known { AreMet self.old.problem self.old.known }
+        ensures fault { IfOk result (λ fault. fault ≡ family_fault (narrowed self.old.problem (pair_at self.old.problem pair) (only rel)) (family_from words.universe words.sets)) }
+        ensures known { AreMet self.old.problem self.new.known }
+        ensures same { self.new ≡ record self.old { known = self.new.known } }
+    {
+        let (universe, lists) = words.into_parts();
+        match Family::from_lists(universe, lists) {
+            Some(family) if self.is_shown(pair, rel, &family) => {
+                self.keep(family)?;
+                Ok(None)
+            }
+            _ => Ok(Some(RejectKind::FamilyDoesNotMeet)),
+        }
+    }
+
+    /// Whether a family meets the problem and has a relation at a pair.
+    fn is_shown(&self, pair: u32, rel: Rel, family: &Family) -> bool
+        requires within { pair < pair_count self.now.problem }
+        requires known { AreMet self.now.problem self.now.known }
+        ensures shown { result ≡ meets (narrowed self.now.problem (pair_at self.now.problem pair) (only rel)) family.now }
+        ensures met { IsTrue result → IsTrue (meets self.now.problem family.now) }
+    {
+        if !self.is_met(family) {
+            return false;
+        }
+        let (left, right) = self.problem.pair_at(pair);
+        RelSet::one(rel).has(family.relation(left, right))
+    }
+
+    /// Whether a family meets the problem.
+    fn is_met(&self, family: &Family) -> bool
+        requires { AreMet self.now.problem self.now.known }
+        ensures { result ≡ meets self.now.problem family.now }
+    {
+        self.is_known(family) || family.meets(&self.problem)
+    }
+
+    /// Whether a family is one that met the problem before.
+    fn is_known(&self, family: &Family) -> bool
+        ensures { IsTrue result → Contains self.now.known family.now }
+    {
+        let count = family.count();
+        count < u32::MAX && self.known.has(family, count)
+    }
+
+    /// Keeps a family that meets the problem.
+    fn keep(&mut self, family: Family) -> Result<(), AllocError>
+        requires known { AreMet self.old.problem self.old.known }
+        requires met { IsTrue (meets self.old.problem family) }
+        ensures known { AreMet self.old.problem self.new.known }
+        ensures same { self.new ≡ record self.old { known = self.new.known } }
+    {
+        if self.is_known(&family) {
+            return Ok(());
+        }
+        self.known.keep(family)
     }
 
     fn take_failing(&mut self, subject: Subject) -> Result<Turn, Stop>
         requires { self.old.block ≡ None }
         ensures step { IsClaimStep self.old.problem (claim_stand self.old) (FailsLine subject) (claim_stand self.new) result }
         ensures block { OnOk result (IsOpen self.new.problem self.new.block) }
-        ensures problem { self.new.problem ≡ self.old.problem }
+        ensures same { self.new ≡ record self.old { block = self.new.block } }
     {
         if let Some(kind) = self.subject_fault(&subject) {
             return Err(Stop::Rejected(kind));
@@ -207,7 +288,7 @@ impl Claims {
         requires block { IsBlock self.old.problem block }
         ensures step { IsClaimStep self.old.problem (with_block self.old block) line (claim_stand self.new) result }
         ensures block { OnOk result (IsOpen self.new.problem self.new.block) }
-        ensures problem { self.new.problem ≡ self.old.problem }
+        ensures same { self.new ≡ record self.old { book = self.new.book; block = self.new.block; claims = self.new.claims } }
     {
         if is_node(&line) {
             return self.take_node(block, line);
@@ -220,7 +301,7 @@ impl Claims {
         requires node { claim_role line ≡ ForNode }
         ensures step { IsClaimStep self.old.problem (with_block self.old block) line (claim_stand self.new) result }
         ensures block { OnOk result (IsOpen self.new.problem self.new.block) }
-        ensures problem { self.new.problem ≡ self.old.problem }
+        ensures same { self.new ≡ record self.old { block = self.new.block } }
     {
         let branches = is_branch(&line);
         if let Some(kind) = block.walk.tree_fault(&self.book, line) {
@@ -238,7 +319,7 @@ impl Claims {
         requires node { is_node line ≡ false }
         ensures step { IsClaimStep self.old.problem (with_block self.old block) line (claim_stand self.new) result }
         ensures block { OnOk result (IsOpen self.new.problem self.new.block) }
-        ensures problem { self.new.problem ≡ self.old.problem }
+        ensures same { self.new ≡ record self.old { book = self.new.book; block = self.new.block; claims = self.new.claims } }
     {
         match line {
             CertLine::Proof(line) => {
@@ -254,8 +335,7 @@ impl Claims {
     fn take_end(&mut self, block: OpenTree) -> Result<Turn, Stop>
         requires { self.old.block ≡ None }
         ensures step { IsClaimStep self.old.problem (with_block self.old block) (End None) (claim_stand self.new) result }
-        ensures block { self.new.block ≡ None }
-        ensures problem { self.new.problem ≡ self.old.problem }
+        ensures same { self.new ≡ record self.old { claims = self.new.claims } }
     {
         if block.walk.expected {
             return Err(Stop::Rejected(RejectKind::MissingBranch));

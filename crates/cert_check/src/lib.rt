@@ -6,6 +6,7 @@ mod checker;
 mod checking;
 mod claims;
 mod fault;
+mod known;
 mod laws;
 mod listing;
 

@@ -18,3 +18,4 @@ pub mod Selected
 pub mod OnTheWay
 pub mod Told
 pub mod NodeProblems
+pub mod Narrowing

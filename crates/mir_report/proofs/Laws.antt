@@ -1,65 +1,22 @@
 -- Possible relations, and families that show them.
-use Rattle.std.proofs.Common.{◌≡◌, ℕ, ◌<◌, ◌↔◌, [], ◌∷◌, ◌++◌, false, true, not, length, inl, inr, Some, List, refl, sym, ap, ◌∙◌, arith, IsTrue, slice_get, filter, filter_map, option_map}
-use Rattle.std.proofs.lemmas.Bool.{and_from, true≢false, not-true}
+use Rattle.std.proofs.Common.{◌≡◌, ℕ, ◌<◌, ◌↔◌, false, true, not, length, Some, List, refl, sym, ap, ◌∙◌, arith, IsTrue, slice_get, filter, option_map}
+use Rattle.std.proofs.lemmas.Bool.{true≢false, not-true}
 use Rattle.std.proofs.lemmas.Option.{slice_get-map, slice_get-get_or, slice_get_within}
 use Rattle.std.proofs.lemmas.List.{length-append}
 use Rattle.rcc5_core.specs.declared.Rel.{Rel}
 use Rattle.rcc5_core.specs.declared.RelSet.{RelSet}
 use Rattle.rcc5_core.specs.RelationSet.{has, only, is_empty_set}
-use Rattle.world_model.specs.Problem.{Problem, Constraint, pairs, pair_count, cross_pairs, constraints, kept_articulations, as_constraint, narrowed, all_pairs, is_cross}
-use Rattle.world_model.specs.Family.{Family, holds, meets, table_of}
+use Rattle.world_model.specs.Problem.{Problem, pairs, pair_count, cross_pairs, narrowed, all_pairs, is_cross}
+use Rattle.world_model.specs.Family.{Family, meets, table_of}
 use Rattle.world_model.specs.Alive.{allowed}
 use Rattle.world_model.specs.Node.{pair_at}
 use Rattle.world_model.specs.Questions.{IsMet, IsPossibleRelation}
-use Rattle.world_model.proofs.Members.{here, all_at, all_from, In-left, In-right, from_append}
 use Rattle.world_model.proofs.PointSets.{some_rel, has_some}
-use Rattle.world_model.proofs.PointRules.{met_parts, met_whole}
+use Rattle.world_model.proofs.PointRules.{met_parts}
 use Rattle.world_model.proofs.PointAlive.{related}
-use Rattle.world_model.proofs.PointPositions.{has-only, relation_in}
-use Rattle.cert_rules.proofs.Relations.{one_rel, only_has}
+use Rattle.world_model.proofs.PointPositions.{relation_in}
+use Rattle.cert_rules.proofs.Narrowing.{shown_is_met, met_is_shown}
 use Rattle.mir_report.specs.Possible.{ArePossibleSets}
-
--- a family that shows a relation of a pair meets the problem with the pair narrowed to it
-pub shown_is_met : (p : Problem) (pair : ℕ × ℕ) (rel : Rel) (f : Family) → IsTrue (meets p f) → relation_in f pair ≡ rel → IsTrue (meets (narrowed p pair (only rel)) f)
-shown_is_met p pair rel f met there =
-    let m = met_parts p f met in
-    let last : Constraint = record { left = pair.0; right = pair.1; set = only rel } in
-    met_whole (narrowed p pair (only rel)) f (record {
-      fits = m.fits;
-      within = m.within;
-      apart = m.apart;
-      covered = m.covered;
-      nonempty = m.nonempty;
-      said = all_from (holds f) (constraints (narrowed p pair (only rel))) (λ c i. elim (from_append (filter_map as_constraint (kept_articulations p)) i) [
-        | inl stated ↦ all_at (holds f) m.said (In-left p.narrowings stated)
-        | inr rest ↦ elim (from_append p.narrowings rest) [
-          | inl before ↦ all_at (holds f) m.said (In-right (filter_map as_constraint (kept_articulations p)) before)
-          | inr added ↦ all_at (holds f) (and_from (holds f last) true (ap (has (only rel)) there ∙ has-only rel) refl) added
-        ]
-      ]);
-      summed = m.summed;
-    })
-
--- and the other way round
-pub met_is_shown : (p : Problem) (pair : ℕ × ℕ) (rel : Rel) (f : Family) → IsTrue (meets (narrowed p pair (only rel)) f) → IsTrue (meets p f) × (relation_in f pair ≡ rel)
-met_is_shown p pair rel f met =
-    let m = met_parts (narrowed p pair (only rel)) f met in
-    let last : Constraint = record { left = pair.0; right = pair.1; set = only rel } in
-    let stated = filter_map as_constraint (kept_articulations p) in (
-      met_whole p f (record {
-        fits = m.fits;
-        within = m.within;
-        apart = m.apart;
-        covered = m.covered;
-        nonempty = m.nonempty;
-        said = all_from (holds f) (constraints p) (λ c i. all_at (holds f) m.said (elim (from_append (filter_map as_constraint (kept_articulations p)) i) [
-          | inl one ↦ In-left (p.narrowings ++ last ∷ []) one
-          | inr one ↦ In-right (filter_map as_constraint (kept_articulations p)) (In-left (last ∷ []) one)
-        ]));
-        summed = m.summed;
-      }),
-      sym (one_rel rel (relation_in f pair) (sym (only_has rel (relation_in f pair)) ∙ all_at (holds f) m.said (In-right stated (In-right p.narrowings (here refl))))),
-    )
 
 -- the relation of a pair in the table of a family
 pub table_at : (p : Problem) (f : Family) (pair : ℕ) → pair < pair_count p → slice_get (table_of p f) pair ≡ Some (relation_in f (pair_at p pair))

@@ -24,7 +24,8 @@ use Rattle.dead_pairs.specs.declared.why.Closing.{Closing}
 use Rattle.dead_pairs.specs.Lone.{IsClosing}
 use Rattle.claim_blocks.specs.Blocks.{IsProblemOf, IsClosedSubject}
 use Rattle.mir_report.specs.Steps.{ShowsAt}
-use Rattle.mir_report.proofs.Laws.{shown_is_met, met_is_shown, possible_is_met}
+use Rattle.cert_rules.proofs.Narrowing.{shown_is_met, met_is_shown}
+use Rattle.mir_report.proofs.Laws.{possible_is_met}
 
 named : (p : Problem) (pair : ℕ) (rel : Rel) → pair < pair_count p → subject_fault p (Narrowed pair rel) ≡ None
 named p pair rel within = ap (λ b. cond b None (Some WrongSubject)) (lt-ltb pair (pair_count p) within)
