@@ -1,16 +1,16 @@
 -- A conflict after the trail went back, and what comes of it.
-use Rattle.std.proofs.Common.{◌≡◌, ◌≢◌, ◌∙◌, ℕ, ◌+◌, ◌<◌, ◌≤◌, true, false, List, [], ◌∷◌, ◌++◌, length, get_or, take, drop, Option, Some, None, sym, ap, subst, arith, inl, inr, length-take}
+use Rattle.std.proofs.Common.{◌≡◌, ◌≢◌, ◌∙◌, ℕ, ◌+◌, ◌<◌, ◌≤◌, true, List, [], ◌∷◌, ◌++◌, length, get_or, take, drop, Option, Some, None, sym, ap, subst, arith, inl, inr, length-take}
 use Rattle.std.specs.Prelude.{is_none}
 use Rattle.std.specs.Option.{option_and_then}
 use Rattle.std.specs.List.{Contains}
 use Rattle.std.proofs.lemmas.List.{take-append-drop, length_push}
 use Rattle.std.proofs.lemmas.List.Elements.{Contains-get_or}
-use Rattle.std.proofs.lemmas.Bool.{cases_lt, true≢false}
+use Rattle.std.proofs.lemmas.Bool.{cases_lt}
 use Rattle.lits_core.specs.Literals.{variable_of, negation_of}
 use Rattle.lits_core.proofs.LiteralLemmas.{variable_of-negation}
 use Rattle.clause_arena.specs.Records.{record_at}
 use Rattle.watch_arena.specs.declared.places.Place.{Place}
-use Rattle.watch_arena.specs.Places.{place_at, is_true, is_false, reason_of}
+use Rattle.watch_arena.specs.Places.{place_at, is_false, reason_of}
 use Rattle.watch_arena.specs.Trails.{TrailState, IsTrail, IsConflict, Propagates, places_up_to}
 use Rattle.watch_arena.proofs.ByIndex.{list_all_at, list_all_from}
 use Rattle.conflict_clause.specs.Taught.{level_in}
@@ -19,7 +19,7 @@ use Rattle.learn_solver.specs.Solving.{IsRefutation, AreConsistent}
 use Rattle.learn_solver.specs.Weights.{weight}
 use Rattle.learn_solver.specs.Learners.{seen, guide_of, IsSound, IsNext, IsClosed, Turns, went_back, assumed}
 use Rattle.learn_solver.proofs.TrailLemmas.{true-index, place-take, level-at, level-most, cut-at, places-few, decided-index, place_of-at}
-use Rattle.learn_solver.proofs.Cuts.{false-back, up_to-twice, up_to-true, assumed-past}
+use Rattle.learn_solver.proofs.Cuts.{false-back, up_to-twice, assumed-past}
 use Rattle.learn_solver.proofs.Guidance.{own-asked, guided-all}
 use Rattle.learn_solver.proofs.Weighing.{weight-turned, weight-longer, weight-one_more}
 use Rattle.learn_solver.proofs.Answering.{IsRefutation-closed}

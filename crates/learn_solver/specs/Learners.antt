@@ -1,10 +1,10 @@
 -- The parts of a solver: what is so of them, and what its steps keep.
-use Rattle.std.specs.Prelude.{◌≡◌, ℕ, ◌+◌, ◌*◌, ◌<◌, ◌≤◌, ◌⊎◌, Bool, true, false, List, [], ◌∷◌, ◌++◌, length, min, Option, Some, None, Contains, IsPermutation, slice_index_or, if◌then◌else◌, nat_lt, IsTrue}
+use Rattle.std.specs.Prelude.{◌≡◌, ℕ, ◌+◌, ◌*◌, ◌<◌, ◌≤◌, ◌⊎◌, Bool, true, false, List, [], ◌∷◌, ◌++◌, length, min, Option, Some, None, Contains, IsPermutation, slice_index_or, IsTrue}
 use Rattle.lits_core.specs.Literals.{variable_of, negation_of, is_negative}
 use Rattle.lits_core.specs.Derivation.{DerivedFollow}
 use Rattle.clause_arena.specs.Records.{Record, record_at, forgotten}
 use Rattle.watch_arena.specs.declared.places.Place.{Place}
-use Rattle.watch_arena.specs.Places.{place_at, is_true, is_assumed}
+use Rattle.watch_arena.specs.Places.{is_true, is_assumed}
 use Rattle.watch_arena.specs.Trails.{TrailState, places_up_to}
 use Rattle.conflict_clause.specs.Taught.{is_decided}
 use Rattle.learn_solver.specs.declared.learner.Learner.{Learner}
@@ -13,7 +13,7 @@ use Rattle.learn_solver.specs.Solving.{SolverState, GoesTo}
 use Rattle.learn_solver.specs.Answers.{IsAnswer}
 use Rattle.learn_solver.specs.States.{state_of, idle_of, is_reason}
 use Rattle.learn_solver.specs.Weights.{weight}
-use Rattle.learn_solver.specs.Guides.{Guide, IsMarked, IsGuided, lowered}
+use Rattle.learn_solver.specs.Guides.{Guide, IsGuided, lowered}
 
 -- the public part
 abbrev pub seen : Learner → SolverState

@@ -1,5 +1,5 @@
 //! The search for bits.
-ghost use Rattle.std.specs.Prelude.{◌≡◌, ◌≢◌, ◌<◌, ℕ, true, false, Some, None, length, IfOk, OnOk, IsTrue, MatchOption, Contains};
+ghost use Rattle.std.specs.Prelude.{◌≡◌, ◌≢◌, ◌<◌, ℕ, false, Some, None, length, IfOk, OnOk, IsTrue, MatchOption, Contains};
 ghost use Rattle.lits_core.specs.Literals.{variable_of, negation_of};
 ghost use Rattle.clause_arena.specs.Records.{record_at};
 ghost use Rattle.watch_arena.specs.Places.{place_of, is_true, is_false, reason_of};

@@ -1,7 +1,7 @@
 use Rattle.std.proofs.Common.{◌≡◌, ◌∙◌, ◌<◌, ◌≤◌, ℕ, List, min, take, get_or, length, ap, sym, subst, arith, length-take}
 use Rattle.std.proofs.lemmas.List.{get_or-take}
 use Rattle.learn_solver.specs.declared.learner.Learner.{Learner}
-use Rattle.learn_solver.specs.Guides.{Guide, IsMarked, passed_by, lowered}
+use Rattle.learn_solver.specs.Guides.{Guide, IsMarked, passed_by}
 use Rattle.learn_solver.specs.Learners.{guide_of, Lowers, Passes}
 use Rattle.learn_solver.proofs.StepLemmas.{Keeps, IsSound-moved, GoesTo-kept}
 use Rattle.learn_solver.proofs.Guidance.{IsMarked-lowered, IsMarked-asked, passed-lowered}

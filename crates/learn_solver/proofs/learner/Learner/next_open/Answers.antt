@@ -1,7 +1,7 @@
 use Rattle.std.proofs.Common.{◌≡◌, ◌∙◌, ◌+◌, ◌<◌, ap, sym, subst, arith, length, true, vec_len}
 use Rattle.std.proofs.lemmas.Grind.{get_or_default_zero}
 use Rattle.watch_arena.specs.Places.{is_true}
-use Rattle.watch_arena.specs.Trails.{TrailState, IsTrail}
+use Rattle.watch_arena.specs.Trails.{IsTrail}
 use Rattle.learn_solver.specs.declared.learner.Learner.{Learner}
 use Rattle.learn_solver.specs.Learners.{guide_of}
 use Rattle.learn_solver.specs.Guides.{asked_at}

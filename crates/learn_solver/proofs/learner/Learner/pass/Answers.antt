@@ -1,7 +1,7 @@
-use Rattle.std.proofs.Common.{◌≡◌, ◌∙◌, ◌+◌, ◌<◌, ℕ, min, ap, sym, subst, arith, length, true, vec_len}
+use Rattle.std.proofs.Common.{◌≡◌, ◌∙◌, ◌+◌, ◌<◌, min, ap, sym, subst, arith, length, true, vec_len}
 use Rattle.std.proofs.lemmas.Grind.{get_or_default_zero}
 use Rattle.watch_arena.specs.Places.{is_true}
-use Rattle.watch_arena.specs.Trails.{TrailState, IsTrail, places_up_to}
+use Rattle.watch_arena.specs.Trails.{IsTrail, places_up_to}
 use Rattle.learn_solver.specs.declared.learner.Learner.{Learner}
 use Rattle.learn_solver.specs.Guides.{IsMarked, IsGuided, asked_at}
 use Rattle.learn_solver.specs.Learners.{guide_of, went_back, GoesBack, Passes}

@@ -1,8 +1,5 @@
-use Rattle.std.proofs.Common.{◌∙◌, ℕ, List, Option, sym, subst}
-use Rattle.learn_solver.specs.declared.solver.Answer.{Answer}
+use Rattle.std.proofs.Common.{◌∙◌, ℕ, List, sym, subst}
 use Rattle.learn_solver.specs.Solving.{AreConsistent}
-use Rattle.learn_solver.specs.Answers.{IsAnswer}
-use Rattle.learn_solver.specs.Learners.{seen, Serves}
 use Rattle.learn_solver.proofs.Goings.{GoesTo-trans}
 use Rattle.learn_solver.proofs.learner.Learner.solve.Goals as goal
 
