@@ -289,8 +289,8 @@ IsMarked-assumed t g lit m =
     let within = m.within in
     let size : length (t.places ++ new ∷ []) ≡ length t.places + 1 = length_push t.places new in
     IsMarked-grown (by_trail t g) (assumed t lit).places (t.level + 1) m (front-push t.places new) (omega arith) (λ p le lt a.
-        let level : (place_at (assumed t lit).places p).level ≡ t.level + 1 = ap (λ (q : Place). q.level) (get_or_push t.places new no_place p (omega arith)) in
-        omega arith)
+    let level : (place_at (assumed t lit).places p).level ≡ t.level + 1 = ap (λ (q : Place). q.level) (get_or_push t.places new no_place p (omega arith)) in
+    omega arith)
 
 -- a literal is decided where all assumptions are passed
 pub IsGuided-decided : (t : TrailState) (g : Guide) (lit : ℕ) → IsGuided (by_trail t g) → g.passed ≡ length g.asked → IsGuided (by_trail (assumed t lit) g)
