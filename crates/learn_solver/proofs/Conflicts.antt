@@ -1,25 +1,26 @@
 -- A conflict after the trail went back, and what comes of it.
-use Rattle.std.proofs.Common.{◌≡◌, ◌≢◌, ◌∙◌, ℕ, ◌+◌, ◌<◌, ◌≤◌, true, false, List, [], ◌∷◌, ◌++◌, length, get_or, take, drop, Option, Some, None, sym, ap, subst, arith, inl, inr, length-take}
+use Rattle.std.proofs.Common.{◌≡◌, ◌≢◌, ◌∙◌, ℕ, ◌+◌, ◌<◌, ◌≤◌, true, List, [], ◌∷◌, ◌++◌, length, get_or, take, drop, Option, Some, None, sym, ap, subst, arith, inl, inr, length-take}
 use Rattle.std.specs.Prelude.{is_none}
 use Rattle.std.specs.Option.{option_and_then}
 use Rattle.std.specs.List.{Contains}
 use Rattle.std.proofs.lemmas.List.{take-append-drop, length_push}
 use Rattle.std.proofs.lemmas.List.Elements.{Contains-get_or}
-use Rattle.std.proofs.lemmas.Bool.{cases_lt, true≢false}
+use Rattle.std.proofs.lemmas.Bool.{cases_lt}
 use Rattle.lits_core.specs.Literals.{variable_of, negation_of}
 use Rattle.lits_core.proofs.LiteralLemmas.{variable_of-negation}
 use Rattle.clause_arena.specs.Records.{record_at}
 use Rattle.watch_arena.specs.declared.places.Place.{Place}
-use Rattle.watch_arena.specs.Places.{place_at, is_true, is_false, reason_of}
+use Rattle.watch_arena.specs.Places.{place_at, is_false, reason_of}
 use Rattle.watch_arena.specs.Trails.{TrailState, IsTrail, IsConflict, Propagates, places_up_to}
 use Rattle.watch_arena.proofs.ByIndex.{list_all_at, list_all_from}
 use Rattle.conflict_clause.specs.Taught.{level_in}
 use Rattle.learn_solver.specs.declared.learner.Learner.{Learner}
 use Rattle.learn_solver.specs.Solving.{IsRefutation, AreConsistent}
 use Rattle.learn_solver.specs.Weights.{weight}
-use Rattle.learn_solver.specs.Learners.{seen, IsSound, IsGuided, IsClosed, Turns, went_back, assumed}
+use Rattle.learn_solver.specs.Learners.{seen, guide_of, IsSound, IsNext, IsClosed, Turns, went_back, assumed}
 use Rattle.learn_solver.proofs.TrailLemmas.{true-index, place-take, level-at, level-most, cut-at, places-few, decided-index, place_of-at}
-use Rattle.learn_solver.proofs.Cuts.{false-back, up_to-twice, up_to-true, assumed-past}
+use Rattle.learn_solver.proofs.Cuts.{false-back, up_to-twice, assumed-past}
+use Rattle.learn_solver.proofs.Guidance.{own-asked, guided-all}
 use Rattle.learn_solver.proofs.Weighing.{weight-turned, weight-longer, weight-one_more}
 use Rattle.learn_solver.proofs.Answering.{IsRefutation-closed}
 
@@ -78,36 +79,29 @@ assumed-lighter t lit f =
     let size : length (t.places ++ new ∷ []) ≡ length t.places + 1 = length_push t.places new in
     weight-one_more t.variables t.places new (omega arith)
 
+-- the next assumption is one
+pub next-asked : (l : Learner) (lit : ℕ) → IsNext l lit → Contains l.asked.items lit
+next-asked l lit next = subst (Contains l.asked.items) (sym next.at) (Contains-get_or l.asked.items l.passed 0 next.within)
+
 -- a closed clause refutes, where all levels begin with assumptions
-pub IsRefutation-guided : (l : Learner) (assumptions : List ℕ) (stands : Option ℕ) (id : ℕ) → IsSound l → IsTrail l.trail → IsGuided l assumptions → l.trail.level ≤ l.guided → ((lit : ℕ) → stands ≡ Some lit → Contains assumptions (negation_of lit)) → IsClosed l.trail stands id → IsRefutation (seen l) assumptions id
-IsRefutation-guided l assumptions stands id s f g all standing c =
-    IsRefutation-closed l assumptions id c.at s c.within c.named (λ lit has. elim (c.closed lit has) [
+pub IsRefutation-guided : (l : Learner) (stands : Option ℕ) (id : ℕ) → IsSound l → IsTrail l.trail → l.trail.level ≤ l.guided → ((lit : ℕ) → stands ≡ Some lit → Contains l.asked.items (negation_of lit)) → IsClosed l.trail stands id → IsRefutation (seen l) l.asked.items id
+IsRefutation-guided l stands id s f all standing c =
+    IsRefutation-closed l l.asked.items id c.at s c.within c.named (λ lit has. elim (c.closed lit has) [
       | inl stood ↦ standing lit stood
       | inr decided ↦
           let found = decided-index l.trail.places (negation_of lit) decided in
           let most = level-most l.trail found.0 f found.1 in
-          subst (Contains assumptions) found.2 (g.own found.0 found.1 found.3 (omega arith))
+          subst (Contains l.asked.items) found.2 (own-asked l.trail (guide_of l) found.0 f s.guided.marked found.1 found.3 (omega arith))
     ])
 
 -- a false assumption was implied
-pub false-implied : (l : Learner) (assumptions : List ℕ) (lit : ℕ) → IsTrail l.trail → IsGuided l assumptions → AreConsistent assumptions → Contains assumptions lit → is_true l.trail.places lit ≡ false → is_false l.trail.places lit ≡ true → reason_of l.trail.places (variable_of lit) ≢ None
-false-implied l assumptions lit f g consistent has open_lit false_there none =
+pub false-implied : (l : Learner) (lit : ℕ) → IsTrail l.trail → IsSound l → AreConsistent l.asked.items → IsNext l lit → is_false l.trail.places lit ≡ true → reason_of l.trail.places (variable_of lit) ≢ None
+false-implied l lit f s consistent next false_there none =
     let found = true-index l.trail.places (negation_of lit) false_there in
     let one : variable_of (place_at l.trail.places found.0).lit ≡ variable_of lit = ap variable_of found.2 ∙ variable_of-negation lit in
     let place = place_of-at l.trail found.0 (variable_of lit) f found.1 one in
     let reason : (place_at l.trail.places found.0).reason ≡ None = sym (ap (λ (o : Option ℕ). option_and_then (λ k. (place_at l.trail.places k).reason) o) place) ∙ none in
     let most = level-most l.trail found.0 f found.1 in
-    let guided : l.trail.level ≤ l.guided = elim (cases_lt l.guided l.trail.level) [
-      | inl more ↦ absurd (true≢false (sym (up_to-true l.trail l.guided lit f (g.free more lit has)) ∙ open_lit))
-      | inr all ↦ all
-    ] in
-    let own = g.own found.0 found.1 (ap is_none reason) (omega arith) in
-    consistent lit has (subst (Contains assumptions) found.2 own)
-
--- an assumption that is not true leaves all levels to assumptions
-pub open-guided : (l : Learner) (assumptions : List ℕ) (lit : ℕ) → IsTrail l.trail → IsGuided l assumptions → Contains assumptions lit → is_true l.trail.places lit ≡ false → l.guided ≡ l.trail.level
-open-guided l assumptions lit f g has open_lit =
-    elim (cases_lt l.guided l.trail.level) [
-      | inl more ↦ absurd (true≢false (sym (up_to-true l.trail l.guided lit f (g.free more lit has)) ∙ open_lit))
-      | inr all ↦ let within = g.within in omega arith
-    ]
+    let guided = guided-all (guide_of l) s.guided next.within in
+    let own = own-asked l.trail (guide_of l) found.0 f s.guided.marked found.1 (ap is_none reason) (omega arith) in
+    consistent lit (next-asked l lit next) (subst (Contains l.asked.items) found.2 own)

@@ -11,7 +11,8 @@ use Rattle.watch_arena.specs.Trails.{SameRecords, Adds}
 use Rattle.learn_solver.specs.declared.learner.Learner.{Learner}
 use Rattle.learn_solver.specs.Solving.{SolverState, AddsGiven, IsSolver}
 use Rattle.learn_solver.specs.States.{state_of, idle_of}
-use Rattle.learn_solver.specs.Learners.{seen, IsSound, AreRecords, AreNoted}
+use Rattle.learn_solver.specs.Guides.{IsGuided}
+use Rattle.learn_solver.specs.Learners.{seen, IsSound, AreRecords, AreNoted, guide_of}
 use Rattle.learn_solver.proofs.SameStates.{SameState-records}
 use Rattle.learn_solver.proofs.RecordLemmas.{AreRecords-same, AreUpTo-same, AreUpTo-more, AreRecords-given, AreNoted-same, AreNoted-given, given-all, state-given}
 use Rattle.learn_solver.proofs.Idle.{idle_of-none, distinct-state, state-from_one, idle-derived, idle-distinct}
@@ -54,8 +55,8 @@ unfolding state_of
 given-count records given le = simp (length-map, length-take) (omega arith)
 
 -- one more given clause, among sound parts
-pub IsSound-given : (old new : Learner) (lits : List ℕ) (id : ℕ) → IsSound old → (state_of old.trail.records old.given).derived ≡ [] → id ≡ old.given + 1 → old.last ≤ new.last → id ≤ new.last → Adds old.trail new.trail lits id → new.given ≡ length new.trail.records → new.variables ≡ old.variables → new.analyzer ≡ old.analyzer → length new.order ≡ length old.order → ((v : ℕ) → get_or old.order v false ≡ true → get_or new.order v false ≡ true) → ((lit : ℕ) → Contains lits lit → is_negative lit ≡ false → get_or new.order (variable_of lit) false ≡ true) → IsSound new
-IsSound-given old new lits id s none fresh last_le id_le adds given variables analyzer order kept noted =
+pub IsSound-given : (old new : Learner) (lits : List ℕ) (id : ℕ) → IsSound old → (state_of old.trail.records old.given).derived ≡ [] → id ≡ old.given + 1 → old.last ≤ new.last → id ≤ new.last → Adds old.trail new.trail lits id → new.given ≡ length new.trail.records → new.variables ≡ old.variables → new.analyzer ≡ old.analyzer → length new.order ≡ length old.order → ((v : ℕ) → get_or old.order v false ≡ true → get_or new.order v false ≡ true) → ((lit : ℕ) → Contains lits lit → is_negative lit ≡ false → get_or new.order (variable_of lit) false ≡ true) → guide_of new ≡ guide_of old → IsSound new
+IsSound-given old new lits id s none fresh last_le id_le adds given variables analyzer order kept noted guide =
     let most = given-all old.trail.records old.given none in
     let enough = s.records.enough in
     let count = adds.records.count in
@@ -71,6 +72,7 @@ IsSound-given old new lits id s none fresh last_le id_le adds given variables an
       records = subst (λ (n : ℕ). AreRecords new.trail.records n) (sym more) records;
       last = AreUpTo-same (old.trail.records ++ new_record id lits ∷ []) new.trail.records new.last (AreUpTo-more old.trail.records old.last new.last id lits s.last last_le id_le) adds.records;
       noted = subst (λ (n : ℕ). AreNoted new.trail.records n new.order) (sym more) flags;
+      guided = subst IsGuided (sym guide) s.guided;
     }
 
 -- and it is all that is added

@@ -1,19 +1,28 @@
 -- What stays known of the assumptions.
-use Rattle.std.proofs.Common.{◌≡◌, ◌∙◌, ℕ, ◌+◌, ◌<◌, ◌≤◌, Bool, true, false, cond, min, List, [], ◌∷◌, ◌++◌, length, get_or, take, drop, Option, Some, None, refl, sym, ap, subst, arith, inl, inr, length-take, length-append}
-use Rattle.std.specs.Prelude.{nat_lt, nat_le, MatchOption, is_none}
+use Rattle.std.proofs.Common.{◌≡◌, ◌∙◌, ℕ, zero, suc, ◌+◌, ◌-◌, ◌<◌, ◌≤◌, Bool, true, false, min, List, [], ◌∷◌, ◌++◌, length, get_or, take, drop, Option, Some, None, refl, sym, ap, subst, arith, inl, inr, length-take, length-append}
+use Rattle.std.specs.Prelude.{◌==◌, ◌||◌, nat_le, MatchOption, is_none}
+use Rattle.std.specs.Option.{option_and_then}
 use Rattle.std.specs.List.{Contains}
-use Rattle.std.proofs.lemmas.List.{take_all, take-append-drop, take-append-le, length_push, get_or_append_left, get_or_push}
+use Rattle.std.proofs.lemmas.List.{take_all, take-append-drop, take-append-le, length_push, get_or_append_left, get_or_push, get_or_default, get_or_past, length-map}
+use Rattle.std.proofs.lemmas.List.Sums.{count_by_more_no}
 use Rattle.std.proofs.lemmas.List.Elements.{filter-append, Contains-get_or}
-use Rattle.std.proofs.lemmas.Bool.{cases_eq, cases_lt, true≢false}
-use Rattle.std.proofs.lemmas.Bool.Decides.{nat_tests}
+use Rattle.std.proofs.lemmas.Bool.{cases_Bool, cases_lt, true≢false}
 use Rattle.watch_arena.specs.declared.places.Place.{Place}
-use Rattle.watch_arena.specs.Places.{place_at, no_place, is_true, is_assumed}
+use Rattle.watch_arena.specs.Places.{place_at, no_place, is_true, is_assumed, level_of, places_with}
 use Rattle.watch_arena.specs.Trails.{TrailState, IsTrail, Propagates, places_up_to}
 use Rattle.watch_arena.proofs.Watching.{index_of}
-use Rattle.learn_solver.specs.declared.learner.Learner.{Learner}
-use Rattle.learn_solver.specs.Learners.{IsGuided, GoesBack, went_back, assumed, Follows}
-use Rattle.learn_solver.proofs.TrailLemmas.{true-index, true-at, place-take, true-more, cut-at, level-most, assumed-level}
+use Rattle.learn_solver.specs.Guides.{Guide, IsMarked, IsGuided, passed_by, asked_at, lowered, begun}
+use Rattle.learn_solver.specs.Learners.{went_back, assumed}
+use Rattle.learn_solver.proofs.TrailLemmas.{true-index, true-at, place-take, cut-at, level-most, assumed-level, assumed-once}
 use Rattle.learn_solver.proofs.Cuts.{up_to-within, up_to-all, up_to-twice, up_to-true}
+
+-- the same by the places of another trail
+abbrev pub by_trail : TrailState → Guide → Guide
+by_trail t g = record g { places = t.places; level = t.level }
+
+-- the same by the same places
+pub guide-same : (t u : TrailState) (g : Guide) → u.places ≡ t.places → u.level ≡ t.level → by_trail u g ≡ by_trail t g
+guide-same t u g places level = ap (λ (ps : List Place). record g { places = ps; level = u.level }) places ∙ ap (λ (n : ℕ). record g { places = t.places; level = n }) level
 
 -- a filter passes what is true on to longer lists
 pub up_to-grown : (old more : List Place) (level lit : ℕ) → is_true (places_up_to old level) lit ≡ true → is_true (places_up_to (old ++ more) level) lit ≡ true
@@ -26,11 +35,11 @@ up_to-grown old more level lit h =
     (ap (λ (p : Place). p.lit) (get_or_append_left (places_up_to old level) (places_up_to more level) no_place found.0 lt) ∙ found.2)
 
 -- an implied place was not assumed
-implied-not_assumed : (p : Place) (P : ℕ → Type 0) → MatchOption p.reason ⊥ P → is_assumed p ≡ false
+implied-not_assumed : (p : Place) (P : ℕ → Type 0) → MatchOption p.reason ⊥ P → is_assumed p ≡ true → ⊥
 implied-not_assumed p P h = go p.reason h where
-  go : (o : Option ℕ) → MatchOption o ⊥ P → is_none o ≡ false
-  go None h = absurd h
-  go (Some at) h = refl
+  go : (o : Option ℕ) → MatchOption o ⊥ P → is_none o ≡ true → ⊥
+  go None h a = h
+  go (Some at) h a = absurd (true≢false (sym a))
 
 -- longer places whose first ones stand: the rest of a list
 split-front : (old new : List Place) → take (length old) new ≡ old → new ≡ old ++ drop (length old) new
@@ -40,213 +49,371 @@ split-front old new front = sym (take-append-drop (length old) new) ∙ ap (λ (
 front-push : (places : List Place) (new : Place) → take (length places) (places ++ new ∷ []) ≡ places
 front-push places new = take-append-le (length places) places (new ∷ []) (omega arith) ∙ take_all (length places) places (omega arith)
 
--- an assumed place that stays is an assumption's
-own-back : (t : TrailState) (assumptions : List ℕ) (level most guided : ℕ) → IsTrail t → ((p : ℕ) → p < length t.places → is_assumed (place_at t.places p) ≡ true → (place_at t.places p).level ≤ most → Contains assumptions (place_at t.places p).lit) → guided ≤ most → (p : ℕ) → p < length (places_up_to t.places level) → is_assumed (place_at (places_up_to t.places level) p) ≡ true → (place_at (places_up_to t.places level) p).level ≤ guided → Contains assumptions (place_at (places_up_to t.places level) p).lit
-own-back t assumptions level most guided f own le p lt a up =
-    let cut = cut-at t level f in
-    let inside = cut.1.within in
-    let size : length (places_up_to t.places level) ≡ cut.0 = ap length cut.1.same ∙ (simp length-take (omega arith)) in
-    let same : place_at (places_up_to t.places level) p ≡ place_at t.places p = ap (λ (ps : List Place). place_at ps p) cut.1.same ∙ place-take t.places cut.0 p (omega arith) in
-    let here : (place_at (places_up_to t.places level) p).level ≡ (place_at t.places p).level = ap (λ (q : Place). q.level) same in
-    subst (Contains assumptions) (ap (λ (q : Place). q.lit) (sym same)) (own p (omega arith) (ap is_assumed (sym same) ∙ a) (omega arith))
+-- a read of the first elements, with a default that is read past them
+read-first : (marks : List ℕ) (level k d : ℕ) → get_or (take level marks) k (get_or marks level d) ≡ get_or marks (min k level) d
+read-first marks zero k d = ap (λ (n : ℕ). get_or marks n d) (let none : 0 ≡ min k 0 = omega arith in none)
+read-first [] (suc level) k d = refl
+read-first (m ∷ marks) (suc level) zero d = ap (λ (n : ℕ). get_or (m ∷ marks) n d) (let none : 0 ≡ min 0 (suc level) = omega arith in none)
+read-first (m ∷ marks) (suc level) (suc k) d = read-first marks level k d ∙ ap (λ (n : ℕ). get_or (m ∷ marks) n d) (let next : suc (min k level) ≡ min (suc k) (suc level) = omega arith in next)
 
--- an assumption that was passed stays true
-passed-back : (old : Learner) (assumptions : List ℕ) (level : ℕ) → IsTrail old.trail → IsGuided old assumptions → old.guided ≤ level → level ≤ old.trail.level → (lit : ℕ) → Contains assumptions lit → is_true old.trail.places lit ≡ true → is_true (places_up_to old.trail.places level) lit ≡ true
-passed-back old assumptions level f g above le lit has on =
-    elim (cases_lt old.guided old.trail.level) [
-      | inl more ↦ up_to-within old.trail old.guided level lit f above (g.free more lit has)
-      | inr none ↦ ap (λ (ps : List Place). is_true ps lit) (up_to-all old.trail level f (omega arith)) ∙ on
-    ]
+-- one more element, which is the default
+read-more : (marks : List ℕ) (k d : ℕ) → get_or (marks ++ d ∷ []) k d ≡ get_or marks k d
+read-more [] zero d = refl
+read-more [] (suc k) d = refl
+read-more (m ∷ marks) zero d = refl
+read-more (m ∷ marks) (suc k) d = read-more marks k d
 
--- more places that are implied keep what is known
-pub IsGuided-grown : (old new : Learner) (assumptions : List ℕ) → IsGuided old assumptions → take (length old.trail.places) new.trail.places ≡ old.trail.places → new.trail.level ≡ old.trail.level → ((p : ℕ) → length old.trail.places ≤ p → p < length new.trail.places → is_assumed (place_at new.trail.places p) ≡ false) → new.passed ≡ old.passed → new.guided ≡ old.guided → IsGuided new assumptions
-IsGuided-grown old new assumptions g front level implied passed guided =
-    let within = g.within in
-    let few = g.few in
-    let split = split-front old.trail.places new.trail.places front in
+-- what all levels pass
+passed-all : (g : Guide) (k : ℕ) → IsMarked g → g.guided ≤ k → passed_by g k ≡ g.passed
+passed-all g k m le = let count = m.counted in get_or_past g.marks k g.passed (omega arith)
+
+-- at the start
+pub IsGuided-none : (g : Guide) → g.level ≡ 0 → g.guided ≡ 0 → g.passed ≡ 0 → g.marks ≡ [] → IsGuided g
+IsGuided-none g level guided passed marks =
+    let none : (k : ℕ) → passed_by g k ≡ 0 = λ k. ap (λ (ms : List ℕ). get_or ms k g.passed) marks ∙ passed in
     record {
-      within = omega arith;
-      few = omega arith;
-      passed = λ i lt. true-more old.trail.places new.trail.places (get_or assumptions i 0) front (g.passed i (omega arith));
-      own = λ p lt on le. elim (cases_lt p (length old.trail.places)) [
-        | inl early ↦
-            let same : place_at new.trail.places p ≡ place_at old.trail.places p = sym (place-take new.trail.places (length old.trail.places) p early) ∙ ap (λ (ps : List Place). place_at ps p) front in
-            let lit = ap (λ (q : Place). q.lit) same in
-            let up : (place_at new.trail.places p).level ≡ (place_at old.trail.places p).level = ap (λ (q : Place). q.level) same in
-            subst (Contains assumptions) (sym lit) (g.own p early (ap is_assumed (sym same) ∙ on) (omega arith))
-        | inr late ↦ absurd (true≢false (sym on ∙ implied p late lt))
-      ];
-      free = λ lt lit has.
-          let was = g.free (omega arith) lit has in
-          ap (λ (ps : List Place). is_true (places_up_to ps new.guided) lit) split
-          ∙ up_to-grown old.trail.places (drop (length old.trail.places) new.trail.places) new.guided lit (ap (λ (m : ℕ). is_true (places_up_to old.trail.places m) lit) guided ∙ was);
-    }
-
--- propagation keeps it
-pub IsGuided-propagated : (old new : Learner) (assumptions : List ℕ) → IsGuided old assumptions → Propagates old.trail new.trail → new.passed ≡ old.passed → new.guided ≡ old.guided → IsGuided new assumptions
-IsGuided-propagated old new assumptions g k passed guided =
-    IsGuided-grown old new assumptions g k.places k.level (λ p ge lt. implied-not_assumed (place_at new.trail.places p) _ (k.implied p ge lt)) passed guided
-
--- the same places
-pub IsGuided-kept : (old new : Learner) (assumptions : List ℕ) → IsGuided old assumptions → new.trail.places ≡ old.trail.places → new.trail.level ≡ old.trail.level → new.passed ≡ old.passed → new.guided ≡ old.guided → IsGuided new assumptions
-IsGuided-kept old new assumptions g places level passed guided =
-    let size = ap length places in
-    IsGuided-grown old new assumptions g (take_all (length old.trail.places) new.trail.places (omega arith) ∙ places) level (λ p ge lt. absurd (omega arith)) passed guided
-
--- one more implied place
-pub IsGuided-implied : (old new : Learner) (assumptions : List ℕ) (last : Place) → IsGuided old assumptions → new.trail.places ≡ old.trail.places ++ last ∷ [] → is_assumed last ≡ false → new.trail.level ≡ old.trail.level → new.passed ≡ old.passed → new.guided ≡ old.guided → IsGuided new assumptions
-IsGuided-implied old new assumptions last g places implied level passed guided =
-    let size : length new.trail.places ≡ length old.trail.places + 1 = ap length places ∙ length_push old.trail.places last in
-    IsGuided-grown old new assumptions g
-    (ap (take (length old.trail.places)) places ∙ take-append-le (length old.trail.places) old.trail.places (last ∷ []) (omega arith) ∙ take_all (length old.trail.places) old.trail.places (omega arith))
-    level
-    (λ p ge lt. ap (λ (ps : List Place). is_assumed (place_at ps p)) places ∙ ap is_assumed (get_or_push old.trail.places last no_place p (omega arith)) ∙ implied)
-    passed guided
-
--- going back keeps what is known up to the level
-pub IsGuided-back : (old new : Learner) (assumptions : List ℕ) (level : ℕ) → IsTrail old.trail → level ≤ old.trail.level → IsGuided old assumptions → GoesBack old new level → IsGuided new assumptions
-IsGuided-back old new assumptions level f le g e = subst (λ (l : Learner). IsGuided l assumptions) (sym e) (went old assumptions level f le g) where
-  went : (old : Learner) (assumptions : List ℕ) (level : ℕ) → IsTrail old.trail → level ≤ old.trail.level → IsGuided old assumptions → IsGuided (record old { trail = went_back old.trail level; passed = cond (nat_lt level old.guided) 0 old.passed; guided = min old.guided level }) assumptions
-  went old assumptions level f le g =
-      let cut = cut-at old.trail level f in
-      let inside = cut.1.within in
-      let size : length (places_up_to old.trail.places level) ≡ cut.0 = ap length cut.1.same ∙ (simp length-take (omega arith)) in
-      let within = g.within in
-      let few = g.few in
-      elim (cases_lt level old.guided) [
-        | inl below ↦
-            let on : nat_lt level old.guided ≡ true = grind (arith, nat_tests) in
-            let least : min old.guided level ≡ level = omega arith in
-            let none : cond (nat_lt level old.guided) 0 old.passed ≡ 0 = ap (λ (b : Bool). cond b 0 old.passed) on in
-            record {
-              within = omega arith;
-              few = omega arith;
-              passed = λ i lt. absurd (omega arith);
-              own = λ p lt a up. own-back old.trail assumptions level old.guided (min old.guided level) f g.own (omega arith) p lt a up;
-              free = λ lt. absurd (omega arith);
-            }
-        | inr above ↦
-            let off : nat_lt level old.guided ≡ false = grind (arith, nat_tests) in
-            let same : min old.guided level ≡ old.guided = omega arith in
-            let stays : cond (nat_lt level old.guided) 0 old.passed ≡ old.passed = ap (λ (b : Bool). cond b 0 old.passed) off in
-            record {
-              within = omega arith;
-              few = omega arith;
-              passed = λ i lt. passed-back old assumptions level f g above le (get_or assumptions i 0) (Contains-get_or assumptions i 0 (omega arith)) (g.passed i (omega arith));
-              own = λ p lt a up. own-back old.trail assumptions level old.guided (min old.guided level) f g.own (omega arith) p lt a up;
-              free = λ lt lit has.
-                  ap (λ (n : ℕ). is_true (places_up_to (places_up_to old.trail.places level) n) lit) same
-                  ∙ ap (λ (ps : List Place). is_true ps lit) (up_to-twice old.trail old.guided level f above)
-                  ∙ g.free (omega arith) lit has;
-            }
-      ]
-
--- a literal is assumed as an assumption
-pub IsGuided-assumed : (old : Learner) (assumptions : List ℕ) (lit : ℕ) → IsTrail old.trail → IsGuided old assumptions → old.guided ≡ old.trail.level → Contains assumptions lit → IsGuided (record old { trail = assumed old.trail lit; guided = old.trail.level + 1 }) assumptions
-IsGuided-assumed old assumptions lit f g all has =
-    let new : Place = record { lit = lit; level = old.trail.level + 1; reason = None } in
-    let few = g.few in
-    let size : length (old.trail.places ++ new ∷ []) ≡ length old.trail.places + 1 = length_push old.trail.places new in
-    record {
-      within = omega arith;
-      few = g.few;
-      passed = λ i lt. true-more old.trail.places (old.trail.places ++ new ∷ []) (get_or assumptions i 0) (front-push old.trail.places new) (g.passed i lt);
-      own = λ p lt a up. elim (cases_lt p (length old.trail.places)) [
-        | inl early ↦
-            let same : place_at (old.trail.places ++ new ∷ []) p ≡ place_at old.trail.places p = get_or_append_left old.trail.places (new ∷ []) no_place p early in
-            let most = level-most old.trail p f early in
-            subst (Contains assumptions) (ap (λ (q : Place). q.lit) (sym same)) (g.own p early (ap is_assumed (sym same) ∙ a) (omega arith))
-        | inr late ↦
-            let same : place_at (old.trail.places ++ new ∷ []) p ≡ new = get_or_push old.trail.places new no_place p (omega arith) in
-            subst (Contains assumptions) (ap (λ (q : Place). q.lit) (sym same)) has
-      ];
+      marked = record {
+        within = omega arith;
+        counted = ap length marks ∙ sym guided;
+        few = omega arith;
+        rising = λ a b le. let low = none a in omega arith;
+        passed = λ k number le lt. let low = none k in absurd (omega arith);
+        named = λ k lt. absurd (omega arith);
+        own = λ p k lt a is below. absurd (omega arith);
+      };
       free = λ lt. absurd (omega arith);
     }
 
--- a literal is decided where all assumptions are true
-pub IsGuided-decided : (old : Learner) (assumptions : List ℕ) (lit : ℕ) → IsTrail old.trail → IsGuided old assumptions → ((a : ℕ) → Contains assumptions a → is_true old.trail.places a ≡ true) → IsGuided (record old { trail = assumed old.trail lit }) assumptions
-IsGuided-decided old assumptions lit f g all =
-    let new : Place = record { lit = lit; level = old.trail.level + 1; reason = None } in
-    let few = g.few in
-    let within = g.within in
-    let size : length (old.trail.places ++ new ∷ []) ≡ length old.trail.places + 1 = length_push old.trail.places new in
+-- more places that no known level begins with
+pub IsMarked-grown : (g : Guide) (places : List Place) (level : ℕ) → IsMarked g → take (length g.places) places ≡ g.places → g.level ≤ level → ((p : ℕ) → length g.places ≤ p → p < length places → is_assumed (place_at places p) ≡ true → g.guided < (place_at places p).level) → IsMarked (record g { places = places; level = level })
+IsMarked-grown g places level m front up new =
+    let within = m.within in
     record {
       within = omega arith;
-      few = g.few;
-      passed = λ i lt. true-more old.trail.places (old.trail.places ++ new ∷ []) (get_or assumptions i 0) (front-push old.trail.places new) (g.passed i lt);
-      own = λ p lt a up. elim (cases_lt p (length old.trail.places)) [
+      counted = m.counted;
+      few = m.few;
+      rising = m.rising;
+      passed = λ k number le lt.
+          ap (λ (ps : List Place). is_true (places_up_to ps k) (asked_at g number)) (split-front g.places places front)
+          ∙ up_to-grown g.places (drop (length g.places) places) k (asked_at g number) (m.passed k number le lt);
+      named = m.named;
+      own = λ p k lt a is below. elim (cases_lt p (length g.places)) [
         | inl early ↦
-            let same : place_at (old.trail.places ++ new ∷ []) p ≡ place_at old.trail.places p = get_or_append_left old.trail.places (new ∷ []) no_place p early in
-            let here : (place_at (old.trail.places ++ new ∷ []) p).level ≡ (place_at old.trail.places p).level = ap (λ (q : Place). q.level) same in
-            subst (Contains assumptions) (ap (λ (q : Place). q.lit) (sym same)) (g.own p early (ap is_assumed (sym same) ∙ a) (omega arith))
-        | inr late ↦
-            let same : (place_at (old.trail.places ++ new ∷ []) p).level ≡ old.trail.level + 1 = ap (λ (q : Place). q.level) (get_or_push old.trail.places new no_place p (omega arith)) in
-            absurd (omega arith)
+            let same : place_at places p ≡ place_at g.places p = sym (place-take places (length g.places) p early) ∙ ap (λ (ps : List Place). place_at ps p) front in
+            ap (λ (q : Place). q.lit) same ∙ m.own p k early (ap is_assumed (sym same) ∙ a) (ap (λ (q : Place). q.level) (sym same) ∙ is) below
+        | inr late ↦ let past = new p late lt a in absurd (omega arith)
       ];
-      free = λ lt a has. up_to-grown old.trail.places (new ∷ []) old.guided a (elim (cases_lt old.guided old.trail.level) [
-        | inl more ↦ g.free more a has
-        | inr none ↦ ap (λ (ps : List Place). is_true ps a) (up_to-all old.trail old.guided f none) ∙ all a has
-      ]);
     }
 
--- the first assumptions are true by the levels that are known to begin with assumptions
-pub record Follow (l : Learner) (assumptions : List ℕ) (n : ℕ) : Type 0 where
-  pub within : l.guided ≤ l.trail.level
-  pub passed : (i : ℕ) → i < n → is_true (places_up_to l.trail.places l.guided) (get_or assumptions i 0) ≡ true
-  pub own : (p : ℕ) → p < length l.trail.places → is_assumed (place_at l.trail.places p) ≡ true → (place_at l.trail.places p).level ≤ l.guided → Contains assumptions (place_at l.trail.places p).lit
+-- what is known by fewer levels
+pub passed-lowered : (g : Guide) (level k : ℕ) → passed_by (lowered g level) k ≡ passed_by g (min k level)
+passed-lowered g level k = read-first g.marks level k g.passed
 
--- at the start none is, and no assumed place is of level 0
-pub Follow-none : (l : Learner) (assumptions : List ℕ) → IsTrail l.trail → l.guided ≡ 0 → Follow l assumptions 0
-Follow-none l assumptions f none = record {
-  within = omega arith;
-  passed = λ i lt. absurd (omega arith);
-  own = λ p lt a up. let level = assumed-level l.trail p f lt a in absurd (omega arith);
-}
-
--- one more
-pub Follow-more : (old new : Learner) (assumptions : List ℕ) (n : ℕ) → IsTrail new.trail → new.trail ≡ old.trail → n < length assumptions → Follow old assumptions n → Follows old new (get_or assumptions n 0) → Follow new assumptions (n + 1)
-Follow-more old new assumptions n f same lt h s =
-    let grown = s.grown in
+pub IsMarked-lowered : (g : Guide) (level : ℕ) → IsMarked g → IsMarked (lowered g level)
+IsMarked-lowered g level m =
+    let within = m.within in
+    let few = m.few in
+    let count = m.counted in
+    let below : (k : ℕ) → k ≤ level → passed_by (lowered g level) k ≡ passed_by g k = λ k le. passed-lowered g level k ∙ (let one : min k level ≡ k = omega arith in ap (passed_by g) one) in
     record {
-      within = s.within;
-      passed = λ i below. elim (cases_eq i n) [
-        | inl e ↦ ap (λ (k : ℕ). is_true (places_up_to new.trail.places new.guided) (get_or assumptions k 0)) e ∙ s.true_there
-        | inr ne ↦ up_to-within new.trail old.guided new.guided (get_or assumptions i 0) f grown (ap (λ (t : TrailState). is_true (places_up_to t.places old.guided) (get_or assumptions i 0)) same ∙ h.passed i (omega arith))
+      within = omega arith;
+      counted = (let size : length (take level g.marks) ≡ _ = length-take level g.marks in omega arith);
+      few = (let most = m.rising level (level + g.guided) (omega arith) in let all = passed-all g (level + g.guided) m (omega arith) in omega arith);
+      rising = λ a b le. let one = passed-lowered g level a in let two = passed-lowered g level b in let up = m.rising (min a level) (min b level) (omega arith) in omega arith;
+      passed = λ k number le lt. let same = below k (omega arith) in m.passed k number (omega arith) (omega arith);
+      named = λ k lt. let same = below k (omega arith) in let named = m.named k (omega arith) in omega arith;
+      own = λ p k lt a is up. m.own p k lt a is (omega arith) ∙ ap (asked_at g) (sym (below k (omega arith)));
+    }
+
+-- the places past a level that no assumption begins go
+pub IsMarked-back : (t : TrailState) (g : Guide) (level : ℕ) → IsTrail t → g.guided ≤ level → IsMarked (by_trail t g) → IsMarked (by_trail (went_back t level) g)
+IsMarked-back t g level f above m =
+    let cut = cut-at t level f in
+    let inside = cut.1.within in
+    let size : length (places_up_to t.places level) ≡ cut.0 = ap length cut.1.same ∙ (simp length-take (omega arith)) in
+    record {
+      within = above;
+      counted = m.counted;
+      few = m.few;
+      rising = m.rising;
+      passed = λ k number le lt.
+          ap (λ (ps : List Place). is_true ps (asked_at g number)) (up_to-twice t k level f (omega arith))
+          ∙ m.passed k number le lt;
+      named = m.named;
+      own = λ p k lt a is below.
+          let same : place_at (places_up_to t.places level) p ≡ place_at t.places p = ap (λ (ps : List Place). place_at ps p) cut.1.same ∙ place-take t.places cut.0 p (omega arith) in
+          ap (λ (q : Place). q.lit) same ∙ m.own p k (omega arith) (ap is_assumed (sym same) ∙ a) (ap (λ (q : Place). q.level) (sym same) ∙ is) below;
+    }
+
+-- one level more begins with the next assumption
+pub IsMarked-begun : (t : TrailState) (g : Guide) (p : ℕ) → IsTrail t → IsMarked (by_trail t g) → p < length t.places → is_assumed (place_at t.places p) ≡ true → (place_at t.places p).level ≡ g.guided + 1 → (place_at t.places p).lit ≡ asked_at g g.passed → g.passed < length g.asked → IsMarked (by_trail t (begun g))
+IsMarked-begun t g p f m lt a level lit next =
+    let most = level-most t p f lt in
+    let count = m.counted in
+    let same : (k : ℕ) → passed_by (begun g) k ≡ passed_by g k = λ k. read-more g.marks k g.passed in
+    let all : (k : ℕ) → g.guided ≤ k → passed_by g k ≡ g.passed = λ k le. passed-all (by_trail t g) k m le in
+    record {
+      within = omega arith;
+      counted = length_push g.marks g.passed ∙ (omega arith);
+      few = m.few;
+      rising = λ x y le. let one = same x in let two = same y in let up = m.rising x y le in omega arith;
+      passed = λ k number le below. let one = same k in elim (cases_lt g.guided k) [
+        | inl more ↦
+            let here = all k (omega arith) in
+            let there = all g.guided (omega arith) in
+            up_to-within t g.guided k (asked_at g number) f (omega arith) (m.passed g.guided number (omega arith) (omega arith))
+        | inr few ↦ m.passed k number few (omega arith)
       ];
-      own = λ p below a up. elim (cases_lt old.guided (place_at new.trail.places p).level) [
-        | inl past ↦ subst (Contains assumptions) (s.own p below a past up) (Contains-get_or assumptions n 0 lt)
-        | inr low ↦ subst (λ (t : TrailState). (p : ℕ) → p < length t.places → is_assumed (place_at t.places p) ≡ true → (place_at t.places p).level ≤ old.guided → Contains assumptions (place_at t.places p).lit) (sym same) h.own p below a low
+      named = λ k below. let one = same k in elim (cases_lt k g.guided) [
+        | inl few ↦ let named = m.named k few in omega arith
+        | inr more ↦ let here = all k more in omega arith
+      ];
+      own = λ q k within on is below. elim (cases_lt k g.guided) [
+        | inl few ↦ m.own q k within on is few ∙ ap (asked_at g) (sym (same k))
+        | inr more ↦
+            let once = assumed-once t q p f within lt on a (omega arith) in
+            ap (λ (n : ℕ). (place_at t.places n).lit) once ∙ lit ∙ ap (asked_at g) (sym (same k ∙ all k more))
       ];
     }
 
--- all of them are
-pub IsGuided-all : (l : Learner) (assumptions : List ℕ) → IsTrail l.trail → Follow l assumptions (length assumptions) → l.passed ≡ length assumptions → IsGuided l assumptions
-IsGuided-all l assumptions f h count = record {
-  within = h.within;
-  few = omega arith;
-  passed = λ i lt. up_to-true l.trail l.guided (get_or assumptions i 0) f (h.passed i (omega arith));
-  own = h.own;
-  free = λ more lit has. let index = index_of assumptions lit has in ap (is_true (places_up_to l.trail.places l.guided)) (sym index.2) ∙ h.passed index.0 index.1;
+-- one assumption more is passed
+pub IsMarked-passed : (g : Guide) → IsMarked g → g.passed < length g.asked → is_true (places_up_to g.places g.guided) (asked_at g g.passed) ≡ true → IsMarked (record g { passed = g.passed + 1 })
+IsMarked-passed g m next on =
+    let new : Guide = record g { passed = g.passed + 1 } in
+    let count = m.counted in
+    let below : (k : ℕ) → k < g.guided → passed_by new k ≡ passed_by g k = λ k lt. get_or_default g.marks k (g.passed + 1) g.passed (omega arith) in
+    let above : (k : ℕ) → g.guided ≤ k → passed_by new k ≡ g.passed + 1 = λ k le. get_or_past g.marks k (g.passed + 1) (omega arith) in
+    let all : (k : ℕ) → passed_by g k ≤ g.passed = λ k. let up = m.rising k (k + g.guided) (omega arith) in let most = passed-all g (k + g.guided) m (omega arith) in omega arith in
+    record {
+      within = m.within;
+      counted = m.counted;
+      few = omega arith;
+      rising = λ a b le. elim (cases_lt b g.guided) [
+        | inl low ↦ let one = below a (omega arith) in let two = below b low in let up = m.rising a b le in omega arith
+        | inr high ↦ let two = above b high in elim (cases_lt a g.guided) [
+          | inl low ↦ let one = below a low in let most = all a in omega arith
+          | inr past ↦ let one = above a past in omega arith
+        ]
+      ];
+      passed = λ k number le lt. elim (cases_lt k g.guided) [
+        | inl low ↦ let one = below k low in m.passed k number le (omega arith)
+        | inr high ↦
+            let same : k ≡ g.guided = omega arith in
+            let one = above k high in
+            let here = passed-all g k m high in
+            elim (cases_lt number g.passed) [
+              | inl early ↦ m.passed k number le (omega arith)
+              | inr last ↦
+                  let it : number ≡ g.passed = omega arith in
+                  ap (λ (n : ℕ). is_true (places_up_to g.places n) (asked_at g number)) same ∙ ap (λ (n : ℕ). is_true (places_up_to g.places g.guided) (asked_at g n)) it ∙ on
+            ]
+      ];
+      named = λ k lt. let one = below k lt in let named = m.named k lt in omega arith;
+      own = λ p k lt a is up. m.own p k lt a is up ∙ ap (asked_at g) (sym (below k up));
+    }
+
+-- other assumptions, of which the first are the same, where all levels begin with one of these
+pub IsMarked-asked : (g : Guide) (asked : List ℕ) (n : ℕ) → IsMarked g → n ≤ length asked → ((k : ℕ) → k < n → get_or asked k 0 ≡ asked_at g k) → ((k : ℕ) → k < g.guided → passed_by g k < n) → IsMarked (record g { asked = asked; passed = min g.passed n })
+IsMarked-asked g asked n m le same first =
+    let new : Guide = record g { asked = asked; passed = min g.passed n } in
+    let count = m.counted in
+    let below : (k : ℕ) → k < g.guided → passed_by new k ≡ passed_by g k = λ k lt. get_or_default g.marks k (min g.passed n) g.passed (omega arith) in
+    let above : (k : ℕ) → g.guided ≤ k → passed_by new k ≡ min g.passed n = λ k le. get_or_past g.marks k (min g.passed n) (omega arith) in
+    let all : (k : ℕ) → passed_by g k ≤ g.passed = λ k. let up = m.rising k (k + g.guided) (omega arith) in let most = passed-all g (k + g.guided) m (omega arith) in omega arith in
+    record {
+      within = m.within;
+      counted = m.counted;
+      few = omega arith;
+      rising = λ a b le. elim (cases_lt b g.guided) [
+        | inl low ↦ let one = below a (omega arith) in let two = below b low in let up = m.rising a b le in omega arith
+        | inr high ↦ let two = above b high in elim (cases_lt a g.guided) [
+          | inl low ↦ let one = below a low in let most = all a in let few = first a low in omega arith
+          | inr past ↦ let one = above a past in omega arith
+        ]
+      ];
+      passed = λ k number le lt. elim (cases_lt k g.guided) [
+        | inl low ↦
+            let one = below k low in let few = first k low in
+            ap (is_true (places_up_to g.places k)) (same number (omega arith)) ∙ m.passed k number le (omega arith)
+        | inr high ↦
+            let one = above k high in let here = passed-all g k m high in
+            ap (is_true (places_up_to g.places k)) (same number (omega arith)) ∙ m.passed k number le (omega arith)
+      ];
+      named = λ k lt. let one = below k lt in let few = first k lt in omega arith;
+      own = λ p k lt a is up.
+          m.own p k lt a is up ∙ sym (same (passed_by g k) (first k up)) ∙ ap (λ (i : ℕ). get_or asked i 0) (sym (below k up));
+    }
+
+-- more places, of which none begins a level
+pub IsGuided-grown : (g : Guide) (places : List Place) → IsGuided g → take (length g.places) places ≡ g.places → ((p : ℕ) → length g.places ≤ p → p < length places → is_assumed (place_at places p) ≡ true → ⊥) → IsGuided (record g { places = places })
+IsGuided-grown g places h front implied = record {
+  marked = IsMarked-grown g places g.level h.marked front (omega arith) (λ p le lt a. absurd (implied p le lt a));
+  free = h.free;
 }
 
--- or the trail goes back to where the first one is not
-pub IsGuided-stopped : (old new : Learner) (assumptions : List ℕ) (n : ℕ) → IsTrail old.trail → n ≤ length assumptions → Follow old assumptions n → old.passed ≡ n → GoesBack old new old.guided → IsGuided new assumptions
-IsGuided-stopped old new assumptions n f few h count e = subst (λ (l : Learner). IsGuided l assumptions) (sym e) (record {
-  within = omega arith;
-  few = (let off : nat_lt old.guided old.guided ≡ false = grind (arith, nat_tests) in let stays : cond (nat_lt old.guided old.guided) 0 old.passed ≡ old.passed = ap (λ (b : Bool). cond b 0 old.passed) off in omega arith);
-  passed = λ i lt. (let off : nat_lt old.guided old.guided ≡ false = grind (arith, nat_tests) in let stays : cond (nat_lt old.guided old.guided) 0 old.passed ≡ old.passed = ap (λ (b : Bool). cond b 0 old.passed) off in h.passed i (omega arith));
-  own = λ p lt a up. own-back old.trail assumptions old.guided old.guided (min old.guided old.guided) f h.own (omega arith) p lt a up;
+-- propagation keeps it
+pub IsGuided-propagated : (old new : TrailState) (g : Guide) → IsGuided (by_trail old g) → Propagates old new → IsGuided (by_trail new g)
+IsGuided-propagated old new g h k =
+    subst (λ (level : ℕ). IsGuided (record g { places = new.places; level = level })) (sym k.level)
+    (IsGuided-grown (by_trail old g) new.places h k.places (λ p le lt. implied-not_assumed (place_at new.places p) _ (k.implied p le lt)))
+
+-- one more implied place
+pub IsGuided-implied : (g : Guide) (last : Place) → IsGuided g → is_assumed last ≡ false → IsGuided (record g { places = g.places ++ last ∷ [] })
+IsGuided-implied g last h implied =
+    let size : length (g.places ++ last ∷ []) ≡ length g.places + 1 = length_push g.places last in
+    IsGuided-grown g (g.places ++ last ∷ []) h (front-push g.places last)
+    (λ p le lt a. true≢false (sym a ∙ ap is_assumed (get_or_push g.places last no_place p (omega arith)) ∙ implied))
+
+-- going back keeps what is known up to the level
+pub IsGuided-back : (t : TrailState) (g : Guide) (level : ℕ) → IsTrail t → level ≤ t.level → IsGuided (by_trail t g) → IsGuided (lowered (by_trail (went_back t level) g) level)
+IsGuided-back t g level f le h = record {
+  marked = IsMarked-back t (lowered g level) level f (omega arith) (IsMarked-lowered (by_trail t g) level h.marked);
+  free = λ lt. passed-all (by_trail t g) level h.marked (omega arith) ∙ h.free (omega arith);
+}
+
+-- also where not all assumptions are passed, by all levels that begin with one
+pub IsGuided-stopped : (t : TrailState) (g : Guide) → IsTrail t → IsMarked (by_trail t g) → IsGuided (lowered (by_trail (went_back t g.guided) g) g.guided)
+IsGuided-stopped t g f m = record {
+  marked = IsMarked-back t (lowered g g.guided) g.guided f (omega arith) (IsMarked-lowered (by_trail t g) g.guided m);
   free = λ lt. absurd (omega arith);
-})
+}
 
--- the same trail and levels
-pub Follow-kept : (old new : Learner) (assumptions : List ℕ) (n m : ℕ) → new.trail ≡ old.trail → new.guided ≡ old.guided → m ≡ n → Follow old assumptions n → Follow new assumptions m
-Follow-kept old new assumptions n m trail guided count h =
-    let Q : TrailState → ℕ → Type 0 = λ t g. (g ≤ t.level) × ((i : ℕ) → i < n → is_true (places_up_to t.places g) (get_or assumptions i 0) ≡ true) × ((p : ℕ) → p < length t.places → is_assumed (place_at t.places p) ≡ true → (place_at t.places p).level ≤ g → Contains assumptions (place_at t.places p).lit) in
-    let here : Q old.trail old.guided = (h.within, h.passed, h.own) in
-    let there : Q new.trail new.guided = subst (λ (t : TrailState). Q t new.guided) (sym trail) (subst (λ (g : ℕ). Q old.trail g) (sym guided) here) in
+-- the place of a literal that is assumed
+last-place : (t : TrailState) (lit : ℕ) → place_at (assumed t lit).places (length t.places) ≡ record { lit = lit; level = t.level + 1; reason = None }
+last-place t lit = get_or_push t.places (record { lit = lit; level = t.level + 1; reason = None }) no_place (length t.places) (omega arith)
+
+-- a literal is assumed on a level that no assumption is known to begin
+IsMarked-assumed : (t : TrailState) (g : Guide) (lit : ℕ) → IsMarked (by_trail t g) → IsMarked (by_trail (assumed t lit) g)
+IsMarked-assumed t g lit m =
+    let new : Place = record { lit = lit; level = t.level + 1; reason = None } in
+    let within = m.within in
+    let size : length (t.places ++ new ∷ []) ≡ length t.places + 1 = length_push t.places new in
+    IsMarked-grown (by_trail t g) (assumed t lit).places (t.level + 1) m (front-push t.places new) (omega arith) (λ p le lt a.
+    let level : (place_at (assumed t lit).places p).level ≡ t.level + 1 = ap (λ (q : Place). q.level) (get_or_push t.places new no_place p (omega arith)) in
+    omega arith)
+
+-- a literal is decided where all assumptions are passed
+pub IsGuided-decided : (t : TrailState) (g : Guide) (lit : ℕ) → IsGuided (by_trail t g) → g.passed ≡ length g.asked → IsGuided (by_trail (assumed t lit) g)
+IsGuided-decided t g lit h all = record { marked = IsMarked-assumed t g lit h.marked; free = λ lt. all }
+
+-- the next assumption is assumed
+pub IsGuided-assumed : (t : TrailState) (g : Guide) (lit : ℕ) → IsTrail (assumed t lit) → IsGuided (by_trail t g) → g.passed < length g.asked → lit ≡ asked_at g g.passed → IsGuided (by_trail (assumed t lit) (record g { guided = t.level + 1; marks = g.marks ++ g.passed ∷ [] }))
+IsGuided-assumed t g lit f h next is =
+    let new : Place = record { lit = lit; level = t.level + 1; reason = None } in
+    let size : length (t.places ++ new ∷ []) ≡ length t.places + 1 = length_push t.places new in
+    let there = last-place t lit in
+    let within = h.marked.within in
+    let guided : g.guided ≡ t.level = elim (cases_lt g.guided t.level) [
+      | inl more ↦ let all = h.free more in absurd (omega arith)
+      | inr all ↦ omega arith
+    ] in
+    let marked = IsMarked-begun (assumed t lit) g (length t.places) f (IsMarked-assumed t g lit h.marked) (omega arith) (ap is_assumed there) (ap (λ (q : Place). q.level) there ∙ (omega arith)) (ap (λ (q : Place). q.lit) there ∙ is) next in
     record {
-      within = there.0;
-      passed = λ i lt. there.1 i (omega arith);
-      own = there.2;
+      marked = subst (λ (n : ℕ). IsMarked (by_trail (assumed t lit) (record g { guided = n + 1; marks = g.marks ++ g.passed ∷ [] }))) guided marked;
+      free = λ lt. absurd (omega arith);
+    }
+
+-- the levels that begin with assumptions are all, where not all assumptions are passed
+pub guided-all : (g : Guide) → IsGuided g → g.passed < length g.asked → g.guided ≡ g.level
+guided-all g h next =
+    let within = h.marked.within in
+    elim (cases_lt g.guided g.level) [
+      | inl more ↦ let all = h.free more in absurd (omega arith)
+      | inr all ↦ omega arith
+    ]
+
+-- one assumption more is true, and passed
+pub IsGuided-passed : (t : TrailState) (g : Guide) → IsTrail t → IsGuided (by_trail t g) → g.passed < length g.asked → is_true t.places (asked_at g g.passed) ≡ true → IsGuided (by_trail t (record g { passed = g.passed + 1 }))
+IsGuided-passed t g f h next on =
+    let all = guided-all (by_trail t g) h next in
+    record {
+      marked = IsMarked-passed (by_trail t g) h.marked next (ap (λ (ps : List Place). is_true ps (asked_at g g.passed)) (up_to-all t g.guided f (omega arith)) ∙ on);
+      free = λ lt. absurd (omega arith);
+    }
+
+-- an assumed place of a known level is an assumption's
+pub own-asked : (t : TrailState) (g : Guide) (p : ℕ) → IsTrail t → IsMarked (by_trail t g) → p < length t.places → is_assumed (place_at t.places p) ≡ true → (place_at t.places p).level ≤ g.guided → Contains g.asked (place_at t.places p).lit
+own-asked t g p f m lt a le =
+    let level = assumed-level t p f lt a in
+    let k : ℕ = (place_at t.places p).level - 1 in
+    let is : (place_at t.places p).level ≡ k + 1 = omega arith in
+    let at = m.own p k lt a is (omega arith) in
+    subst (Contains g.asked) (sym at) (Contains-get_or g.asked (passed_by g k) 0 (m.named k (omega arith)))
+
+-- where all are passed, all are true
+pub passed-true : (t : TrailState) (g : Guide) (lit : ℕ) → IsTrail t → IsMarked (by_trail t g) → g.passed ≡ length g.asked → Contains g.asked lit → is_true t.places lit ≡ true
+passed-true t g lit f m all has =
+    let index = index_of g.asked lit has in
+    let here = passed-all (by_trail t g) g.guided m (omega arith) in
+    let below = index.1 in
+    up_to-true t g.guided lit f (ap (is_true (places_up_to t.places g.guided)) (sym index.2) ∙ m.passed g.guided index.0 (omega arith) (omega arith))
+
+-- places whose reasons have other names: the same literals are true
+true-renamed : (name : ℕ → Option ℕ) (places : List Place) (lit : ℕ) → is_true (places_with name places) lit ≡ is_true places lit
+true-renamed name [] lit = refl
+true-renamed name (p ∷ places) lit = ap (λ (b : Bool). (p.lit == lit) || b) (true-renamed name places lit)
+
+up_to-renamed : (name : ℕ → Option ℕ) (places : List Place) (level : ℕ) → places_up_to (places_with name places) level ≡ places_with name (places_up_to places level)
+up_to-renamed name [] level = refl
+up_to-renamed name (p ∷ places) level = elim (cases_Bool (nat_le p.level level)) [
+  | inl on ↦ rw on (ap (λ (ps : List Place). record p { reason = option_and_then name p.reason } ∷ ps) (up_to-renamed name places level))
+  | inr off ↦ rw off (up_to-renamed name places level)
+]
+
+place-renamed : (name : ℕ → Option ℕ) (places : List Place) (p : ℕ) → p < length places → place_at (places_with name places) p ≡ record (place_at places p) { reason = option_and_then name (place_at places p).reason }
+place-renamed name [] p lt = absurd (omega arith)
+place-renamed name (q ∷ places) zero lt = refl
+place-renamed name (q ∷ places) (suc p) lt = place-renamed name places p (omega arith)
+
+-- the levels tell which places were assumed
+assumed-renamed : (t u : TrailState) (p : ℕ) → IsTrail t → IsTrail u → length u.places ≡ length t.places → ((q : ℕ) → q < length t.places → (place_at u.places q).level ≡ (place_at t.places q).level) → p < length t.places → is_assumed (place_at u.places p) ≡ true → is_assumed (place_at t.places p) ≡ true
+assumed-renamed t u p f g size levels lt a = elim (cases_Bool (is_assumed (place_at t.places p))) [
+  | inl on ↦ on
+  | inr off ↦
+      let new = assumed-level u p g (omega arith) a in
+      let old = f.levels p lt in
+      let none : level_of (take (p + 1) t.places) ≡ level_of (take p t.places) = count_by_more_no is_assumed t.places p no_place lt off in
+      let here = levels p lt in
+      absurd (elim (cases_lt 0 p) [
+        | inl some ↦
+            let back : p - 1 + 1 ≡ p = omega arith in
+            let before = levels (p - 1) (omega arith) in
+            let one = f.levels (p - 1) (omega arith) in
+            let two = g.levels (p - 1) (omega arith) in
+            let low : level_of (take (p - 1 + 1) t.places) ≡ level_of (take p t.places) = ap (λ (k : ℕ). level_of (take k t.places)) back in
+            let high : level_of (take (p - 1 + 1) u.places) ≡ level_of (take p u.places) = ap (λ (k : ℕ). level_of (take k u.places)) back in
+            omega arith
+        | inr first ↦
+            let start : p ≡ 0 = omega arith in
+            let low : level_of (take p t.places) ≡ 0 = ap (λ (k : ℕ). level_of (take k t.places)) start in
+            let high : level_of (take p u.places) ≡ 0 = ap (λ (k : ℕ). level_of (take k u.places)) start in
+            omega arith
+      ])
+]
+
+-- where the reasons have other names, the same is known
+pub IsGuided-renamed : (t u : TrailState) (g : Guide) (name : ℕ → Option ℕ) → IsTrail t → IsTrail u → u.places ≡ places_with name t.places → u.level ≡ t.level → IsGuided (by_trail t g) → IsGuided (by_trail u g)
+IsGuided-renamed t u g name f other places level h =
+    let m = h.marked in
+    let within = m.within in
+    let size : length u.places ≡ length t.places = ap length places ∙ (simp length-map) in
+    let at : (p : ℕ) → p < length t.places → place_at u.places p ≡ record (place_at t.places p) { reason = option_and_then name (place_at t.places p).reason } = λ p lt. ap (λ (ps : List Place). place_at ps p) places ∙ place-renamed name t.places p lt in
+    record {
+      marked = record {
+        within = omega arith;
+        counted = m.counted;
+        few = m.few;
+        rising = m.rising;
+        passed = λ k number le lt.
+            ap (λ (ps : List Place). is_true (places_up_to ps k) (asked_at g number)) places
+            ∙ ap (λ (ps : List Place). is_true ps (asked_at g number)) (up_to-renamed name t.places k)
+            ∙ true-renamed name (places_up_to t.places k) (asked_at g number)
+            ∙ m.passed k number le lt;
+        named = m.named;
+        own = λ p k lt a is below.
+            let same = at p (omega arith) in
+            ap (λ (q : Place). q.lit) same
+            ∙ m.own p k (omega arith) (assumed-renamed t u p f other size (λ q lt. ap (λ (r : Place). r.level) (at q lt)) (omega arith) a) (ap (λ (q : Place). q.level) (sym same) ∙ is) below;
+      };
+      free = λ lt. h.free (omega arith);
     }

@@ -7,21 +7,24 @@ use Rattle.lits_core.specs.declared.Line.TheVariants.{Derive}
 use Rattle.lits_core.proofs.LiteralSets.{same-self}
 use Rattle.lits_core.proofs.DerivationLemmas.{DerivedFollow-next}
 use Rattle.clause_arena.specs.Records.{Record, new_record}
-use Rattle.watch_arena.specs.Trails.{TrailState, Adds}
+use Rattle.watch_arena.specs.Trails.{TrailState, IsTrail, Adds}
 use Rattle.conflict_clause.specs.Taught.{IsTaught}
 use Rattle.learn_solver.specs.declared.learner.Learner.{Learner}
-use Rattle.learn_solver.specs.Solving.{FromOne}
+use Rattle.learn_solver.specs.Solving.{FromOne, GoesTo}
+use Rattle.learn_solver.specs.Guides.{Guide, IsGuided}
 use Rattle.learn_solver.specs.States.{state_of}
-use Rattle.learn_solver.specs.Learners.{seen, IsSound, AreRecords, Steps, GoesBack}
+use Rattle.learn_solver.specs.Learners.{seen, guide_of, IsSound, AreRecords, Steps, GoesBack}
 use Rattle.learn_solver.proofs.SameStates.{SameState-records}
 use Rattle.learn_solver.proofs.RecordLemmas.{AreRecords-same, AreUpTo-same, AreUpTo-more, AreNoted-same, AreRecords-pushed, AreNoted-pushed, HoldsRecords-state, fresh-free, state-pushed, live-within}
 use Rattle.learn_solver.proofs.Goings.{GoesTo-same, GoesTo-trans}
+use Rattle.learn_solver.proofs.Guidance.{IsGuided-back}
 
 pub Steps-trans : (one two three : Learner) → Steps one two → Steps two three → Steps one three
 Steps-trans one two three h k = record {
   sound = k.sound;
   goes = GoesTo-trans (seen one) (seen two) (seen three) h.goes k.goes;
   variables = k.variables ∙ h.variables;
+  asked = k.asked ∙ h.asked;
 }
 
 -- clauses, variables and lines stay
@@ -40,25 +43,36 @@ same_state records other given more e h =
     subst (λ (rs : List Record). SameState (state_of records given) (state_of rs more)) (sym e)
     (subst (λ (n : ℕ). SameState (state_of records given) (state_of records n)) (sym h) (same-self (state_of records given)))
 
-pub IsSound-kept : (old new : Learner) → IsSound old → Keeps old new → IsSound new
-IsSound-kept old new s k = record {
+pub IsSound-moved : (old new : Learner) → IsSound old → Keeps old new → IsGuided (guide_of new) → IsSound new
+IsSound-moved old new s k g = record {
   variables = k.variables ∙ s.variables ∙ sym k.trail_variables;
   analyzer = k.analyzer ∙ s.analyzer ∙ sym k.trail_variables;
   order = ap length k.order ∙ s.order ∙ sym k.trail_variables;
   records = rw (k.records, k.given) s.records;
   last = rw (k.records, k.last) s.last;
   noted = rw (k.records, k.given, k.order) s.noted;
+  guided = g;
 }
 
-pub Steps-kept : (old new : Learner) → IsSound old → Keeps old new → Steps old new
-Steps-kept old new s k = record {
-  sound = IsSound-kept old new s k;
-  goes = GoesTo-same (seen old) (seen new) k.trail_variables k.waiting (same_state old.trail.records new.trail.records old.given new.given k.records k.given);
+pub IsSound-kept : (old new : Learner) → IsSound old → Keeps old new → guide_of new ≡ guide_of old → IsSound new
+IsSound-kept old new s k e = IsSound-moved old new s k (subst IsGuided (sym e) s.guided)
+
+pub GoesTo-kept : (old new : Learner) → Keeps old new → GoesTo (seen old) (seen new)
+GoesTo-kept old new k = GoesTo-same (seen old) (seen new) k.trail_variables k.waiting (same_state old.trail.records new.trail.records old.given new.given k.records k.given)
+
+pub Steps-moved : (old new : Learner) → IsSound old → Keeps old new → new.asked.items ≡ old.asked.items → IsGuided (guide_of new) → Steps old new
+Steps-moved old new s k asked g = record {
+  sound = IsSound-moved old new s k g;
+  goes = GoesTo-kept old new k;
   variables = k.trail_variables;
+  asked = asked;
 }
+
+pub Steps-kept : (old new : Learner) → IsSound old → Keeps old new → guide_of new ≡ guide_of old → Steps old new
+Steps-kept old new s k e = Steps-moved old new s k (ap (λ (g : Guide). g.asked) e) (subst IsGuided (sym e) s.guided)
 
 pub Steps-refl : (l : Learner) → IsSound l → Steps l l
-Steps-refl l s = Steps-kept l l s (record { records = refl; trail_variables = refl; variables = refl; analyzer = refl; order = refl; given = refl; last = refl; waiting = refl })
+Steps-refl l s = Steps-kept l l s (record { records = refl; trail_variables = refl; variables = refl; analyzer = refl; order = refl; given = refl; last = refl; waiting = refl }) refl
 
 -- a clause that live clauses give may be derived
 no_fault : (state : State) (id : ℕ) (lits hints : List ℕ) → live_clause state id ≡ None → hints_fault state hints lits ≡ None → line_fault state (Derive id lits hints) ≡ None
@@ -80,8 +94,8 @@ one_line line zero d h lt = h
 one_line line (suc k) d h lt = absurd (omega arith)
 
 -- one derived clause more, with its line
-pub Steps-noted : (old new : Learner) (id : ℕ) (lits hints : List ℕ) → IsSound old → IsTaught old.trail lits hints → id ≡ old.last + 1 → new.last ≡ id → Adds old.trail new.trail lits id → new.variables ≡ old.variables → new.analyzer ≡ old.analyzer → new.order ≡ old.order → new.given ≡ old.given → new.waiting.items ≡ old.waiting.items ++ Derive id lits hints ∷ [] → Steps old new
-Steps-noted old new id lits hints s taught fresh last adds variables analyzer order given waiting =
+pub Steps-noted : (old new : Learner) (id : ℕ) (lits hints : List ℕ) → IsSound old → IsTaught old.trail lits hints → id ≡ old.last + 1 → new.last ≡ id → Adds old.trail new.trail lits id → new.variables ≡ old.variables → new.analyzer ≡ old.analyzer → new.order ≡ old.order → new.given ≡ old.given → new.waiting.items ≡ old.waiting.items ++ Derive id lits hints ∷ [] → guide_of new ≡ guide_of old → Steps old new
+Steps-noted old new id lits hints s taught fresh last adds variables analyzer order given waiting guide =
     let records : List Record = old.trail.records in
     let enough = s.records.enough in
     let state : State = state_of old.trail.records old.given in
@@ -102,6 +116,7 @@ Steps-noted old new id lits hints s taught fresh last adds variables analyzer or
         records = rw given (AreRecords-same (old.trail.records ++ new_record id lits ∷ []) new.trail.records old.given mid adds.records);
         last = AreUpTo-same (old.trail.records ++ new_record id lits ∷ []) new.trail.records new.last (AreUpTo-more old.trail.records old.last new.last id lits s.last (omega arith) (omega arith)) adds.records;
         noted = rw (given, order) (AreNoted-same (old.trail.records ++ new_record id lits ∷ []) new.trail.records old.given old.order (AreNoted-pushed old.trail.records (new_record id lits) old.given old.order enough s.noted) adds.records);
+        guided = subst IsGuided (sym guide) s.guided;
       };
       goes = record {
         variables = adds.variables;
@@ -114,28 +129,31 @@ Steps-noted old new id lits hints s taught fresh last adds variables analyzer or
         from_one = λ k d lt. one_line (Derive id lits hints) k d (line-from_one old.trail old.given id lits hints s.records taught (omega arith)) lt;
       };
       variables = adds.variables;
+      asked = ap (λ (g : Guide). g.asked) guide;
     }
 
 -- the trail goes back to a level
-pub Steps-back : (old new : Learner) (level : ℕ) → IsSound old → GoesBack old new level → Steps old new
-Steps-back old new level s e = Steps-kept old new s (record {
-  records = ap (λ (l : Learner). l.trail.records) e;
-  trail_variables = ap (λ (l : Learner). l.trail.variables) e;
-  variables = ap (λ (l : Learner). l.variables) e;
-  analyzer = ap (λ (l : Learner). l.analyzer) e;
-  order = ap (λ (l : Learner). l.order) e;
-  given = ap (λ (l : Learner). l.given) e;
-  last = ap (λ (l : Learner). l.last) e;
-  waiting = ap (λ (l : Learner). l.waiting.items) e;
+pub Steps-back : (old new : Learner) (level : ℕ) → IsSound old → IsTrail old.trail → level ≤ old.trail.level → GoesBack old new level → Steps old new
+Steps-back old new level s f le e = Steps-moved old new s (record {
+  records = ap (λ (l : Learner). l.trail.records) e.same;
+  trail_variables = ap (λ (l : Learner). l.trail.variables) e.same;
+  variables = ap (λ (l : Learner). l.variables) e.same;
+  analyzer = ap (λ (l : Learner). l.analyzer) e.same;
+  order = ap (λ (l : Learner). l.order) e.same;
+  given = ap (λ (l : Learner). l.given) e.same;
+  last = ap (λ (l : Learner). l.last) e.same;
+  waiting = ap (λ (l : Learner). l.waiting.items) e.same;
 })
+    (ap (λ (l : Learner). l.asked.items) e.same)
+    (subst IsGuided (sym e.guide) (IsGuided-back old.trail (guide_of old) level f le s.guided))
 
 -- only the trail changes, and of it only places and level
-pub Steps-trail : (old : Learner) (t : TrailState) → IsSound old → t.records ≡ old.trail.records → t.variables ≡ old.trail.variables → Steps old (record old { trail = t })
-Steps-trail old t s records variables = Steps-kept old (record old { trail = t }) s (record { records = records; trail_variables = variables; variables = refl; analyzer = refl; order = refl; given = refl; last = refl; waiting = refl })
+pub Steps-trail : (old : Learner) (t : TrailState) → IsSound old → t.records ≡ old.trail.records → t.variables ≡ old.trail.variables → IsGuided (guide_of (record old { trail = t })) → Steps old (record old { trail = t })
+Steps-trail old t s records variables g = Steps-moved old (record old { trail = t }) s (record { records = records; trail_variables = variables; variables = refl; analyzer = refl; order = refl; given = refl; last = refl; waiting = refl }) refl g
 
 -- only what is known of the assumptions changes
-pub Steps-passed : (old new : Learner) → IsSound old → new ≡ record old { passed = new.passed } → Steps old new
-Steps-passed old new s e = Steps-kept old new s (record {
+pub Steps-passed : (old new : Learner) → IsSound old → new ≡ record old { passed = new.passed } → IsGuided (guide_of new) → Steps old new
+Steps-passed old new s e g = Steps-moved old new s (record {
   records = ap (λ (l : Learner). l.trail.records) e;
   trail_variables = ap (λ (l : Learner). l.trail.variables) e;
   variables = ap (λ (l : Learner). l.variables) e;
@@ -144,29 +162,4 @@ Steps-passed old new s e = Steps-kept old new s (record {
   given = ap (λ (l : Learner). l.given) e;
   last = ap (λ (l : Learner). l.last) e;
   waiting = ap (λ (l : Learner). l.waiting.items) e;
-})
-
-pub Steps-known : (old new : Learner) (passed guided : ℕ) → IsSound old → new ≡ record old { passed = passed; guided = guided } → Steps old new
-Steps-known old new passed guided s e = Steps-kept old new s (record {
-  records = ap (λ (l : Learner). l.trail.records) e;
-  trail_variables = ap (λ (l : Learner). l.trail.variables) e;
-  variables = ap (λ (l : Learner). l.variables) e;
-  analyzer = ap (λ (l : Learner). l.analyzer) e;
-  order = ap (λ (l : Learner). l.order) e;
-  given = ap (λ (l : Learner). l.given) e;
-  last = ap (λ (l : Learner). l.last) e;
-  waiting = ap (λ (l : Learner). l.waiting.items) e;
-})
-
--- a literal is assumed
-pub Steps-assumed : (old new : Learner) (t : TrailState) (guided : ℕ) → IsSound old → new ≡ record old { trail = t; guided = guided } → t.records ≡ old.trail.records → t.variables ≡ old.trail.variables → Steps old new
-Steps-assumed old new t guided s e records variables = Steps-kept old new s (record {
-  records = ap (λ (l : Learner). l.trail.records) e ∙ records;
-  trail_variables = ap (λ (l : Learner). l.trail.variables) e ∙ variables;
-  variables = ap (λ (l : Learner). l.variables) e;
-  analyzer = ap (λ (l : Learner). l.analyzer) e;
-  order = ap (λ (l : Learner). l.order) e;
-  given = ap (λ (l : Learner). l.given) e;
-  last = ap (λ (l : Learner). l.last) e;
-  waiting = ap (λ (l : Learner). l.waiting.items) e;
-})
+}) (ap (λ (l : Learner). l.asked.items) e) g

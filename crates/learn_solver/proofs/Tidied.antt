@@ -13,13 +13,15 @@ use Rattle.clause_arena.specs.Records.{Record, compacted}
 use Rattle.clause_arena.specs.Movings.{place_after}
 use Rattle.watch_arena.specs.declared.places.Place.{Place}
 use Rattle.watch_arena.specs.Places.{places_with}
-use Rattle.watch_arena.specs.Trails.{TrailState, IsCompacted}
+use Rattle.watch_arena.specs.Trails.{TrailState, IsTrail, IsCompacted}
 use Rattle.learn_solver.specs.declared.learner.Learner.{Learner}
 use Rattle.learn_solver.specs.States.{state_of, idle_of}
-use Rattle.learn_solver.specs.Learners.{seen, IsSound, Forgets}
+use Rattle.learn_solver.specs.Guides.{IsGuided}
+use Rattle.learn_solver.specs.Learners.{seen, guide_of, IsSound, Forgets}
 use Rattle.learn_solver.specs.Solving.{FromOne, GoesTo, IsTidied, forgetting}
 use Rattle.learn_solver.proofs.SameStates.{SameState-records}
 use Rattle.learn_solver.proofs.RecordLemmas.{AreRecords-same, AreUpTo-same, AreNoted-same}
+use Rattle.learn_solver.proofs.Guidance.{by_trail, IsGuided-renamed}
 use Rattle.learn_solver.proofs.Goings.{GoesTo-same}
 use Rattle.learn_solver.proofs.Remaining.{AreForgotten, AreForgotten-from, AreRecords-left, AreUpTo-left, AreNoted-left, idle-left, state-left, line-left, idle-from_one}
 
@@ -52,13 +54,14 @@ HasTidied-none l s none = record {
 }
 
 -- by its steps
-pub HasTidied-from : (old new : Learner) (start mid : TrailState) (ids : List ℕ) → IsSound old → start ≡ record old.trail { spare = start.spare } → ids ≡ (seen old).idle → 0 < length ids → Forgets start mid old.given → IsCompacted mid new.trail → new.variables ≡ old.variables → new.analyzer ≡ old.analyzer → new.order ≡ old.order → new.given ≡ old.given → new.last ≡ old.last → new.waiting.items ≡ old.waiting.items ++ Forget ids ∷ [] → HasTidied old new
-HasTidied-from old new start mid ids s start_is ids_are some forgets compacts variables analyzer order given last waiting =
+pub HasTidied-from : (old new : Learner) (start mid : TrailState) (ids : List ℕ) → IsSound old → start ≡ record old.trail { spare = start.spare } → ids ≡ (seen old).idle → 0 < length ids → Forgets start mid old.given → IsCompacted mid new.trail → new.variables ≡ old.variables → new.analyzer ≡ old.analyzer → new.order ≡ old.order → new.given ≡ old.given → new.last ≡ old.last → new.waiting.items ≡ old.waiting.items ++ Forget ids ∷ [] → IsTrail old.trail → IsTrail new.trail → guide_of new ≡ by_trail new.trail (guide_of old) → HasTidied old new
+HasTidied-from old new start mid ids s start_is ids_are some forgets compacts variables analyzer order given last waiting facts after_facts guide =
     let f : AreForgotten old.trail.places old.trail.records mid.records old.given =
     subst (λ (ps : List Place). AreForgotten ps old.trail.records mid.records old.given) (ap (λ (t : TrailState). t.places) start_is)
     (subst (λ (rs : List Record). AreForgotten start.places rs mid.records old.given) (ap (λ (t : TrailState). t.records) start_is) (AreForgotten-from start mid old.given forgets)) in
     let mid_variables : mid.variables ≡ old.trail.variables = ap (λ (t : TrailState). t.variables) forgets.same ∙ ap (λ (t : TrailState). t.variables) start_is in
     let mid_places : mid.places ≡ old.trail.places = ap (λ (t : TrailState). t.places) forgets.same ∙ ap (λ (t : TrailState). t.places) start_is in
+    let mid_level : mid.level ≡ old.trail.level = ap (λ (t : TrailState). t.level) forgets.same ∙ ap (λ (t : TrailState). t.level) start_is in
     let vars : new.trail.variables ≡ old.trail.variables = compacts.variables ∙ mid_variables in
     let places : new.trail.places ≡ places_with (place_after mid.records) old.trail.places = compacts.places ∙ ap (places_with (place_after mid.records)) mid_places in
     let state_is : state_of (compacted mid.records) old.given ≡ next_state (state_of old.trail.records old.given) (Forget ids) =
@@ -79,6 +82,7 @@ HasTidied-from old new start mid ids s start_is ids_are some forgets compacts va
         records = rw given (AreRecords-same (compacted mid.records) new.trail.records old.given (AreRecords-left old.trail.places old.trail.records mid.records old.given s.records f) compacts.records);
         last = rw last (AreUpTo-same (compacted mid.records) new.trail.records old.last (AreUpTo-left old.trail.places old.trail.records mid.records old.given old.last s.records f s.last) compacts.records);
         noted = rw (given, order) (AreNoted-same (compacted mid.records) new.trail.records old.given old.order (AreNoted-left old.trail.places old.trail.records mid.records old.given old.order s.records f s.noted) compacts.records);
+        guided = subst IsGuided (sym guide) (IsGuided-renamed old.trail new.trail (guide_of old) (place_after mid.records) facts after_facts places (compacts.level ∙ mid_level) s.guided);
       };
       kept = record {
         variables = vars;

@@ -38,9 +38,6 @@ true-take places n lit h =
     let size : length (take n places) ≡ _ = length-take n places in
     true-at places found.0 lit (omega arith) (ap (λ (p : Place). p.lit) (sym (place-take places n found.0 (omega arith))) ∙ found.2)
 
-pub true-more : (old new : List Place) (lit : ℕ) → take (length old) new ≡ old → is_true old lit ≡ true → is_true new lit ≡ true
-true-more old new lit front h = true-take new (length old) lit (ap (λ (ps : List Place). is_true ps lit) front ∙ h)
-
 -- what is true by a place before a number is true by the first places
 pub true-within : (places : List Place) (n p lit : ℕ) → p < n → p < length places → (place_at places p).lit ≡ lit → is_true (take n places) lit ≡ true
 true-within places n p lit lt within is =

@@ -1,10 +1,10 @@
 -- The parts of a solver: what is so of them, and what its steps keep.
-use Rattle.std.specs.Prelude.{◌≡◌, ℕ, ◌+◌, ◌*◌, ◌<◌, ◌≤◌, ◌⊎◌, Bool, true, false, List, [], ◌∷◌, ◌++◌, length, min, Option, Some, None, Contains, IsPermutation, slice_index_or, if◌then◌else◌, nat_lt, IsTrue}
+use Rattle.std.specs.Prelude.{◌≡◌, ℕ, ◌+◌, ◌*◌, ◌<◌, ◌≤◌, ◌⊎◌, Bool, true, false, List, [], ◌∷◌, ◌++◌, length, min, Option, Some, None, Contains, IsPermutation, slice_index_or, IsTrue}
 use Rattle.lits_core.specs.Literals.{variable_of, negation_of, is_negative}
 use Rattle.lits_core.specs.Derivation.{DerivedFollow}
 use Rattle.clause_arena.specs.Records.{Record, record_at, forgotten}
 use Rattle.watch_arena.specs.declared.places.Place.{Place}
-use Rattle.watch_arena.specs.Places.{place_at, is_true, is_assumed}
+use Rattle.watch_arena.specs.Places.{is_true, is_assumed}
 use Rattle.watch_arena.specs.Trails.{TrailState, places_up_to}
 use Rattle.conflict_clause.specs.Taught.{is_decided}
 use Rattle.learn_solver.specs.declared.learner.Learner.{Learner}
@@ -13,6 +13,7 @@ use Rattle.learn_solver.specs.Solving.{SolverState, GoesTo}
 use Rattle.learn_solver.specs.Answers.{IsAnswer}
 use Rattle.learn_solver.specs.States.{state_of, idle_of, is_reason}
 use Rattle.learn_solver.specs.Weights.{weight}
+use Rattle.learn_solver.specs.Guides.{Guide, IsGuided, lowered}
 
 -- the public part
 abbrev pub seen : Learner → SolverState
@@ -21,6 +22,17 @@ seen l = record {
   state = state_of l.trail.records l.given;
   waiting = l.waiting.items;
   idle = idle_of l.trail.places l.trail.records l.given;
+}
+
+-- what it knows of the assumptions that were asked last
+abbrev pub guide_of : Learner → Guide
+guide_of l = record {
+  places = l.trail.places;
+  level = l.trail.level;
+  asked = l.asked.items;
+  passed = l.passed;
+  guided = l.guided;
+  marks = l.marks.items;
 }
 
 -- records, of which the first ones are given clauses: all are live, and their ids ascend; those of the given ones are 1, 2
@@ -57,25 +69,28 @@ pub record IsSound (l : Learner) : Type 0 where
   pub records : AreRecords l.trail.records l.given
   pub last : AreUpTo l.trail.records l.last
   pub noted : AreNoted l.trail.records l.given l.order
+  pub guided : IsGuided (guide_of l)
 
 -- what each step keeps
 pub record Steps (old new : Learner) : Type 0 where
   pub sound : IsSound new
   pub goes : GoesTo (seen old) (seen new)
   pub variables : new.trail.variables ≡ old.trail.variables
+  pub asked : new.asked.items ≡ old.asked.items
 
 -- the trail after going back to a level
 abbrev pub went_back : TrailState → ℕ → TrailState
 went_back t level = record t { places = places_up_to t.places level; level = level }
 
+-- only what is known of the assumptions changes: it is that up to a level
+pub record Lowers (old new : Learner) (level : ℕ) : Type 0 where
+  pub same : new ≡ record old { passed = new.passed; guided = min old.guided level; marks = new.marks }
+  pub guide : guide_of new ≡ lowered (guide_of old) level
+
 -- the trail goes back to a level, and what is known of the assumptions up to it stays known
-abbrev pub GoesBack : Learner → Learner → ℕ → Type 0
-GoesBack old new level =
-    new ≡ record old {
-      trail = went_back old.trail level;
-      passed = if nat_lt level old.guided then 0 else old.passed;
-      guided = min old.guided level;
-    }
+pub record GoesBack (old new : Learner) (level : ℕ) : Type 0 where
+  pub same : new ≡ record old { trail = went_back old.trail level; passed = new.passed; guided = min old.guided level; marks = new.marks }
+  pub guide : guide_of new ≡ lowered (guide_of (record old { trail = went_back old.trail level })) level
 
 -- the places up to a level below stay, and one more is implied
 pub record Turns (old new : TrailState) : Type 0 where
@@ -85,18 +100,6 @@ pub record Turns (old new : TrailState) : Type 0 where
   pub implied : is_assumed last ≡ false
   pub places : new.places ≡ places_up_to old.places back ++ last ∷ []
   pub variables : new.variables ≡ old.variables
-
--- the first levels begin with assumptions, and all assumptions are true by them if there are more
-pub record IsGuided (l : Learner) (assumptions : List ℕ) : Type 0 where
-  pub within : l.guided ≤ l.trail.level
-  pub few : l.passed ≤ length assumptions
-  pub passed : (i : ℕ) → i < l.passed → is_true l.trail.places (slice_index_or assumptions i 0) ≡ true
-  pub own : (p : ℕ) → p < length l.trail.places → is_assumed (place_at l.trail.places p) ≡ true → (place_at l.trail.places p).level ≤ l.guided → Contains assumptions (place_at l.trail.places p).lit
-  pub free : l.guided < l.trail.level → (lit : ℕ) → Contains assumptions lit → is_true (places_up_to l.trail.places l.guided) lit ≡ true
-
--- what is known of the assumptions stays known
-abbrev pub Guides : Learner → Learner → Type 0
-Guides old new = (assumptions : List ℕ) → IsGuided old assumptions → IsGuided new assumptions
 
 -- each literal is the negation of an assumed one, or the one that is let stand
 abbrev pub AreClosed : List Place → Option ℕ → List ℕ → Type 0
@@ -126,15 +129,15 @@ pub record KeepsPlaces (old new : TrailState) : Type 0 where
 abbrev pub KeepsRest : Learner → Learner → Type 0
 KeepsRest old new = new ≡ record old { trail = new.trail; waiting = new.waiting; last = new.last }
 
--- a step of the search for assumptions has an answer, or goes on with less to do
-abbrev pub Serves : Learner → Learner → List ℕ → Option Answer → Type 0
-Serves old new assumptions None =
-    IsGuided new assumptions × (weight new.trail.variables new.trail.places < weight old.trail.variables old.trail.places)
-Serves old new assumptions (Some answer) = IsAnswer (seen new) assumptions answer
+-- a step of the search has an answer, or goes on with less to do
+abbrev pub Serves : Learner → Learner → Option Answer → Type 0
+Serves old new None = weight new.trail.variables new.trail.places < weight old.trail.variables old.trail.places
+Serves old new (Some answer) = IsAnswer (seen new) old.asked.items answer
 
--- each literal is true
-abbrev pub AreTrue : TrailState → List ℕ → Type 0
-AreTrue t lits = (lit : ℕ) → Contains lits lit → is_true t.places lit ≡ true
+-- a literal is the first assumption that is not passed
+pub record IsNext (l : Learner) (lit : ℕ) : Type 0 where
+  pub within : l.passed < length l.asked.items
+  pub at : lit ≡ slice_index_or l.asked.items l.passed 0
 
 -- a literal is assumed on a new level
 abbrev pub assumed : TrailState → ℕ → TrailState
@@ -145,9 +148,7 @@ pub record AreBits (t : TrailState) (bits : List Bool) : Type 0 where
   pub counted : length bits ≡ t.variables
   pub each : (variable : ℕ) → slice_index_or bits variable false ≡ is_true t.places (2 * variable)
 
--- a literal is true by the levels that begin with assumptions, of which the next one may begin with it
-pub record Follows (old new : Learner) (lit : ℕ) : Type 0 where
-  pub within : new.guided ≤ new.trail.level
-  pub grown : old.guided ≤ new.guided
-  pub true_there : is_true (places_up_to new.trail.places new.guided) lit ≡ true
-  pub own : (p : ℕ) → p < length new.trail.places → is_assumed (place_at new.trail.places p) ≡ true → old.guided < (place_at new.trail.places p).level → (place_at new.trail.places p).level ≤ new.guided → lit ≡ (place_at new.trail.places p).lit
+-- the trail stays or goes back, and what is known of the assumptions was found anew
+pub record Passes (old new : Learner) : Type 0 where
+  pub same : new ≡ record old { trail = record old.trail { places = new.trail.places; level = new.trail.level }; passed = new.passed; guided = new.guided; marks = new.marks }
+  pub guided : IsGuided (guide_of new)

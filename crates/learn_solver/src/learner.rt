@@ -24,16 +24,19 @@ pub(crate) struct Learner {
     // The largest id that was ever given.
     pub(crate) last: u64,
     pub(crate) waiting: Vec<Line>,
-    // How many of the first assumptions are true, and how many of the first levels begin with an assumption.
+    // The assumptions that were asked last, and how many of the first are known to be true.
+    pub(crate) asked: Vec<Lit>,
     pub(crate) passed: usize,
+    // How many of the first levels begin with an assumption, and the number of the one that begins each.
     pub(crate) guided: u32,
+    pub(crate) marks: Vec<usize>,
     pub(crate) alloc: Global,
 }
 
 impl Learner {
     ghost use Rattle.learn_solver.specs.Solving.{AddsGiven};
     ghost use Rattle.learn_solver.specs.Hints.{AddsLine};
-    ghost use Rattle.learn_solver.specs.Learners.{seen, IsSound, Steps, GoesBack, Guides, IsPut, KeepsPlaces, KeepsRest};
+    ghost use Rattle.learn_solver.specs.Learners.{seen, IsSound, Steps, Lowers, GoesBack, IsPut, KeepsPlaces, KeepsRest};
 
     pub(crate) fn new(alloc: Global, variables: u32) -> Result<Learner, AllocError>
         ensures sound { IfOk result (λ l. IsSound l) }
@@ -47,8 +50,10 @@ impl Learner {
             given: 0,
             last: 0,
             waiting: Vec::new(alloc),
+            asked: Vec::new(alloc),
             passed: 0,
             guided: 0,
+            marks: Vec::new(alloc),
             alloc,
         })
     }
@@ -99,7 +104,6 @@ impl Learner {
         requires sound { IsSound self.old }
         requires level { level ≤ self.old.trail.level }
         ensures steps { Steps self.old self.new }
-        ensures guides { Guides self.old self.new }
         ensures back { GoesBack self.old self.new level }
     {
         self.facts();
@@ -107,15 +111,25 @@ impl Learner {
     }
 
     // The places above a level go, and what is known of the assumptions by them.
-    fn drop_above(&mut self, level: u32)
-        requires { level ≤ self.old.trail.level }
+    pub(crate) fn drop_above(&mut self, level: u32)
+        requires level { level ≤ self.old.trail.level }
+        requires counted { length self.old.marks.items ≡ self.old.guided }
         ensures { GoesBack self.old self.new level }
     {
         self.free_above(level);
         self.trail.undo_to(level);
+        self.lower(level);
+    }
+
+    // Of the assumptions only that stays known which is so by the levels up to this one.
+    pub(crate) fn lower(&mut self, level: u32)
+        requires { length self.old.marks.items ≡ self.old.guided }
+        ensures { Lowers self.old self.new level }
+    {
         if level < self.guided {
+            self.passed = self.marks[level as usize];
+            self.marks.truncate(level as usize);
             self.guided = level;
-            self.passed = 0;
         }
     }
 

@@ -1,5 +1,5 @@
 //! The search for bits.
-ghost use Rattle.std.specs.Prelude.{◌≡◌, ◌≢◌, ◌+◌, ◌<◌, ◌≤◌, ℕ, true, false, Some, None, List, IfOk, OnOk, IsTrue, MatchOption, Contains};
+ghost use Rattle.std.specs.Prelude.{◌≡◌, ◌≢◌, ◌<◌, ℕ, false, Some, None, length, IfOk, OnOk, IsTrue, MatchOption, Contains};
 ghost use Rattle.lits_core.specs.Literals.{variable_of, negation_of};
 ghost use Rattle.clause_arena.specs.Records.{record_at};
 ghost use Rattle.watch_arena.specs.Places.{place_of, is_true, is_false, reason_of};
@@ -13,9 +13,9 @@ use lits_core::{Bits, Lit};
 use std::alloc::AllocError;
 
 impl Learner {
-    ghost use Rattle.learn_solver.specs.Solving.{AreConsistent};
+    ghost use Rattle.learn_solver.specs.Solving.{GoesTo, AreConsistent};
     ghost use Rattle.learn_solver.specs.Answers.{IsAnswer};
-    ghost use Rattle.learn_solver.specs.Learners.{seen, IsSound, Steps, Turns, IsGuided, Guides, IsClosed, KeepsPlaces, KeepsRest, Serves, AreTrue, assumed, AreBits, Follows};
+    ghost use Rattle.learn_solver.specs.Learners.{seen, IsSound, Steps, Turns, IsClosed, KeepsPlaces, KeepsRest, Serves, IsNext, AreBits};
 
     // Learns from a conflict at a level, and goes back to where the learnt clause implies its first literal.
     fn learn(&mut self, at: Ref) -> Result<(), AllocError>
@@ -25,7 +25,6 @@ impl Learner {
         requires level { 0 < self.old.trail.level }
         ensures steps { Steps self.old self.new }
         ensures turned { OnOk result (Turns self.old.trail self.new.trail) }
-        ensures guides { OnOk result (Guides self.old self.new) }
     {
         self.facts();
         let learnt = self.analyzer.learn(&self.trail, at)?;
@@ -84,7 +83,7 @@ impl Learner {
         requires sound { IsSound self.old }
         requires conflict { IsConflict self.old.trail at }
         ensures steps { Steps self.old self.new }
-        ensures served { IfOk result (λ o. (assumptions : List ℕ) → IsGuided self.old assumptions → Serves self.old self.new assumptions o) }
+        ensures served { IfOk result (Serves self.old self.new) }
     {
         self.facts();
         let level = self.top_level(at);
@@ -104,24 +103,22 @@ impl Learner {
         requires { IsSound self.old }
         ensures steps { Steps self.old self.new }
         ensures kept { Propagates self.old.trail self.new.trail }
-        ensures guides { Guides self.old self.new }
         ensures found { MatchOption result (IsPropagated self.new.trail) (λ at. IsConflict self.new.trail at) }
     {
         self.trail.propagate()
     }
 
     // Passes the assumptions that are true, up to the first that is not, which it answers.
-    fn next_open(&mut self, assumptions: &[Lit]) -> Option<Lit>
+    fn next_open(&mut self) -> Option<Lit>
         requires sound { IsSound self.old }
-        requires range { AreInRange assumptions.now self.old.trail.variables }
-        requires guided { IsGuided self.old assumptions.now }
+        requires range { AreInRange self.old.asked.items self.old.trail.variables }
         ensures steps { Steps self.old self.new }
         ensures same { self.new ≡ record self.old { passed = self.new.passed } }
-        ensures guided { IsGuided self.new assumptions.now }
-        ensures open { MatchOption result (AreTrue self.new.trail assumptions.now) (λ lit. Contains assumptions.now lit × (is_true self.new.trail.places lit ≡ false)) }
+        ensures open { MatchOption result (self.new.passed ≡ length self.new.asked.items) (λ lit. IsNext self.new lit × (is_true self.new.trail.places lit ≡ false)) }
     {
-        while self.passed < assumptions.len() {
-            let lit = assumptions[self.passed];
+        self.facts();
+        while self.passed < self.asked.len() {
+            let lit = self.asked[self.passed];
             if !self.is_true(lit) {
                 return Some(lit);
             }
@@ -130,14 +127,21 @@ impl Learner {
         None
     }
 
-    // Makes an assumption true on a level of its own.
-    fn assume(&mut self, lit: Lit)
+    // Makes the next assumption true on a level of its own.
+    fn assume(&mut self, lit: Lit) -> Result<(), AllocError>
+        requires sound { IsSound self.old }
         requires range { variable_of lit < self.old.trail.variables }
         requires unassigned { place_of self.old.trail.places (variable_of lit) ≡ None }
-        ensures { self.new ≡ record self.old { trail = assumed self.old.trail lit; guided = self.old.trail.level + 1 } }
+        requires next { IsNext self.old lit }
+        ensures steps { Steps self.old self.new }
+        ensures lighter { OnOk result (Serves self.old self.new None) }
     {
+        self.facts();
+        self.marks.push(self.passed)?;
         self.trail.assume(lit);
         self.guided = self.trail.level();
+        self.facts();
+        Ok(())
     }
 
     // The bits that the true literals are; all other variables are false.
@@ -160,8 +164,9 @@ impl Learner {
     fn decide(&mut self) -> Result<Option<Answer>, AllocError>
         requires sound { IsSound self.old }
         requires propagated { IsPropagated self.old.trail }
+        requires passed { self.old.passed ≡ length self.old.asked.items }
         ensures steps { Steps self.old self.new }
-        ensures served { IfOk result (λ o. (assumptions : List ℕ) → IsGuided self.old assumptions → AreTrue self.old.trail assumptions → Serves self.old self.new assumptions o) }
+        ensures served { IfOk result (Serves self.old self.new) }
     {
         self.facts();
         match self.order.pick(&self.trail) {
@@ -177,14 +182,15 @@ impl Learner {
         }
     }
 
-    // Makes an assumption true, or answers where it is false.
+    // Makes the next assumption true, or answers where it is false.
     fn take(&mut self, lit: Lit) -> Result<Option<Answer>, AllocError>
         requires sound { IsSound self.old }
         requires range { variable_of lit < self.old.trail.variables }
+        requires next { IsNext self.old lit }
         requires open { is_true self.old.trail.places lit ≡ false }
-        requires implied { is_false self.old.trail.places lit ≡ true → reason_of self.old.trail.places (variable_of lit) ≢ None }
+        requires consistent { AreConsistent self.old.asked.items }
         ensures steps { Steps self.old self.new }
-        ensures served { IfOk result (λ o. (assumptions : List ℕ) → IsGuided self.old assumptions → Contains assumptions lit → Serves self.old self.new assumptions o) }
+        ensures served { IfOk result (Serves self.old self.new) }
     {
         self.facts();
         if self.trail.value(lit.variable()).is_some() {
@@ -192,87 +198,36 @@ impl Learner {
             self.facts();
             return Ok(Some(Answer::Refuted(id)));
         }
-        self.assume(lit);
-        self.facts();
+        self.assume(lit)?;
         Ok(None)
     }
 
     // One step where no clause is false or unit: an assumption or a decision, or an answer.
-    fn extend(&mut self, assumptions: &[Lit]) -> Result<Option<Answer>, AllocError>
+    fn extend(&mut self) -> Result<Option<Answer>, AllocError>
         requires sound { IsSound self.old }
-        requires range { AreInRange assumptions.now self.old.trail.variables }
-        requires consistent { AreConsistent assumptions.now }
-        requires guided { IsGuided self.old assumptions.now }
+        requires range { AreInRange self.old.asked.items self.old.trail.variables }
+        requires consistent { AreConsistent self.old.asked.items }
         requires propagated { IsPropagated self.old.trail }
         ensures steps { Steps self.old self.new }
-        ensures served { IfOk result (Serves self.old self.new assumptions.now) }
+        ensures served { IfOk result (Serves self.old self.new) }
     {
-        self.facts();
-        match self.next_open(assumptions) {
+        match self.next_open() {
             Some(lit) => self.take(lit),
             None => self.decide(),
         }
     }
 
     // One step of the search, which goes on after None.
-    fn step(&mut self, assumptions: &[Lit]) -> Result<Option<Answer>, AllocError>
+    fn step(&mut self) -> Result<Option<Answer>, AllocError>
         requires sound { IsSound self.old }
-        requires range { AreInRange assumptions.now self.old.trail.variables }
-        requires consistent { AreConsistent assumptions.now }
-        requires guided { IsGuided self.old assumptions.now }
+        requires range { AreInRange self.old.asked.items self.old.trail.variables }
+        requires consistent { AreConsistent self.old.asked.items }
         ensures steps { Steps self.old self.new }
-        ensures served { IfOk result (Serves self.old self.new assumptions.now) }
+        ensures served { IfOk result (Serves self.old self.new) }
     {
         match self.propagate() {
             Some(at) => self.turn(at),
-            None => self.extend(assumptions),
-        }
-    }
-
-    // Whether an assumption is true by the levels that are known to be assumptions', or begins the next one.
-    fn follows(&mut self, lit: Lit) -> bool
-        requires range { variable_of lit < self.old.trail.variables }
-        requires within { self.old.guided ≤ self.old.trail.level }
-        ensures same { self.new ≡ record self.old { guided = self.new.guided } }
-        ensures followed { IsTrue result → Follows self.old self.new lit }
-        ensures stopped { result ≡ false → self.new.guided ≡ self.old.guided }
-    {
-        self.facts();
-        let Some(place) = self.place_of(lit) else {
-            return false;
-        };
-        if self.trail.lit_on(place) != lit {
-            return false;
-        }
-        let level = self.trail.level_on(place);
-        if level <= self.guided {
-            return true;
-        }
-        let next = level - self.guided == 1;
-        if next && self.trail.reason_on(place).is_none() {
-            self.guided = level;
-            return true;
-        }
-        false
-    }
-
-    // Goes back to the first assumption that the trail does not follow.
-    fn keep(&mut self, assumptions: &[Lit])
-        requires sound { IsSound self.old }
-        requires range { AreInRange assumptions.now self.old.trail.variables }
-        ensures steps { Steps self.old self.new }
-        ensures guided { IsGuided self.new assumptions.now }
-    {
-        self.facts();
-        self.passed = 0;
-        self.guided = 0;
-        for lit in assumptions {
-            if !self.follows(*lit) {
-                let level = self.guided;
-                self.go_back(level);
-                return;
-            }
-            self.passed += 1;
+            None => self.extend(),
         }
     }
 
@@ -281,12 +236,13 @@ impl Learner {
         requires sound { IsSound self.old }
         requires range { AreInRange assumptions.now self.old.trail.variables }
         requires consistent { AreConsistent assumptions.now }
-        ensures steps { Steps self.old self.new }
+        ensures sound { IsSound self.new }
+        ensures goes { GoesTo (seen self.old) (seen self.new) }
         ensures answer { IfOk result (IsAnswer (seen self.new) assumptions.now) }
     {
-        self.keep(assumptions);
+        self.ask(assumptions)?;
         loop {
-            if let Some(answer) = self.step(assumptions)? {
+            if let Some(answer) = self.step()? {
                 return Ok(answer);
             }
         }

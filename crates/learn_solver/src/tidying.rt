@@ -49,6 +49,7 @@ impl Learner {
         ensures ok { OnOk result (IsTidied (seen self.old) (seen self.new)) }
         ensures err { OnErr result (seen self.new ≡ seen self.old) }
     {
+        self.facts();
         let ids = self.idle_ids()?;
         if ids.list().is_empty() {
             return Ok(());
@@ -57,6 +58,7 @@ impl Learner {
         self.trail.reserve()?;
         self.forget_idle();
         self.trail.compact();
+        self.facts();
         self.waiting.push_reserved(Line::Forget { ids });
         Ok(())
     }

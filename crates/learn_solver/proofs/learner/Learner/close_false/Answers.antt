@@ -30,10 +30,10 @@ pub returns-then-is_closed-clause-steps : goal.returns-then-is_closed-clause-ste
 returns-then-is_closed-clause-steps c = Steps-refl c.args.self.now c.requires.sound
 
 pub returns-in_err-closing-clause-steps : goal.returns-in_err-closing-clause-steps
-returns-in_err-closing-clause-steps c = Steps-kept _ _ c.requires.sound (record { records = refl; trail_variables = refl; variables = refl; analyzer = c.close_false.ensures.kept; order = refl; given = refl; last = refl; waiting = refl })
+returns-in_err-closing-clause-steps c = Steps-kept _ _ c.requires.sound (record { records = refl; trail_variables = refl; variables = refl; analyzer = c.close_false.ensures.kept; order = refl; given = refl; last = refl; waiting = refl }) refl
 
 pub note-requires-clause-sound : goal.note-requires-clause-sound
-note-requires-clause-sound c = IsSound-kept _ _ c.requires.sound (record { records = refl; trail_variables = refl; variables = refl; analyzer = c.close_false.ensures.kept; order = c.met-2.ensures; given = refl; last = refl; waiting = refl })
+note-requires-clause-sound c = IsSound-kept _ _ c.requires.sound (record { records = refl; trail_variables = refl; variables = refl; analyzer = c.close_false.ensures.kept; order = c.met-2.ensures; given = refl; last = refl; waiting = refl }) refl
 
 pub returns-clause-closed : goal.returns-clause-closed
 returns-clause-closed c =

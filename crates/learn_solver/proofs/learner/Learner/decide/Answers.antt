@@ -3,18 +3,19 @@ use Rattle.watch_arena.specs.Trails.{TrailState, IsTrail}
 use Rattle.learn_solver.specs.declared.learner.Learner.{Learner}
 use Rattle.learn_solver.specs.Noted.{AreAssigned}
 use Rattle.learn_solver.specs.Weights.{weight}
-use Rattle.learn_solver.specs.Learners.{IsGuided, assumed}
-use Rattle.learn_solver.proofs.StepLemmas.{Steps-kept, IsSound-kept}
-use Rattle.learn_solver.proofs.Guidance.{IsGuided-kept, IsGuided-decided}
+use Rattle.learn_solver.specs.Guides.{IsGuided}
+use Rattle.learn_solver.specs.Learners.{guide_of, assumed}
+use Rattle.learn_solver.proofs.StepLemmas.{Steps-kept, Steps-moved, IsSound-kept}
+use Rattle.learn_solver.proofs.Guidance.{by_trail, IsGuided-decided, passed-true}
 use Rattle.learn_solver.proofs.Conflicts.{assumed-lighter}
 use Rattle.learn_solver.proofs.Answering.{IsModel-bits}
 use Rattle.learn_solver.proofs.learner.Learner.decide.Goals as goal
 
 pub returns-in_err-bits-in-None-clause-steps : goal.returns-in_err-bits-in-None-clause-steps
-returns-in_err-bits-in-None-clause-steps c = Steps-kept _ _ c.requires.sound (record { records = refl; trail_variables = refl; variables = refl; analyzer = refl; order = c.pick.ensures.kept; given = refl; last = refl; waiting = refl })
+returns-in_err-bits-in-None-clause-steps c = Steps-kept _ _ c.requires.sound (record { records = refl; trail_variables = refl; variables = refl; analyzer = refl; order = c.pick.ensures.kept; given = refl; last = refl; waiting = refl }) refl
 
 pub returns-in-Some-clause-steps : goal.returns-in-Some-clause-steps
-returns-in-Some-clause-steps c = Steps-kept _ _ c.requires.sound (record {
+returns-in-Some-clause-steps c = Steps-moved _ _ c.requires.sound (record {
   records = ap (λ (t : TrailState). t.records) c.assume.ensures;
   trail_variables = ap (λ (t : TrailState). t.variables) c.assume.ensures;
   variables = refl;
@@ -23,23 +24,21 @@ returns-in-Some-clause-steps c = Steps-kept _ _ c.requires.sound (record {
   last = refl;
   given = refl;
   waiting = refl;
-})
+}) refl
+    (subst (λ (t : TrailState). IsGuided (by_trail t (guide_of c.args.self.now))) (sym c.assume.ensures) (IsGuided-decided c.args.self.now.trail (guide_of c.args.self.now) c.in-Some.lit c.requires.sound.guided c.requires.passed))
 
 pub returns-in-Some-clause-served : goal.returns-in-Some-clause-served
-returns-in-Some-clause-served c = λ assumptions g all.
-    let picked : Learner = record c.args.self.now { order = c.pick.new.self } in
-    let same = IsGuided-kept c.args.self.now picked assumptions g refl refl refl refl in
-    let facts : IsTrail (assumed c.args.self.now.trail c.in-Some.lit) = subst (λ (t : TrailState). IsTrail t) c.assume.ensures c.facts-in-Some.ensures in (
-      subst (λ (t : TrailState). IsGuided (record picked { trail = t }) assumptions) (sym c.assume.ensures) (IsGuided-decided picked assumptions c.in-Some.lit c.facts.ensures same all),
-      subst (λ (t : TrailState). weight t.variables t.places < weight c.args.self.now.trail.variables c.args.self.now.trail.places) (sym c.assume.ensures) (assumed-lighter c.args.self.now.trail c.in-Some.lit facts),
-    )
+returns-in-Some-clause-served c =
+    let facts : IsTrail (assumed c.args.self.now.trail c.in-Some.lit) = subst (λ (t : TrailState). IsTrail t) c.assume.ensures c.facts-in-Some.ensures in
+    subst (λ (t : TrailState). weight t.variables t.places < weight c.args.self.now.trail.variables c.args.self.now.trail.places) (sym c.assume.ensures) (assumed-lighter c.args.self.now.trail c.in-Some.lit facts)
 
 pub returns-in_ok-bits-in-None-clause-steps : goal.returns-in_ok-bits-in-None-clause-steps
-returns-in_ok-bits-in-None-clause-steps c = Steps-kept _ _ c.requires.sound (record { records = refl; trail_variables = refl; variables = refl; analyzer = refl; order = c.pick.ensures.kept; given = refl; last = refl; waiting = refl })
+returns-in_ok-bits-in-None-clause-steps c = Steps-kept _ _ c.requires.sound (record { records = refl; trail_variables = refl; variables = refl; analyzer = refl; order = c.pick.ensures.kept; given = refl; last = refl; waiting = refl }) refl
 
 pub returns-in_ok-bits-in-None-clause-served : goal.returns-in_ok-bits-in-None-clause-served
-returns-in_ok-bits-in-None-clause-served c = λ assumptions g all.
+returns-in_ok-bits-in-None-clause-served c =
     let picked : Learner = record c.args.self.now { order = c.pick.new.self } in
-    let sound = IsSound-kept c.args.self.now picked c.requires.sound (record { records = refl; trail_variables = refl; variables = refl; analyzer = refl; order = c.pick.ensures.kept; given = refl; last = refl; waiting = refl }) in
+    let sound = IsSound-kept c.args.self.now picked c.requires.sound (record { records = refl; trail_variables = refl; variables = refl; analyzer = refl; order = c.pick.ensures.kept; given = refl; last = refl; waiting = refl }) refl in
     let assigned : AreAssigned c.pick.new.self c.args.self.now.trail.places = subst (λ (noted : List Bool). AreAssigned noted c.args.self.now.trail.places) (sym c.pick.ensures.kept) c.in-None.ensures.picked in
-    IsModel-bits picked assumptions c.in_ok-bits-in-None.bits c.facts.ensures sound c.requires.propagated assigned c.in_ok-bits-in-None.ensures all
+    IsModel-bits picked picked.asked.items c.in_ok-bits-in-None.bits c.facts.ensures sound c.requires.propagated assigned c.in_ok-bits-in-None.ensures
+    (λ lit has. passed-true c.args.self.now.trail (guide_of c.args.self.now) lit c.facts.ensures c.requires.sound.guided.marked c.requires.passed has)

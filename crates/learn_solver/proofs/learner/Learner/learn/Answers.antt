@@ -6,14 +6,16 @@ use Rattle.watch_arena.specs.Trails.{TrailState, IsReason, places_up_to}
 use Rattle.learn_solver.specs.declared.learner.Learner.{Learner}
 use Rattle.learn_solver.proofs.StepLemmas.{Steps-kept, Steps-trans, Steps-trail, IsSound-kept}
 use Rattle.learn_solver.proofs.Teaching.{first-learnt, first-unassigned, IsReason-learnt}
-use Rattle.learn_solver.proofs.Guidance.{IsGuided-kept, IsGuided-implied}
+use Rattle.learn_solver.specs.Guides.{IsGuided}
+use Rattle.learn_solver.specs.Learners.{guide_of}
+use Rattle.learn_solver.proofs.Guidance.{by_trail, IsGuided-implied}
 use Rattle.learn_solver.proofs.learner.Learner.learn.Goals as goal
 
 pub returns-in_err-learnt-clause-steps : goal.returns-in_err-learnt-clause-steps
-returns-in_err-learnt-clause-steps c = Steps-kept _ _ c.requires.sound (record { records = refl; trail_variables = refl; variables = refl; analyzer = c.learn.ensures.kept; order = refl; given = refl; last = refl; waiting = refl })
+returns-in_err-learnt-clause-steps c = Steps-kept _ _ c.requires.sound (record { records = refl; trail_variables = refl; variables = refl; analyzer = c.learn.ensures.kept; order = refl; given = refl; last = refl; waiting = refl }) refl
 
 pub note-requires-clause-sound : goal.note-requires-clause-sound
-note-requires-clause-sound c = IsSound-kept _ _ c.requires.sound (record { records = refl; trail_variables = refl; variables = refl; analyzer = c.learn.ensures.kept; order = c.met-2.ensures; given = refl; last = refl; waiting = refl })
+note-requires-clause-sound c = IsSound-kept _ _ c.requires.sound (record { records = refl; trail_variables = refl; variables = refl; analyzer = c.learn.ensures.kept; order = c.met-2.ensures; given = refl; last = refl; waiting = refl }) refl
 
 pub imply-requires-clause-unassigned : goal.imply-requires-clause-unassigned
 imply-requires-clause-unassigned c =
@@ -22,7 +24,7 @@ imply-requires-clause-unassigned c =
     let first = first-learnt c.in_ok-learnt.learnt.lits learnt.others learnt.first c.index-lits-0.result learnt.split (c.index-lits-0.is ∙ ap (λ (ls : List ℕ). get_or ls 0 c.index-lits-0.result) c.lits.ensures) in
     let there = first-unassigned c.args.self.now.trail c.in_ok-learnt.learnt.lits c.in_ok-learnt.learnt.hints c.in_ok-learnt.learnt.back learnt c.facts.ensures in
     let places : c.go_back.new.self.trail.places ≡ places_up_to c.args.self.now.trail.places c.in_ok-learnt.learnt.back =
-    ap (λ (l : Learner). l.trail.places) c.go_back.ensures.back ∙ ap (λ (ps : List Place). places_up_to ps c.in_ok-learnt.learnt.back) c.in_ok-at.ensures.kept.places in
+    ap (λ (l : Learner). l.trail.places) c.go_back.ensures.back.same ∙ ap (λ (ps : List Place). places_up_to ps c.in_ok-learnt.learnt.back) c.in_ok-at.ensures.kept.places in
     ap (λ (l : ℕ). place_of c.go_back.new.self.trail.places (variable_of l)) first ∙ ap (λ (ps : List Place). place_of ps (variable_of learnt.first)) places ∙ there
 
 pub imply-requires-clause-reason : goal.imply-requires-clause-reason
@@ -31,18 +33,12 @@ imply-requires-clause-reason c =
     let first = first-learnt c.in_ok-learnt.learnt.lits learnt.others learnt.first c.index-lits-0.result learnt.split (c.index-lits-0.is ∙ ap (λ (ls : List ℕ). get_or ls 0 c.index-lits-0.result) c.lits.ensures) in
     let reason = IsReason-learnt c.args.self.now.trail c.note.new.self.trail c.in_ok-learnt.learnt.lits c.in_ok-learnt.learnt.hints c.in_ok-learnt.learnt.back c.in_ok-at.at learnt c.facts.ensures c.in_ok-at.ensures.kept c.in_ok-at.ensures.put in
     subst (λ (l : ℕ). IsReason c.go_back.new.self.trail.records c.go_back.new.self.trail.places l c.in_ok-at.at) (sym first)
-    (subst (λ (l : Learner). IsReason l.trail.records l.trail.places learnt.first c.in_ok-at.at) (sym c.go_back.ensures.back) reason)
+    (subst (λ (l : Learner). IsReason l.trail.records l.trail.places learnt.first c.in_ok-at.at) (sym c.go_back.ensures.back.same) reason)
 
 pub returns-clause-steps : goal.returns-clause-steps
 returns-clause-steps c =
-    Steps-trans _ _ _ (Steps-kept c.args.self.now _ c.requires.sound (record { records = refl; trail_variables = refl; variables = refl; analyzer = c.learn.ensures.kept; order = c.met-2.ensures; given = refl; last = refl; waiting = refl }))
+    Steps-trans _ _ _ (Steps-kept c.args.self.now _ c.requires.sound (record { records = refl; trail_variables = refl; variables = refl; analyzer = c.learn.ensures.kept; order = c.met-2.ensures; given = refl; last = refl; waiting = refl }) refl)
     (Steps-trans _ _ _ c.in_ok-at.ensures.steps
     (Steps-trans _ _ _ c.go_back.ensures.steps
-    (Steps-trail c.go_back.new.self c.imply.new.self c.go_back.ensures.steps.sound (ap (λ (t : TrailState). t.records) c.imply.ensures) (ap (λ (t : TrailState). t.variables) c.imply.ensures))))
-
-pub returns-clause-guides : goal.returns-clause-guides
-returns-clause-guides c = λ assumptions g.
-    let same = c.in_ok-at.ensures.same in
-    let noted = IsGuided-kept c.args.self.now c.note.new.self assumptions g c.in_ok-at.ensures.kept.places c.in_ok-at.ensures.kept.level (ap (λ (l : Learner). l.passed) same) (ap (λ (l : Learner). l.guided) same) in
-    let back = c.go_back.ensures.guides assumptions noted in
-    IsGuided-implied c.go_back.new.self _ assumptions _ back (ap (λ (t : TrailState). t.places) c.imply.ensures) refl (ap (λ (t : TrailState). t.level) c.imply.ensures) refl refl
+    (Steps-trail c.go_back.new.self c.imply.new.self c.go_back.ensures.steps.sound (ap (λ (t : TrailState). t.records) c.imply.ensures) (ap (λ (t : TrailState). t.variables) c.imply.ensures)
+    (subst (λ (t : TrailState). IsGuided (by_trail t (guide_of c.go_back.new.self))) (sym c.imply.ensures) (IsGuided-implied (guide_of c.go_back.new.self) _ c.go_back.ensures.steps.sound.guided refl)))))

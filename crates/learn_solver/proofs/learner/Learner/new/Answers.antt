@@ -6,6 +6,7 @@ use Rattle.watch_arena.specs.Trails.{TrailState}
 use Rattle.learn_solver.specs.Solving.{SolverState}
 use Rattle.learn_solver.specs.States.{state_of, idle_of}
 use Rattle.learn_solver.specs.Learners.{AreRecords}
+use Rattle.learn_solver.proofs.Guidance.{IsGuided-none}
 use Rattle.learn_solver.proofs.learner.Learner.new.Goals as goal
 
 -- nothing is wrong with no records
@@ -35,6 +36,7 @@ returns-clause-sound c =
       records = subst (λ (t : TrailState). AreRecords t.records 0) (sym e) none-sound;
       last = λ at lt. absurd (let size = ap (λ (t : TrailState). length t.records) e in omega arith);
       noted = λ at lit lt. absurd (omega arith);
+      guided = IsGuided-none _ (ap (λ (t : TrailState). t.level) e) refl refl c.new-6.ensures.items;
     }
 
 pub returns-clause-empty : goal.returns-clause-empty

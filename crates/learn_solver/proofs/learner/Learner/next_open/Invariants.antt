@@ -1,12 +1,13 @@
 use Rattle.std.proofs.Common.{◌≡◌, ◌-◌, length}
-use Rattle.learn_solver.specs.Learners.{IsGuided}
+use Rattle.learn_solver.specs.Guides.{IsGuided}
+use Rattle.learn_solver.specs.Learners.{guide_of}
 use Rattle.learn_solver.proofs.learner.Learner.next_open.Given as goal
 
 abbrev pub invariant-loop-self : goal.invariant-loop-self
 invariant-loop-self l = record {
   same : l.self ≡ record l.fn.self { passed = l.self.passed };
-  guided : IsGuided l.self l.assumptions;
+  guided : IsGuided (guide_of l.self);
 }
 
 abbrev pub decreases-loop-self : goal.decreases-loop-self
-decreases-loop-self l = length l.assumptions - l.self.passed
+decreases-loop-self l = length l.self.asked.items - l.self.passed

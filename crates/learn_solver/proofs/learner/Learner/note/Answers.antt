@@ -2,6 +2,8 @@ use Rattle.std.proofs.Common.{ℕ, List, refl, ap, subst}
 use Rattle.watch_arena.specs.Trails.{TrailState, Adds}
 use Rattle.learn_solver.specs.declared.learner.Learner.{Learner}
 use Rattle.learn_solver.proofs.StepLemmas.{Steps-refl, Steps-kept, Steps-noted}
+use Rattle.learn_solver.specs.Learners.{guide_of}
+use Rattle.learn_solver.proofs.Guidance.{by_trail, guide-same}
 use Rattle.learn_solver.proofs.Givens.{on_err}
 use Rattle.learn_solver.proofs.Hinting.{seen-held, AddsLine-noted}
 use Rattle.learn_solver.proofs.learner.Learner.note.Goals as goal
@@ -10,18 +12,18 @@ pub returns-in_err-id-clause-steps : goal.returns-in_err-id-clause-steps
 returns-in_err-id-clause-steps c = Steps-refl c.args.self.now c.requires.sound
 
 pub returns-in_err-reserve-clause-steps : goal.returns-in_err-reserve-clause-steps
-returns-in_err-reserve-clause-steps c = Steps-kept _ _ c.requires.sound (record { records = refl; trail_variables = refl; variables = refl; analyzer = refl; order = refl; given = refl; last = refl; waiting = c.reserve.ensures.items })
+returns-in_err-reserve-clause-steps c = Steps-kept _ _ c.requires.sound (record { records = refl; trail_variables = refl; variables = refl; analyzer = refl; order = refl; given = refl; last = refl; waiting = c.reserve.ensures.items }) refl
 
 pub returns-in_err-at-clause-steps : goal.returns-in_err-at-clause-steps
 returns-in_err-at-clause-steps c =
     let same = c.in_err-at.ensures.err in
-    Steps-kept _ _ c.requires.sound (record { records = ap (λ (t : TrailState). t.records) same; trail_variables = ap (λ (t : TrailState). t.variables) same; variables = refl; analyzer = refl; order = refl; given = refl; last = refl; waiting = c.reserve.ensures.items })
+    Steps-kept _ _ c.requires.sound (record { records = ap (λ (t : TrailState). t.records) same; trail_variables = ap (λ (t : TrailState). t.variables) same; variables = refl; analyzer = refl; order = refl; given = refl; last = refl; waiting = c.reserve.ensures.items }) (ap (λ (t : TrailState). by_trail t (guide_of c.args.self.now)) same)
 
 pub returns-clause-steps : goal.returns-clause-steps
 returns-clause-steps c =
     let adds : Adds c.args.self.now.trail c.add.new.self c.args.lits c.in_ok-id.id =
     subst (λ (lits : List ℕ). Adds c.args.self.now.trail c.add.new.self lits c.in_ok-id.id) c.lits-2.ensures c.in_ok-at.ensures.ok in
-    Steps-noted _ _ c.in_ok-id.id c.args.lits c.args.hints c.requires.sound c.requires.taught c.in_ok-id.ensures refl adds refl refl refl refl cc
+    Steps-noted _ _ c.in_ok-id.id c.args.lits c.args.hints c.requires.sound c.requires.taught c.in_ok-id.ensures refl adds refl refl refl refl (cc) (guide-same c.args.self.now.trail c.add.new.self (guide_of c.args.self.now) adds.places adds.level)
 
 pub returns-in_err-id-clause-err : goal.returns-in_err-id-clause-err
 returns-in_err-id-clause-err c = on_err _ c.from_residual.result refl

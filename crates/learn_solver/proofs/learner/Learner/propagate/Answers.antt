@@ -1,6 +1,7 @@
 use Rattle.std.proofs.Common.{◌∙◌, refl, sym}
 use Rattle.learn_solver.proofs.SameStates.{SameState-records}
 use Rattle.learn_solver.proofs.RecordLemmas.{AreRecords-same, AreUpTo-same, AreNoted-same}
+use Rattle.learn_solver.specs.Learners.{guide_of}
 use Rattle.learn_solver.proofs.Guidance.{IsGuided-propagated}
 use Rattle.learn_solver.proofs.Goings.{GoesTo-same}
 use Rattle.learn_solver.proofs.learner.Learner.propagate.Goals as goal
@@ -18,10 +19,9 @@ returns-clause-steps c =
         records = AreRecords-same l.trail.records c.propagate.new.self.records l.given s.records kept.records;
         last = AreUpTo-same l.trail.records c.propagate.new.self.records l.last s.last kept.records;
         noted = AreNoted-same l.trail.records c.propagate.new.self.records l.given l.order s.noted kept.records;
+        guided = IsGuided-propagated l.trail c.propagate.new.self (guide_of l) s.guided kept;
       };
       goes = GoesTo-same _ _ kept.variables refl (SameState-records l.trail.records c.propagate.new.self.records l.given kept.records);
       variables = kept.variables;
+      asked = refl;
     }
-
-pub returns-clause-guides : goal.returns-clause-guides
-returns-clause-guides c = λ assumptions g. IsGuided-propagated c.args.self.now (record c.args.self.now { trail = c.propagate.new.self }) assumptions g c.propagate.ensures.kept refl refl

@@ -1,16 +1,20 @@
-use Rattle.std.proofs.Common.{Option, subst}
-use Rattle.learn_solver.specs.declared.solver.Answer.{Answer}
-use Rattle.learn_solver.specs.Learners.{Serves}
-use Rattle.learn_solver.proofs.StepLemmas.{Steps-trans}
+use Rattle.std.proofs.Common.{◌∙◌, ℕ, List, sym, subst}
+use Rattle.learn_solver.specs.Solving.{AreConsistent}
+use Rattle.learn_solver.proofs.Goings.{GoesTo-trans}
 use Rattle.learn_solver.proofs.learner.Learner.solve.Goals as goal
 
-pub returns-in_err-answer-clause-steps : goal.returns-in_err-answer-clause-steps
-returns-in_err-answer-clause-steps c = Steps-trans _ _ _ c.loop-answer.invariant.steps c.step.ensures.steps
+pub step-requires-clause-consistent : goal.step-requires-clause-consistent
+step-requires-clause-consistent c = subst (λ (assumptions : List ℕ). AreConsistent assumptions) (sym c.loop-answer.invariant.asked) c.requires.consistent
 
-pub returns-in-Some-clause-steps : goal.returns-in-Some-clause-steps
-returns-in-Some-clause-steps c = Steps-trans _ _ _ c.loop-answer.invariant.steps c.step.ensures.steps
+pub returns-in_err-answer-clause-goes : goal.returns-in_err-answer-clause-goes
+returns-in_err-answer-clause-goes c = GoesTo-trans _ _ _ c.loop-answer.invariant.goes c.step.ensures.steps.goes
+
+pub returns-in-Some-clause-goes : goal.returns-in-Some-clause-goes
+returns-in-Some-clause-goes c = GoesTo-trans _ _ _ c.loop-answer.invariant.goes c.step.ensures.steps.goes
 
 pub loop-answer-preserved : goal.loop-answer-preserved
-loop-answer-preserved c =
-    let served = subst (λ (o : Option Answer). Serves c.loop-answer.self c.step.new.self c.args.assumptions.now o) c.in_default.is c.in_ok-answer.ensures.served in
-    record { steps = Steps-trans _ _ _ c.loop-answer.invariant.steps c.step.ensures.steps; guided = served.0 }
+loop-answer-preserved c = record {
+  sound = c.step.ensures.steps.sound;
+  goes = GoesTo-trans _ _ _ c.loop-answer.invariant.goes c.step.ensures.steps.goes;
+  asked = c.step.ensures.steps.asked ∙ c.loop-answer.invariant.asked;
+}

@@ -1,18 +1,17 @@
-use Rattle.std.proofs.Common.{◌≡◌, ◌∙◌, ◌<◌, ◌+◌, ℕ, List, true, false, Option, Some, refl, sym, ap, subst, arith, inl, inr}
+use Rattle.std.proofs.Common.{◌≡◌, ◌∙◌, ℕ, List, true, false, Option, Some, sym, ap, subst, arith, inl, inr}
 use Rattle.std.specs.Prelude.{is_some}
 use Rattle.lits_core.specs.Literals.{negation_of, variable_of}
 use Rattle.lits_core.proofs.LiteralLemmas.{negation-negation}
 use Rattle.std.proofs.lemmas.Bool.{true≢false}
 use Rattle.std.specs.List.{Contains}
 use Rattle.watch_arena.specs.Places.{value_of, is_true, is_false}
-use Rattle.watch_arena.specs.Trails.{TrailState, IsTrail}
+use Rattle.watch_arena.specs.Trails.{TrailState}
 use Rattle.learn_solver.specs.declared.learner.Learner.{Learner}
-use Rattle.learn_solver.specs.Weights.{weight}
-use Rattle.learn_solver.specs.Learners.{IsGuided, assumed}
+use Rattle.learn_solver.specs.Solving.{IsRefutation}
+use Rattle.learn_solver.specs.Learners.{seen, guide_of}
 use Rattle.learn_solver.proofs.TrailLemmas.{value-some, true-or-false}
-use Rattle.learn_solver.proofs.StepLemmas.{Steps-assumed}
-use Rattle.learn_solver.proofs.Guidance.{IsGuided-kept, IsGuided-assumed}
-use Rattle.learn_solver.proofs.Conflicts.{IsRefutation-guided, assumed-lighter, open-guided}
+use Rattle.learn_solver.proofs.Guidance.{guided-all}
+use Rattle.learn_solver.proofs.Conflicts.{IsRefutation-guided, false-implied, next-asked}
 use Rattle.learn_solver.proofs.learner.Learner.take.Goals as goal
 
 -- a literal that has a place and is not true is false
@@ -32,7 +31,8 @@ close_false-requires-clause-false_there c =
 pub close_false-requires-clause-implied : goal.close_false-requires-clause-implied
 close_false-requires-clause-implied c =
     let value = c.value.ensures ∙ ap (value_of c.args.self.now.trail.places) c.variable.ensures.value in
-    c.requires.implied (valued c.args.self.now.trail c.args.lit (ap is_some (sym value) ∙ sym c.is_some.ensures ∙ c.if-is_some.true) c.requires.open)
+    let off = valued c.args.self.now.trail c.args.lit (ap is_some (sym value) ∙ sym c.is_some.ensures ∙ c.if-is_some.true) c.requires.open in
+    false-implied c.args.self.now c.args.lit c.facts.ensures c.requires.sound c.requires.consistent c.requires.next off
 
 -- the literal that is let stand is the negation of the assumption
 stood : (assumptions : List ℕ) (lit other : ℕ) → Contains assumptions lit → ◌≡◌ {A = Option ℕ} (Some (negation_of lit)) (Some other) → Contains assumptions (negation_of other)
@@ -41,22 +41,11 @@ stood assumptions lit other has e =
     subst (λ (l : ℕ). Contains assumptions l) (sym (negation-negation lit) ∙ ap negation_of same) has
 
 pub returns-then-is_some-clause-served : goal.returns-then-is_some-clause-served
-returns-then-is_some-clause-served c = λ assumptions g has.
-    let same = c.in_ok-id.ensures.same in
-    let kept = c.in_ok-id.ensures.kept in
-    let guides = IsGuided-kept c.args.self.now c.close_false.new.self assumptions g kept.places kept.level (ap (λ (l : Learner). l.passed) same) (ap (λ (l : Learner). l.guided) same) in
-    let all = open-guided c.args.self.now assumptions c.args.lit c.facts.ensures g has c.requires.open in
-    let now = kept.level in
-    let guided : c.close_false.new.self.guided ≡ c.args.self.now.guided = ap (λ (l : Learner). l.guided) same in
-    IsRefutation-guided c.close_false.new.self assumptions (Some (negation_of c.args.lit)) c.in_ok-id.id c.in_ok-id.ensures.steps.sound c.facts-then-is_some.ensures guides (omega arith) (λ lit stands. stood assumptions c.args.lit lit has stands) c.in_ok-id.ensures.closed
-
-pub returns-clause-steps : goal.returns-clause-steps
-returns-clause-steps c = Steps-assumed c.args.self.now c.assume.new.self (assumed c.args.self.now.trail c.args.lit) (c.args.self.now.trail.level + 1) c.requires.sound c.assume.ensures refl refl
-
-pub returns-clause-served : goal.returns-clause-served
-returns-clause-served c = λ assumptions g has.
-    let all = open-guided c.args.self.now assumptions c.args.lit c.facts.ensures g has c.requires.open in
-    let facts : IsTrail (assumed c.args.self.now.trail c.args.lit) = subst (λ (l : Learner). IsTrail l.trail) c.assume.ensures c.facts-2.ensures in (
-      subst (λ (l : Learner). IsGuided l assumptions) (sym c.assume.ensures) (IsGuided-assumed c.args.self.now assumptions c.args.lit c.facts.ensures g all has),
-      subst (λ (l : Learner). weight l.trail.variables l.trail.places < weight c.args.self.now.trail.variables c.args.self.now.trail.places) (sym c.assume.ensures) (assumed-lighter c.args.self.now.trail c.args.lit facts),
-    )
+returns-then-is_some-clause-served c =
+    let now = c.in_ok-id.ensures.kept.level in
+    let all = guided-all (guide_of c.args.self.now) c.requires.sound.guided c.requires.next.within in
+    let guided : c.close_false.new.self.guided ≡ c.args.self.now.guided = ap (λ (l : Learner). l.guided) c.in_ok-id.ensures.same in
+    let asked = c.in_ok-id.ensures.steps.asked in
+    let has = subst (λ (assumptions : List ℕ). Contains assumptions c.args.lit) (sym asked) (next-asked c.args.self.now c.args.lit c.requires.next) in
+    subst (λ (assumptions : List ℕ). IsRefutation (seen c.close_false.new.self) assumptions c.in_ok-id.id) asked
+    (IsRefutation-guided c.close_false.new.self (Some (negation_of c.args.lit)) c.in_ok-id.id c.in_ok-id.ensures.steps.sound c.facts-then-is_some.ensures (omega arith) (λ lit stands. stood c.close_false.new.self.asked.items c.args.lit lit has stands) c.in_ok-id.ensures.closed)

@@ -1,4 +1,4 @@
-use Rattle.std.proofs.Common.{◌≡◌, ◌∙◌, ℕ, Option, Some, None, sym, ap, subst, arith}
+use Rattle.std.proofs.Common.{◌≡◌, ◌∙◌, ℕ, List, Option, Some, None, sym, ap, subst, arith}
 use Rattle.std.specs.List.{Contains}
 use Rattle.clause_arena.specs.Records.{record_at}
 use Rattle.watch_arena.specs.Places.{is_false}
@@ -7,8 +7,8 @@ use Rattle.watch_arena.proofs.ByIndex.{list_all_at}
 use Rattle.watch_arena.proofs.Watching.{index_of}
 use Rattle.conflict_clause.specs.Taught.{level_in}
 use Rattle.learn_solver.specs.declared.learner.Learner.{Learner}
-use Rattle.learn_solver.specs.Learners.{went_back, Turns}
-use Rattle.learn_solver.proofs.Guidance.{IsGuided-kept}
+use Rattle.learn_solver.specs.Learners.{seen, went_back, Turns}
+use Rattle.learn_solver.specs.Solving.{IsRefutation}
 use Rattle.learn_solver.proofs.Conflicts.{conflict-back, level-back, Turns-lighter, IsRefutation-guided}
 use Rattle.learn_solver.proofs.learner.Learner.turn.Goals as goal
 
@@ -19,17 +19,17 @@ none-some lit e = cc
 pub learn-requires-clause-conflict : goal.learn-requires-clause-conflict
 learn-requires-clause-conflict c =
     let t = c.args.self.now.trail in
-    subst (λ (u : TrailState). IsConflict u c.args.at) (sym (ap (λ (l : Learner). l.trail) c.go_back.ensures.back)) (conflict-back t c.top_level-level.result c.args.at c.facts.ensures c.requires.conflict c.top_level-level.ensures.most)
+    subst (λ (u : TrailState). IsConflict u c.args.at) (sym (ap (λ (l : Learner). l.trail) c.go_back.ensures.back.same)) (conflict-back t c.top_level-level.result c.args.at c.facts.ensures c.requires.conflict c.top_level-level.ensures.most)
 
 pub close-requires-clause-conflict : goal.close-requires-clause-conflict
 close-requires-clause-conflict c =
     let t = c.args.self.now.trail in
-    subst (λ (u : TrailState). IsConflict u c.args.at) (sym (ap (λ (l : Learner). l.trail) c.go_back.ensures.back)) (conflict-back t c.top_level-level.result c.args.at c.facts.ensures c.requires.conflict c.top_level-level.ensures.most)
+    subst (λ (u : TrailState). IsConflict u c.args.at) (sym (ap (λ (l : Learner). l.trail) c.go_back.ensures.back.same)) (conflict-back t c.top_level-level.result c.args.at c.facts.ensures c.requires.conflict c.top_level-level.ensures.most)
 
 pub learn-requires-clause-at_the_level : goal.learn-requires-clause-at_the_level
 learn-requires-clause-at_the_level c =
     let t = c.args.self.now.trail in
-    let trail = ap (λ (l : Learner). l.trail) c.go_back.ensures.back in
+    let trail = ap (λ (l : Learner). l.trail) c.go_back.ensures.back.same in
     let below = c.if-self-level.true in
     let has = c.top_level-level.ensures.has (omega arith) in
     let lit = has.0 in
@@ -40,23 +40,20 @@ learn-requires-clause-at_the_level c =
     subst (λ (u : TrailState). (l : ℕ) × Contains (record_at u.records c.args.at).lits l × (level_in u.places l ≡ u.level)) (sym trail) (lit, has.1, level)
 
 pub returns-then-self-level-clause-served : goal.returns-then-self-level-clause-served
-returns-then-self-level-clause-served c = λ assumptions g.
+returns-then-self-level-clause-served c =
     let t = c.args.self.now.trail in
-    let trail = ap (λ (l : Learner). l.trail) c.go_back.ensures.back in
-    let turned = subst (λ (u : TrailState). Turns u c.learn.new.self.trail) trail c.in_ok-learn.ensures.turned in (
-      c.in_ok-learn.ensures.guides assumptions (c.go_back.ensures.guides assumptions g),
-      Turns-lighter t c.learn.new.self.trail c.top_level-level.result c.facts.ensures c.top_level-level.ensures.within turned,
-    )
+    let trail = ap (λ (l : Learner). l.trail) c.go_back.ensures.back.same in
+    let turned = subst (λ (u : TrailState). Turns u c.learn.new.self.trail) trail c.in_ok-learn.ensures.turned in
+    Turns-lighter t c.learn.new.self.trail c.top_level-level.result c.facts.ensures c.top_level-level.ensures.within turned
 
 pub returns-clause-served : goal.returns-clause-served
-returns-clause-served c = λ assumptions g.
-    let back = c.go_back.ensures.back in
+returns-clause-served c =
+    let back = c.go_back.ensures.back.same in
     let same = c.in_ok-id.ensures.same in
-    let kept = c.in_ok-id.ensures.kept in
-    let went = c.go_back.ensures.guides assumptions g in
-    let guides = IsGuided-kept c.go_back.new.self c.close.new.self assumptions went kept.places kept.level (ap (λ (l : Learner). l.passed) same) (ap (λ (l : Learner). l.guided) same) in
     let all = c.if-self-level.false in
+    let now = c.in_ok-id.ensures.kept.level in
     let level : c.go_back.new.self.trail.level ≡ c.top_level-level.result = ap (λ (l : Learner). l.trail.level) back in
-    let now = kept.level in
     let guided : c.close.new.self.guided ≡ c.go_back.new.self.guided = ap (λ (l : Learner). l.guided) same in
-    IsRefutation-guided c.close.new.self assumptions None c.in_ok-id.id c.in_ok-id.ensures.steps.sound c.facts-3.ensures guides (omega arith) (λ lit stands. absurd (none-some lit stands)) c.in_ok-id.ensures.closed
+    let asked : c.close.new.self.asked.items ≡ c.args.self.now.asked.items = c.in_ok-id.ensures.steps.asked ∙ c.go_back.ensures.steps.asked in
+    subst (λ (assumptions : List ℕ). IsRefutation (seen c.close.new.self) assumptions c.in_ok-id.id) asked
+    (IsRefutation-guided c.close.new.self None c.in_ok-id.id c.in_ok-id.ensures.steps.sound c.facts-3.ensures (omega arith) (λ lit stands. absurd (none-some lit stands)) c.in_ok-id.ensures.closed)

@@ -1,0 +1,13 @@
+use Rattle.std.proofs.Common.{◌≡◌, ◌-◌, length}
+use Rattle.learn_solver.specs.Guides.{IsMarked}
+use Rattle.learn_solver.specs.Learners.{guide_of}
+use Rattle.learn_solver.proofs.learner.Learner.pass.Given as goal
+
+abbrev pub invariant-loop-self : goal.invariant-loop-self
+invariant-loop-self l = record {
+  same : l.self ≡ record l.fn.self { passed = l.self.passed; guided = l.self.guided; marks = l.self.marks };
+  marked : IsMarked (guide_of l.self);
+}
+
+abbrev pub decreases-loop-self : goal.decreases-loop-self
+decreases-loop-self l = length l.self.asked.items - l.self.passed
