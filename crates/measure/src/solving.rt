@@ -30,6 +30,8 @@ fn literal(number: i32, variables: u32) -> Option<Lit>
 }
 
 // Adds the clauses, each of them the numbers up to the next 0. What is no literal ends a clause as 0 does.
+//
+// Here and below a call of the solver that finds no memory is made once more: it must then answer as if it were the first.
 fn add_clauses(
     solver: &mut Solver,
     alloc: Global,
@@ -46,7 +48,12 @@ fn add_clauses(
         match literal(word.parse().unwrap_or(0), variables) {
             Some(lit) => lits.push(lit)?,
             None => {
-                solver.add(&lits)?;
+                match solver.add(&lits) {
+                    Ok(_id) => {}
+                    Err(_) => {
+                        solver.add(&lits)?;
+                    }
+                }
                 lits.clear();
             }
         }
@@ -81,16 +88,19 @@ fn solve_by(
     ensures { solver.new.variables ≡ solver.old.variables }
 {
     let lits = literals_by(alloc, splits, number)?;
-    let found = match solver.solve(&lits)? {
-        Answer::Bits(_) => true,
-        Answer::Refuted(_) => false,
+    let answer = match solver.solve(&lits) {
+        Ok(answer) => answer,
+        Err(_) => solver.solve(&lits)?,
     };
     let learnt = solver.lines().len();
     if solver.idle() > MOST_IDLE {
-        solver.tidy()?;
+        match solver.tidy() {
+            Ok(()) => {}
+            Err(_) => solver.tidy()?,
+        }
     }
     solver.clear_lines();
-    Ok((found, learnt))
+    Ok((matches!(answer, Answer::Bits(_)), learnt))
 }
 
 // Whether there are bits, and how many clauses were learnt. The first variables are assumed in each way, one after the other.
