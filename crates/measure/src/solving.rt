@@ -2,6 +2,8 @@
 
 ghost use Rattle.std.specs.Prelude.{◌≡◌, ◌<◌, ◌≤◌, [], IfOk, OnOk, IfSome};
 ghost use Rattle.lits_core.specs.Literals.{variable_of};
+ghost use Rattle.watch_arena.specs.Trails.{AreInRange};
+ghost use Rattle.learn_solver.specs.Solving.{AreConsistent};
 ghost use Rattle.measure.specs.Solving.{AreByPlace};
 
 use crate::files::bytes_of;
@@ -75,6 +77,18 @@ fn literals_by(alloc: Global, splits: u32, number: u32) -> Result<Vec<Lit>, Allo
     Ok(lits)
 }
 
+// What the solver says of assumptions.
+fn asked(solver: &mut Solver, lits: &[Lit]) -> Result<Answer, AllocError>
+    requires range { AreInRange lits.now solver.old.variables }
+    requires consistent { AreConsistent lits.now }
+    ensures { solver.new.variables ≡ solver.old.variables }
+{
+    match solver.solve(lits) {
+        Ok(answer) => Ok(answer),
+        Err(_) => solver.solve(lits),
+    }
+}
+
 // Whether there are bits by which the first variables are as the number says, and how many clauses were learnt. Idle clauses
 // are forgotten afterwards, where they are many.
 fn solve_by(
@@ -88,10 +102,7 @@ fn solve_by(
     ensures { solver.new.variables ≡ solver.old.variables }
 {
     let lits = literals_by(alloc, splits, number)?;
-    let answer = match solver.solve(&lits) {
-        Ok(answer) => answer,
-        Err(_) => solver.solve(&lits)?,
-    };
+    let answer = asked(solver, &lits)?;
     let learnt = solver.lines().len();
     if solver.idle() > MOST_IDLE {
         match solver.tidy() {

@@ -16,6 +16,6 @@ consistent count lits e lit has other =
     let same : b.0 ≡ a.0 = sym there ∙ variable_of-negation lit ∙ here in
     negation-other lit (sym b.2 ∙ ap (λ k. get_or lits k 0) same ∙ a.2)
 
-pub solve-requires-clause-consistent : goal.solve-requires-clause-consistent
-solve-requires-clause-consistent c =
+pub asked-requires-clause-consistent : goal.asked-requires-clause-consistent
+asked-requires-clause-consistent c =
     subst (λ lits. AreConsistent lits) (sym c.deref.ensures.value) (consistent c.args.splits c.in_ok-lits.lits.items c.in_ok-lits.ensures)
