@@ -105,14 +105,20 @@ fn explain_write(rt: &impl Eprint, words: &[String]) -> io::Result<()> {
     )
 }
 
-// Tells what is wrong with the words, at which word, and what may stand there.
+// Tells what is wrong with the words, at which word, and what may stand there. It makes watchers of its own, for their names: no function
+// may make such values and hand them out.
 fn explain_usage(
     rt: &impl Eprint,
     alloc: Global,
     words: &[String],
     kind: UsageKind,
 ) -> io::Result<()> {
-    let watchers = all_watchers(alloc)?;
+    let mut watchers: Vec<Box<dyn WorldWatcher>> = Vec::new(alloc);
+    watchers.push(Box::new(alloc, CountWatcher::new(alloc))?)?;
+    watchers.push(Box::new(alloc, TallyWatcher::new(alloc))?)?;
+    watchers.push(Box::new(alloc, SeenWatcher::new(alloc))?)?;
+    watchers.push(Box::new(alloc, MergeWatcher::new(alloc))?)?;
+    watchers.push(Box::new(alloc, JsonWatcher::new(alloc))?)?;
     let word = wrong_word(alloc, words, &watchers, kind);
     let help = usage_help(alloc)?;
     let colon = if word.is_empty() { "" } else { ": " };
@@ -158,22 +164,16 @@ fn explain(rt: &impl Eprint, alloc: Global, words: &[String], status: &Status) -
     }
 }
 
-// A watcher of each kind.
-fn all_watchers(alloc: Global) -> Result<Vec<Box<dyn WorldWatcher>>, AllocError> {
+// Does what the words ask for, on the files of the system and standard output. Where no memory is found for the watchers,
+// nothing is done.
+fn run_words(rt: &HostRuntime, words: &[String]) -> Result<Status, AllocError> {
+    let alloc = rt.alloc();
     let mut watchers: Vec<Box<dyn WorldWatcher>> = Vec::new(alloc);
     watchers.push(Box::new(alloc, CountWatcher::new(alloc))?)?;
     watchers.push(Box::new(alloc, TallyWatcher::new(alloc))?)?;
     watchers.push(Box::new(alloc, SeenWatcher::new(alloc))?)?;
     watchers.push(Box::new(alloc, MergeWatcher::new(alloc))?)?;
     watchers.push(Box::new(alloc, JsonWatcher::new(alloc))?)?;
-    Ok(watchers)
-}
-
-// Does what the words ask for, on the files of the system and standard output. Where no memory is found for the watchers,
-// nothing is done.
-fn run_words(rt: &HostRuntime, words: &[String]) -> Result<Status, AllocError> {
-    let alloc = rt.alloc();
-    let watchers = all_watchers(alloc)?;
     let mut store = FileStore::new(alloc, rt);
     let mut out = StdoutSink::new(rt);
     Ok(run(alloc, words, &mut store, &mut out, watchers))
