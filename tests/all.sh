@@ -41,10 +41,12 @@ part "rows" python3 rows.py "$program"
 part "faults" python3 faults.py "$scenes"
 part "json_names" python3 json_names.py --program "$program"
 part "devices" python3 devices.py "$program"
+part "refused, each 9th allocation" python3 refused.py "$program" --every 9
 part "certificate_bytes" python3 certificate_bytes.py "$program"
 part "hostile, small" python3 hostile.py "$program" --quick
 part "differential, 500 cases" python3 differential.py --program "$program"
 if [ -z "$quick" ]; then
+  part "refused" python3 refused.py "$program"
   part "hostile" python3 hostile.py "$program"
   part "differential, 5,000 other cases" python3 differential.py --count 5000 --seed 2 --program "$program"
   part "breaks" python3 breaks.py --program "$program"

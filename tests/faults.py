@@ -67,7 +67,7 @@ def block(files, words, failing, put):
 def parts(out, names):
     """What runs put, their exit codes and what the names hold then, run by run."""
     for run in out.split("\n$ ")[1:]:
-        run = run.split("\n% ")[0] + "\n"
+        run = run.split("\n% ")[0].removesuffix("\n") + "\n"
         put, _, rest = run.partition("\n? ")
         put = put.partition("\n")[2]
         code, _, rest = rest.partition("\n")
@@ -109,21 +109,27 @@ def fault_in(words, files, right, run):
     return None
 
 
+def until_it_ends_well(program, folder, case, kind):
+    """The run in which no call fails, and those in which one does, up to the first call that the run doesn't make."""
+    for most in (30, 300, 3000):
+        right, *others = played(program, folder, *case, kind, most)
+        ends = [run == right for run in others]
+        if True in ends:
+            if not all(ends[ends.index(True) :]):
+                sys.exit(f"{case[2]}: a run ends otherwise though no call of its fails")
+            return right, others[: ends.index(True)]
+    sys.exit(f"{case[2]}: no run ends well")
+
+
 def check_case(program, folder, case):
-    problem, files, words = case
     count = 0
     for kind in (0, 1):
-        right, *others = played(program, folder, problem, files, words, kind, 300)
-        ends = [run == right for run in others]
-        if True not in ends:
-            sys.exit(f"{words}: no run ends well")
-        for number, run in enumerate(others[: ends.index(True)], 1):
-            why = fault_in(words, files, right, run)
+        right, others = until_it_ends_well(program, folder, case, kind)
+        for number, run in enumerate(others, 1):
+            why = fault_in(case[2], case[1], right, run)
             count += 1
             if why:
-                sys.exit(f"{words}: call {number} of the {'sink' if kind else 'store'} fails: {why}\n{run}\nand right is\n{right}")
-        if not all(ends[ends.index(True) :]):
-            sys.exit(f"{words}: a run ends otherwise though no call of its fails")
+                sys.exit(f"{case[2]}: call {number} of the {'sink' if kind else 'store'} fails: {why}\n{run}\nand right is\n{right}")
     return count
 
 
