@@ -52,14 +52,14 @@ class FromCsv(unittest.TestCase):
     def test_other_delimiters_blanks_and_quotes(self):
         code, out, err = self.make(
             "1=old", "2=new", "statements=links", "--delimiter", ";", "--blanks", "_",
-            old='child;parent\n"Arm ""chair""";Seat\n', new="child;parent\nDining chair;\nEasy chair;\n",
+            old='child;parent\n"Arm ""chair""";Seat\nSeat;\n', new="child;parent\nDining chair;\nEasy chair;\n",
             links='left;relation;right\n1.Seat;sums;2.Dining chair, 2.Easy chair\n',
         )
         self.assertEqual((code, err), (0, ""))
         self.assertIn('(Seat Arm_"chair")\n', out)
         self.assertIn("[1.Seat sums 2.Dining_chair 2.Easy_chair]\n", out)
         plain.read_problem(out.encode(), (True, True, True))
-        code, out, _ = self.make("1=old", "2=new", "--delimiter", "tab", old="child\tparent\na\tb\n", new="child\tparent\nc\t\n")
+        code, out, _ = self.make("1=old", "2=new", "--delimiter", "tab", old="child\tparent\na\tb\nb\t\n", new="child\tparent\nc\t\n")
         self.assertEqual((code, out), (0, "taxonomy 1\n(b a)\ntaxonomy 2\n(c)\narticulation\n"))
 
     def test_a_value_that_is_cut_off_at_the_end(self):
@@ -87,6 +87,7 @@ class FromCsv(unittest.TestCase):
     def test_rows_that_are_no_forest(self):
         for rows, says in [
             ("b,a\nb,c\n", "old:3:3: b has another parent, a already, at old:2:3"),
+            ("a,\nb,A\n", "old:3:3: the parent A has no row of its own; correct its spelling, or add a row in which it is the child and no parent stands"),
             ("b,a\nb,a\n", "old:3:3: b stands under a already, at old:2:3"),
             ("b,a\na,b\n", "old:3:3: a would stand under itself"),
             ("a,a\n", "old:2:3: a would stand under itself"),
@@ -99,7 +100,8 @@ class FromCsv(unittest.TestCase):
     def test_tables_that_cannot_be_read(self):
         for text, says in [
             ("", "old:1:1: the table is empty; its first row names the columns child, parent"),
-            ("child\na\n", "old:1:1: the first row names the column `parent` 0 times; the columns are child, parent"),
+            ("child\na\n", "old:1:1: the first row has no column `parent`; the columns are child, parent; if it is not commas that separate the values, give --delimiter"),
+            ("child,parent,parent\na,,\n", "old:1:1: the first row names the column `parent` 2 times"),
             ('child,parent\n"a,b\n', "old:2:1: this quote is not closed"),
             ('child,parent\n"a"b,c\n', "old:2:4: a quoted value ends here; a quote within one is written twice"),
             (b"child,parent\nab\xff,c\n", "old:2:3: these bytes are not UTF-8; save the table as UTF-8"),
