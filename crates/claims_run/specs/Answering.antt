@@ -30,7 +30,7 @@ use Rattle.claims_run.specs.declared.question.Answer.TheVariants.{Possible, Cons
 -- an answer is right: the sets are those of the possible relations, and it is told whether there is a world; the articulations hold
 -- together; or the flags are those of the least conflict
 abbrev pub IsRight : Problem → Question → Answer → Type 0
-IsRight p question.Relations (Possible mir some) = ArePossibleSets p mir.sets.items × IsTrue some ↔ IsMet p
+IsRight p question.Relations (Possible mir some) = ArePossibleSets p mir.sets.items × (IsTrue some ↔ IsMet p)
 IsRight p question.Relations Consistent = ⊥
 IsRight p question.Relations (Conflict kept) = ⊥
 IsRight p question.Conflicts (Possible mir some) = ⊥
