@@ -3,6 +3,8 @@
 use constraint_set::Problem;
 use rcc5_core::Position;
 use std::alloc::{AllocError, Global};
+use std::cell::Cell;
+use std::rc::Rc;
 use world_watch::WorldWatcher;
 
 /// A watcher with any name and any report, which finds no memory after so many worlds.
@@ -11,14 +13,23 @@ pub struct OwnWatcher {
     name: Vec<u8>,
     says: Vec<u8>,
     left: u64,
+    /// How many held this when the first world was shown to one of them; 0 before.
+    held: Rc<Cell<usize>>,
 }
 
 impl OwnWatcher {
-    pub fn new(alloc: Global, name: &str, says: &str, left: u64) -> Result<OwnWatcher, AllocError> {
+    pub fn new(
+        alloc: Global,
+        name: &str,
+        says: &str,
+        left: u64,
+        held: &Rc<Cell<usize>>,
+    ) -> Result<OwnWatcher, AllocError> {
         Ok(OwnWatcher {
             name: Vec::from_slice(alloc, name.as_bytes())?,
             says: Vec::from_slice(alloc, says.as_bytes())?,
             left,
+            held: held.clone()?,
         })
     }
 }
@@ -33,6 +44,9 @@ impl WorldWatcher for OwnWatcher {
     }
 
     fn see(&mut self, _problem: &Problem, _table: &Position) -> Result<(), AllocError> {
+        if self.held.get() == 0 {
+            self.held.set(Rc::strong_count(&self.held));
+        }
         if self.left == 0 {
             return Err(AllocError);
         }

@@ -4,6 +4,8 @@ use super::own_watcher::OwnWatcher;
 use align_top::run;
 use outer_store::{MemorySink, MemoryStore};
 use std::alloc::{AllocError, Global};
+use std::cell::Cell;
+use std::rc::Rc;
 use world_watch::{
     CountWatcher, JsonWatcher, MergeWatcher, SeenWatcher, TallyWatcher, WorldWatcher,
 };
@@ -32,7 +34,7 @@ fn new_store(alloc: Global, failing: u64, step: u64) -> Result<MemoryStore, Allo
 ///
 /// A line `@ NAME` begins a file, whose lines follow. `$ WORDS` is a run, `? CODE` its exit code, and what
 /// it puts stands between. `& WORDS` is a run with watchers of its own: `one`, `stop`, which finds no memory at the third world, and
-/// `one` once more. `= NAME` shows what a name holds then. `% N M S` takes a new store, in which the file `p` alone is held again; its
+/// `one` once more; `~ N` tells how many of these, and the scene, were there when one of them was first shown a world. `= NAME` shows what a name holds then. `% N M S` takes a new store, in which the file `p` alone is held again; its
 /// call N fails, and in the next run the sink's call M. No call fails where the number is 0. Where S is 1, a read copies one byte.
 #[derive(Drop)]
 struct Scene {
@@ -82,12 +84,18 @@ impl Scene {
     fn run(&mut self, text: &str, with_own: bool) -> Result<(), AllocError> {
         let words = words_of(self.alloc, text)?;
         let mut sink = MemorySink::new(self.alloc, vec![in self.alloc; self.failing_put]?);
+        let held = Rc::new(self.alloc, Cell::new(0))?;
         let code = if with_own {
-            self.run_with_own(&words, &mut sink)?
+            self.run_with_own(&words, &mut sink, &held)?
         } else {
             self.run_words(&words, &mut sink)?
         };
         self.put_bytes(sink.bytes())?;
+        if with_own {
+            let count = held.get();
+            let shown = format!(in self.alloc; "~ {count}")?;
+            self.put_line(shown.as_str())?;
+        }
         let end = format!(in self.alloc; "? {code}")?;
         self.put_line(end.as_str())
     }
@@ -103,12 +111,26 @@ impl Scene {
         Ok(run(self.alloc, words, &mut self.store, sink, watchers).code())
     }
 
-    /// Runs with watchers of its own.
-    fn run_with_own(&mut self, words: &[String], sink: &mut MemorySink) -> Result<u8, AllocError> {
+    /// Runs with watchers of its own, which hold this.
+    fn run_with_own(
+        &mut self,
+        words: &[String],
+        sink: &mut MemorySink,
+        held: &Rc<Cell<usize>>,
+    ) -> Result<u8, AllocError> {
         let mut watchers: Vec<Box<dyn WorldWatcher>> = Vec::new(self.alloc);
-        watchers.push(Box::new(self.alloc, OwnWatcher::new(self.alloc, "one", "1", 5)?)?)?;
-        watchers.push(Box::new(self.alloc, OwnWatcher::new(self.alloc, "stop", "2", 2)?)?)?;
-        watchers.push(Box::new(self.alloc, OwnWatcher::new(self.alloc, "one", "3", 5)?)?)?;
+        watchers.push(Box::new(
+            self.alloc,
+            OwnWatcher::new(self.alloc, "one", "1", 5, held)?,
+        )?)?;
+        watchers.push(Box::new(
+            self.alloc,
+            OwnWatcher::new(self.alloc, "stop", "2", 2, held)?,
+        )?)?;
+        watchers.push(Box::new(
+            self.alloc,
+            OwnWatcher::new(self.alloc, "one", "3", 5, held)?,
+        )?)?;
         Ok(run(self.alloc, words, &mut self.store, sink, watchers).code())
     }
 
