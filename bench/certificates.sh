@@ -1,7 +1,7 @@
 #!/usr/bin/env bash
 # Lists the worlds of the furniture example, of generated problems and of flat ones with a certificate, and checks it: prints how
 # many worlds there are, the lines and bytes of the certificate, how many lines are tree lines and how many the derivation's,
-# and the processor time and peak memory of the listing and of the check (by Debian's time).
+# and the processor time and peak memory of the listing and of the check (by Debian's time), and what cat takes for the same bytes.
 # Words choose among them as in listing.sh; without any, all but 256 and 4x5 are written, which take minutes.
 # shellcheck source=/dev/null
 . "$(git rev-parse --show-toplevel)/bench/built.sh"
@@ -14,11 +14,12 @@ for one in "$@"; do
   esac
   last=$(/usr/bin/time -f "%U %S %M" -o "$folder/used" out/euler_align align "in=$folder/p.txt" "cert=$folder/c" | tail -n 1)
   accepted=$(/usr/bin/time -f "%U %S %M" -o "$folder/checked" out/euler_align check "in=$folder/p.txt" "cert=$folder/c" | tail -n 1)
+  /usr/bin/time -f "%U %S" -o "$folder/cat" cat "$folder/c" | cat > /dev/null
   trees=$(grep -c '^[bxew] ' "$folder/c" || true)
   proofs=$(grep -c '^[dk] ' "$folder/c" || true)
   bytes=$(wc -c < "$folder/c")
-  awk -v name="$name" -v last="$last" -v accepted="$accepted" -v trees="$trees" -v proofs="$proofs" -v bytes="$bytes" \
+  awk -v name="$name" -v last="$last" -v accepted="$accepted" -v trees="$trees" -v proofs="$proofs" -v bytes="$bytes" -v cat="$(awk '{ print $1 + $2 }' "$folder/cat")" \
     'NR == FNR { wrote = sprintf("%.2f s, %.1f MiB", $1 + $2, $3 / 1024); next }
-     { printf "%s: %s, %s; %d tree lines, %d derivation lines, %d bytes; written in %s; checked in %.2f s, %.1f MiB\n", name, last, accepted, trees, proofs, bytes, wrote, $1 + $2, $3 / 1024 }' \
+     { printf "%s: %s, %s; %d tree lines, %d derivation lines, %d bytes; written in %s; checked in %.2f s, %.1f MiB; cat puts it into a pipe in %.2f s\n", name, last, accepted, trees, proofs, bytes, wrote, $1 + $2, $3 / 1024, cat }' \
     "$folder/used" "$folder/checked"
 done
