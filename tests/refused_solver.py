@@ -1,7 +1,7 @@
 #!/usr/bin/env python3
 """Allocations of the solver are refused, one in each run, over a formula that takes several thousand conflicts.
 
-    tests/refused_solver.py MEASURE FORMULA [--every N]
+    tests/refused_solver.py MEASURE FORMULA [--every N] [--first N]
 
 The program of crates/measure makes a call of the solver once more where it finds no memory, so the answer must be that of a run
 without a refusal; the number of conflicts may be another, since the search goes on from where it was. Where memory is refused elsewhere, as while the file is read, the run must say so and end. It
@@ -22,6 +22,7 @@ def main():
     parser.add_argument("program")
     parser.add_argument("formula")
     parser.add_argument("--every", type=int, default=61)
+    parser.add_argument("--first", type=int, default=1)
     given = parser.parse_args()
     with tempfile.TemporaryDirectory() as folder:
         shim, count = os.path.join(folder, "refuse.so"), os.path.join(folder, "count")
@@ -36,7 +37,7 @@ def main():
         with open(count) as file:
             most = int(file.read())
         alike = other = 0
-        for at in range(1, most + 1, given.every):
+        for at in range(given.first, most + 1, given.every):
             got = run(at)
             if got[0] == right[0] and got[1].split(b" ")[0] == right[1].split(b" ")[0]:
                 alike += 1
