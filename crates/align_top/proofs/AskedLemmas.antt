@@ -1,17 +1,16 @@
 -- What a listing comes to that words ask for, by the bytes that are read for it.
-use Rattle.std.proofs.Common.{◌≡◌, ℕ, ◌<◌, ◌≤◌, Bool, true, false, List, [], ◌∷◌, Option, None, Some, IfSome, IfOk, IfErr, Result, Ok, Err, length, take, refl, sym, ap, subst, ◌∙◌, inl, inr, ⊎_elim, arith, length-take, take_all}
-use Rattle.std.specs.Prelude.{nat_lt, nat_le, if◌then◌else◌, bytes_eq, ◌&&◌, not, unwrap_or, option_map, option_and_then, ok_or}
-use Rattle.std.proofs.lemmas.Bool.{ltb-true, lt-ltb, ltb-false, leb-true, eq-eqb}
+use Rattle.std.proofs.Common.{◌≡◌, ℕ, ◌<◌, ◌≤◌, Bool, true, false, List, [], Option, None, Some, IfSome, IfOk, IfErr, Result, Ok, Err, length, take, refl, sym, ap, subst, ◌∙◌, inl, inr, ⊎_elim, arith, length-take, take_all}
+use Rattle.std.specs.Prelude.{nat_lt, if◌then◌else◌, bytes_eq, unwrap_or, option_map}
+use Rattle.std.proofs.lemmas.Bool.{ltb-true, lt-ltb, ltb-false}
 use Rattle.world_model.specs.declared.Switches.{Switches}
 use Rattle.rcc5_core.specs.declared.Rel.{Rel}
-use Rattle.world_model.specs.Problem.{Problem, pair_count}
+use Rattle.world_model.specs.Problem.{Problem}
 use Rattle.cleantax_text.specs.declared.TextKind.{TextKind}
 use Rattle.cleantax_text.specs.Reading.{text_result}
 use Rattle.resume_token.specs.declared.TokenKind.{TokenKind}
 use Rattle.resume_token.specs.declared.TokenKind.TheVariants as kind
 use Rattle.resume_token.specs.declared.TokenFault.{TokenFault}
-use Rattle.resume_token.specs.Contents.{Contents as TokenContents, contents_of}
-use Rattle.resume_token.specs.Token.{token_result, contents_result, are_of, position_for, position_in, kind_of}
+use Rattle.resume_token.specs.Token.{token_result, kind_of}
 use Rattle.outer_store.specs.Contents.{Contents}
 use Rattle.run_ends.specs.declared.Status.{Status}
 use Rattle.run_ends.specs.declared.Status.TheVariants as status
@@ -37,33 +36,6 @@ token_cut p told = by (nat_lt 1048576 (length told)) refl
     by false e =
         let short : length told ≤ 1048576 = ltb-false 1048576 (length told) e in
         ap (λ (bs : List ℕ). token_result p bs) (take_all 1048577 told (omega (arith, short)))
-
--- the position of a token has no more relations than there are pairs
-within_found : (p : Problem) (found : Option (List Rel)) (q : List Rel)
-    → ok_or (option_and_then (λ (r : List Rel). if nat_le (length r) (pair_count p) then Some r else None) found) kind.BadPosition ≡ Ok q → length q ≤ pair_count p
-within_found p None q e = cc
-within_found p (Some r) q e = by (nat_le (length r) (pair_count p)) refl e
-  where
-    by : (b : Bool) → nat_le (length r) (pair_count p) ≡ b → ok_or (if b then Some r else None) kind.BadPosition ≡ Ok q → length q ≤ pair_count p
-    by true short same =
-        let is : r ≡ q = cc in
-        subst (λ (l : List Rel). length l ≤ pair_count p) is (leb-true (length r) (pair_count p) short)
-    by false long same = cc
-
-within_contents : (p : Problem) (c : Option TokenContents) (q : List Rel) → contents_result p c ≡ Ok q → length q ≤ pair_count p
-within_contents p None q e = cc
-within_contents p (Some c) q e = by (are_of p c) e
-  where
-    by : (b : Bool) → (if not b then Err kind.OtherProblem else ok_or (position_for p c.position) kind.BadPosition) ≡ Ok q → length q ≤ pair_count p
-    by true same = within_found p (position_in c.position) q same
-    by false same = cc
-
-pub within_token : (p : Problem) (bytes : List ℕ) (q : List Rel) → start_in p bytes ≡ Ok q → length q ≤ pair_count p
-within_token p bytes q e = by (token_result p bytes) refl e
-  where
-    by : (r : Result (List Rel) TokenKind) → token_result p bytes ≡ r → start_by r ≡ Ok q → length q ≤ pair_count p
-    by (Ok start) is same = within_contents p (contents_of bytes) q (is ∙ cc)
-    by (Err kind) is same = cc
 
 -- what comes of a token
 pub token_said : (p : Problem) (bytes : List ℕ) (q : List Rel) → token_result p bytes ≡ Ok q → start_in p bytes ≡ Ok q
@@ -238,11 +210,6 @@ ends_without_start one mid other asking p s askable same problem end =
         (λ starved. inr (inr starved))
         unread)
         end
-
--- a start is no longer than there are pairs
-pub start_within : (held : Contents) (p : Problem) (resume : Option (List ℕ)) (start : List Rel) → IsStart held p resume start → length start ≤ pair_count p
-start_within held p None start empty = omega (arith, ap length empty)
-start_within held p (Some name) start of_token = within_token p of_token.bytes start of_token.judged
 
 -- by the word that holds the token's name
 pub started : (held : Contents) (p : Problem) (resume : Option (List ℕ)) (name text : List ℕ) (r : Result (List Rel) Status) → resume ≡ Some name → text ≡ name

@@ -1,6 +1,6 @@
 -- A listing whose certificate a store holds.
-use Rattle.std.proofs.Common.{◌≡◌, ℕ, ◌≤◌, ◌^◌, Bool, true, false, List, [], ◌∷◌, ◌++◌, Option, None, Some, IfSome, IfOk, OnErr, Result, Ok, Err, IsTrue, length, refl, sym, ap, subst, ◌∙◌, inl, inr, ⊎_elim, arith}
-use Rattle.std.specs.Prelude.{⊤, ◌⊎◌, Contains}
+use Rattle.std.proofs.Common.{◌≡◌, ℕ, Bool, true, false, List, [], ◌∷◌, ◌++◌, Option, None, Some, IfSome, IfOk, OnErr, Result, Ok, Err, refl, sym, ap, subst, ◌∙◌, inl, inr, ⊎_elim}
+use Rattle.std.specs.Prelude.{◌⊎◌, Contains}
 use Rattle.std.specs.Result.{IsErrAnd}
 use Rattle.outer_store.specs.Contents.{Contents, OthersKept, emptied}
 use Rattle.outer_store.specs.Faults.{Counts, Rose, IfFailed}
@@ -18,8 +18,7 @@ use Rattle.cert_text.specs.Logs.{Told, lines_in, lines_held}
 use Rattle.std.specs.Borrow.{Bor}
 use Rattle.cert_text.specs.declared.store_log.StoreLog.{StoreLog}
 use Rattle.cert_text.specs.StoreLogs.{log_store, log_name, is_refused, OnlyWritten}
-use Rattle.cert_rules.specs.Files.{Answer, Accepts, Listing}
-use Rattle.cert_reader.specs.declared.fault.CertTextKind.{CertTextKind}
+use Rattle.cert_rules.specs.Files.{Accepts, Listing}
 use Rattle.check_run.specs.Checking.{cert_answer}
 use Rattle.run_ends.specs.Runs.{StoreState, SinkState, store_state, HasFailed, AreKeptBut, IsQuiet, IsWriteCause}
 use Rattle.align_top.specs.declared.listing.Listed.{Listed}
@@ -133,27 +132,9 @@ listed_in_store r order name refused store mid store' sink sink' valid within ma
   cause = store_cause r name store mid store' sink sink' quiet cause;
 }
 
--- a listing without a certificate leaves the store
-unwritten_cause : (r : Result Listed StoreFault) (store : StoreState) (sink sink' : SinkState) → IfFailed r (Rose sink.faults sink'.faults) (sink'.faults ≡ sink.faults)
-    → IfFailed r (IsWriteCause [] store store sink sink') (IsQuiet store store × (sink'.faults ≡ sink.faults))
-unwritten_cause (Ok listed) store sink sink' cause = ((refl, refl), cause)
-unwritten_cause (Err Failed) store sink sink' cause = inl (cause, (refl, refl))
-unwritten_cause (Err NoMemory) store sink sink' cause = ((refl, refl), cause)
-
 none_left : (r : Result Listed StoreFault) (order : Order) (held : Contents) → IfOk r (λ listed. IsCertLeft order.problem order.start listed.cut None held held)
 none_left (Ok listed) order held = tt
 none_left (Err e) order held = tt
-
-pub listed_alone : (r : Result Listed StoreFault) (order : Order) (store : StoreState) (sink sink' : SinkState)
-    → IfOk r (λ listed. IsPutToCut order sink.bytes sink'.bytes listed.cut listed.count) → OnErr r (IsPutPartly order sink.bytes sink'.bytes)
-    → IfFailed r (Rose sink.faults sink'.faults) (sink'.faults ≡ sink.faults) → IsListedWith order None r store store sink sink'
-listed_alone r order store sink sink' ok err cause = record {
-  ok = ok;
-  err = err;
-  left = none_left r order store.held;
-  kept = λ name apart. refl;
-  cause = unwritten_cause r store sink sink' cause;
-}
 
 -- the same by the log's own words
 module _ {S : Type 0} (held : S → Contents) (reads writes : S → Counts) where

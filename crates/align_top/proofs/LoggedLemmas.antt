@@ -1,5 +1,5 @@
 -- What a listing tells a log, step by step.
-use Rattle.std.proofs.Common.{◌≡◌, ℕ, List, [], ◌∷◌, ◌++◌, Option, None, Some, IfSome, Result, Ok, Err, OnOk, refl, sym, subst, ◌∙◌, inl, inr, ⊎_elim, arith, ◌≤◌}
+use Rattle.std.proofs.Common.{◌≡◌, ℕ, List, [], ◌∷◌, ◌++◌, Option, Some, IfSome, Result, Ok, Err, refl, sym, subst, ◌∙◌, inl, inr, ⊎_elim, arith, ◌≤◌}
 use Rattle.std.specs.Prelude.{⊤, flat_map}
 use Rattle.std.specs.Result.{IsErrAnd}
 use Rattle.lits_core.specs.declared.Line.{Line}
@@ -18,12 +18,12 @@ use Rattle.cert_rules.specs.Writing.{BeginsAndKeepsUp}
 use Rattle.cert_rules.proofs.Told.{told_stays_up_law}
 use Rattle.world_search.specs.Logging.{AddsLines, KeepsOn}
 use Rattle.run_ends.specs.Ends.{world_line}
-use Rattle.run_ends.specs.Runs.{SinkState, Leaves}
+use Rattle.run_ends.specs.Runs.{SinkState}
 use Rattle.align_top.specs.declared.listing.Listed.{Listed}
 use Rattle.align_top.specs.declared.Order.{Order}
 use Rattle.align_top.specs.Output.{last_line, count_of}
 use Rattle.align_top.specs.Putting.{IsPutToCut, IsPutPartly}
-use Rattle.align_top.specs.Logged.{IsHeaded, IsKeptIn, IsToldTo, IsToldWhole, LogMoves, IsEitherFailed, IsListedIn}
+use Rattle.align_top.specs.Logged.{IsKeptIn, IsToldTo, IsToldWhole, LogMoves, IsListedIn}
 
 -- the first line alone keeps up with a new asker
 pub begun_kept : (p : Problem) (from : List Rel) (told : Told) (asker : AskerState) → IsNewAsker p asker → IsKeptIn p from told told asker (Some [])
@@ -211,26 +211,6 @@ partly_whole order old new cut count put = record {
   cut_is = put.cut_is;
   exactly = put.exactly;
   part = GrownInPart-whole old new (flat_map world_line put.worlds) (last_line cut (count_of put.worlds)) put.put;
-}
-
--- with a log that never fails
-unlogged_cause : {L : Type 0} (r : Result Listed StoreFault) (faults : L → ℕ) (quiet : L → L → Type 0) (old new : SinkState) (a b : L) → ((x : L) → faults x ≡ 0)
-    → IfFailed r (IsEitherFailed faults quiet old new a b) ((new.faults ≡ old.faults) × (faults b ≡ faults a) × quiet a b) → IfFailed r (Rose old.faults new.faults) (new.faults ≡ old.faults)
-unlogged_cause (Ok v) faults quiet old new a b zero cause = cause.0
-unlogged_cause (Err Failed) faults quiet old new a b zero cause = ⊎_elim
-    (λ put. put.0)
-    (λ write. absurd (omega (arith, write.0, zero a, zero b)))
-    cause
-unlogged_cause (Err NoMemory) faults quiet old new a b zero cause = cause.0
-
-pub unlogged : {L : Type 0} {lines : L → Told} {steady quiet : L → L → Type 0} {IsTold : Option (List Rel) → Told → Type 0} (faults : L → ℕ) (order : Order) (r : Result Listed StoreFault) (old new : SinkState) (a b : L)
-    → ((x : L) → faults x ≡ 0) → IsListedIn lines faults steady quiet IsTold order r old new a b
-    → Leaves r (λ listed. IsPutToCut order old.bytes new.bytes listed.cut listed.count) (IsPutPartly order old.bytes new.bytes) old new
-unlogged {quiet = quiet} faults order r old new a b zero listed = record {
-  ok = listed.ok;
-  err = listed.err;
-  cause = unlogged_cause r faults quiet old new a b zero listed.cause;
-  later = listed.later;
 }
 
 -- the first and the last line have no ids

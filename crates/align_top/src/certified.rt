@@ -42,7 +42,7 @@ fn put_lines<W: Sink, L: TreeLog>(
     requires { IsOrder order.now }
     ensures { IsListedIn L.lines L.faults L.steady L.quiet (IsToldWhole order.now.problem order.now.start (L.lines log.old)) order.now result (sink_state (W.received out.old) (W.faults out.old)) (sink_state (W.received out.new) (W.faults out.new)) log.old log.new }
 {
-    let _built = order.problem.taxonomy_count();
+    order.problem.facts();
     let first = first_line(alloc, order)?;
     log.put_line(&first)?;
     let listed = put_logged_worlds(alloc, out, order, log)?;
@@ -76,7 +76,7 @@ fn put_certified<S: Store, W: Sink>(
     requires { IsOrder order.now }
     ensures { IsListedWith order.now (Some name.now) result (store_state (S.held store.old) (S.read_faults store.old) (S.write_faults store.old)) (store_state (S.held store.new) (S.read_faults store.new) (S.write_faults store.new)) (sink_state (W.received out.old) (W.faults out.old)) (sink_state (W.received out.new) (W.faults out.new)) }
 {
-    let _built = order.problem.taxonomy_count();
+    order.problem.facts();
     store.create(name)?;
     let mut log = StoreLog::new(alloc, store, name);
     put_with_log(alloc, out, order, &mut log)

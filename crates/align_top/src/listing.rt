@@ -198,7 +198,7 @@ fn put_found_worlds<W: Sink, L: TreeLog>(
     requires fresh { IsNewAsker order.now.problem asker.old }
     ensures { IsListedIn L.lines L.faults L.steady L.quiet (IsToldTo order.now.problem order.now.start (L.lines log.old)) order.now result (sink_state (W.received out.old) (W.faults out.old)) (sink_state (W.received out.new) (W.faults out.new)) log.old log.new }
 {
-    let _built = order.problem.taxonomy_count();
+    order.problem.facts();
     let mut nodes = Nodes { left: order.nodes };
     let mut worlds = order.worlds;
     let mut count: u64 = 0;
@@ -236,7 +236,7 @@ fn put_worlds_from<W: Sink, L: TreeLog>(
     requires asker { IsNewAsker order.now.problem asker.old }
     ensures { IsListedIn L.lines L.faults L.steady L.quiet (IsToldTo order.now.problem order.now.start (L.lines log.old)) order.now result (sink_state (W.received out.old) (W.faults out.old)) (sink_state (W.received out.new) (W.faults out.new)) log.old log.new }
 {
-    let _built = order.problem.taxonomy_count();
+    order.problem.facts();
     let mut search = Search::from(alloc, &order.problem, start, None)?;
     put_found_worlds(alloc, out, order, asker, &mut search, log)
 }
@@ -252,7 +252,7 @@ pub(crate) fn put_logged_worlds<W: Sink, L: TreeLog>(
     requires order { IsOrder order.now }
     ensures { IsListedIn L.lines L.faults L.steady L.quiet (IsToldTo order.now.problem order.now.start (L.lines log.old)) order.now result (sink_state (W.received out.old) (W.faults out.old)) (sink_state (W.received out.new) (W.faults out.new)) log.old log.new }
 {
-    let _built = order.problem.taxonomy_count();
+    order.problem.facts();
     let mut asker = Asker::new(alloc, &order.problem)?;
     let start = order.start.copy(alloc)?;
     put_worlds_from(alloc, out, order, &mut asker, start, log)
@@ -264,7 +264,7 @@ pub fn put_worlds<W: Sink>(alloc: Global, out: &mut W, order: &Order) -> Result<
     requires { IsOrder order.now }
     ensures { Leaves result (λ listed. IsPutToCut order.now (W.received out.old) (W.received out.new) listed.cut listed.count) (IsPutPartly order.now (W.received out.old) (W.received out.new)) (sink_state (W.received out.old) (W.faults out.old)) (sink_state (W.received out.new) (W.faults out.new)) }
 {
-    let _built = order.problem.taxonomy_count();
+    order.problem.facts();
     if let Some(mut tables) = tables_for(alloc, order)? {
         return put_tables(alloc, out, order, &mut tables);
     }

@@ -69,7 +69,7 @@ pub(crate) fn put_tables<W: Sink>(
     requires tables { AreTablesFor order.now tables.old }
     ensures { Leaves result (λ listed. IsPutToCut order.now (W.received out.old) (W.received out.new) listed.cut listed.count) (IsPutPartly order.now (W.received out.old) (W.received out.new)) (sink_state (W.received out.old) (W.faults out.old)) (sink_state (W.received out.new) (W.faults out.new)) }
 {
-    let _built = order.problem.taxonomy_count();
+    order.problem.facts();
     let mut line = Vec::new(alloc);
     let mut worlds = order.worlds;
     let mut count: u64 = 0;

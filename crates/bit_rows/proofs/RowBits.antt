@@ -182,16 +182,6 @@ empty_more old new none pushed r k = elim (cases_lt r old.count) [
   ]
 ]
 
--- a row is pushed and then written
-pub pushed_written : (old mid new : BitRows) (row : ℕ) (test : ℕ → Bool) → IsPushed old mid (λ _. false) → IsPut mid new row test → row ≡ old.count → IsPushed old new test
-pushed_written old mid new row test pushed put is = record {
-  count = put.count ∙ pushed.count;
-  width = put.width ∙ pushed.width;
-  there = λ k. ap (λ r. bit_in new r k) (sym is) ∙ put.there k;
-  before = λ r k small. put.others r k (omega arith) ∙ pushed.before r k small;
-  past = λ r k large. put.others r k (omega arith) ∙ pushed.past r k large;
-}
-
 -- one place more in a row
 pub put_bit : (rows : BitRows) (row place word : ℕ) → row * rows.width + place / 64 < length rows.words → place < 64 * rows.width →
     ((i : ℕ) → i < 64 → word_bit word i ≡ (word_bit (get_or rows.words (row * rows.width + place / 64) 0) i || (i == place % 64))) →

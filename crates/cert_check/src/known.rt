@@ -8,7 +8,7 @@ use std::alloc::{AllocError, Global};
 use std::marker::Model;
 
 /// So many are kept.
-const MOST: usize = 16;
+const MOST_FAMILIES: usize = 16;
 
 /// Some families, the last ones that were kept.
 #[derive(Drop)]
@@ -52,7 +52,7 @@ impl Known {
     pub(crate) fn keep(&mut self, family: Family) -> Result<(), AllocError>
         ensures { (f : FamilyOf) → Contains self.new f → Contains self.old f ⊎ (f ≡ family) }
     {
-        if self.list.len() >= MOST {
+        if self.list.len() >= MOST_FAMILIES {
             self.list.clear();
         }
         self.list.push(family)?;

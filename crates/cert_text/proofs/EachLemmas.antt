@@ -1,8 +1,8 @@
 -- Members of a list read one after the other.
-use Rattle.std.proofs.Common.{◌≡◌, ℕ, List, [], ◌∷◌, ◌++◌, Option, Some, None, refl, sym, ap, ◌∙◌, append_assoc, append-nil, option_map, Result, Ok, Err}
+use Rattle.std.proofs.Common.{◌≡◌, ℕ, List, [], ◌∷◌, ◌++◌, Option, Some, None, refl, sym, ap, append_assoc, append-nil, option_map, Result, Ok, Err}
 use Rattle.proof_text.specs.declared.fault.LineTextFault.{LineTextFault}
 use Rattle.proof_text.specs.Lines.{◌>>=◌}
-use Rattle.cert_text.specs.Lines.{each_in, elements_at, sets_of}
+use Rattle.cert_text.specs.Lines.{each_in}
 
 -- members before others, if those are some
 abbrev pub onto : {A : Type 0} → List A → Option (List A) → Option (List A)
@@ -40,13 +40,3 @@ behind-step : (front : List (List ℕ)) (set : List ℕ) (read : Result (List (L
     behind front (read >>= λ others. Ok (set ∷ others)) ≡ behind (front ++ set ∷ []) read
 behind-step front set (Ok others) = ap Ok (sym (append_assoc front (set ∷ []) others))
 behind-step front set (Err k) = refl
-
-pub set-take : (front : List (List ℕ)) (set word : List ℕ) (words : List (List ℕ)) → elements_at word ≡ Ok set →
-    behind front (sets_of (word ∷ words)) ≡ behind (front ++ set ∷ []) (sets_of words)
-set-take front set word words e = ap (λ read. behind front (read >>= λ set. sets_of words >>= λ others. Ok (set ∷ others))) e ∙ behind-step front set (sets_of words)
-
-pub set-fault : (front : List (List ℕ)) (word : List ℕ) (words : List (List ℕ)) (k : LineTextFault) → elements_at word ≡ Err k → behind front (sets_of (word ∷ words)) ≡ Err k
-set-fault front word words k e = ap (λ read. behind front (read >>= λ set. sets_of words >>= λ others. Ok (set ∷ others))) e
-
-pub set-end : (front : List (List ℕ)) → behind front (sets_of []) ≡ Ok front
-set-end front = ap Ok (append-nil front)

@@ -161,7 +161,7 @@ impl Tree {
         requires region { region < 3 * pair_count self.now.subject }
         ensures { result ≡ is_emptied (node_problem self.now path.now) (region / 3) (region % 3) }
     {
-        let _pairs = self.subject.pair_count();
+        self.subject.facts();
         let forced = self.forced_at(path, (region / 3) as u32);
         is_word(forced.at(region_of((region % 3) as u8)), Occupancy::Empty)
     }

@@ -1,24 +1,20 @@
 -- How a check ends, by its parts.
-use Rattle.std.proofs.Common.{◌≡◌, ℕ, List, [], Option, None, Some, IfSome, IfOk, IfErr, Result, Ok, Err, refl, sym, ap, subst, ◌∙◌, inl, inr, ⊎_elim, arith, take}
-use Rattle.std.specs.Prelude.{⊤}
+use Rattle.std.proofs.Common.{◌≡◌, ℕ, List, [], Option, None, Some, IfSome, IfOk, IfErr, Result, Ok, Err, refl, sym, ap, subst, inl, inr, ⊎_elim, arith}
 use Rattle.outer_store.specs.Contents.{Contents}
-use Rattle.outer_store.specs.Faults.{Rose}
 use Rattle.outer_store.specs.declared.fault.StoreFault.{StoreFault}
 use Rattle.outer_store.specs.declared.fault.StoreFault.TheVariants as store_fault
 use Rattle.world_model.specs.declared.Switches.{Switches}
 use Rattle.world_model.specs.Problem.{Problem}
-use Rattle.cleantax_text.specs.declared.TextKind.{TextKind}
-use Rattle.cleantax_text.specs.Reading.{text_result}
 use Rattle.cert_reader.specs.Reading.{reading}
 use Rattle.cert_rules.specs.Files.{Verdict}
-use Rattle.cert_check.specs.Answers.{verdict_of, IsAnswerOf, IfReadFault}
+use Rattle.cert_check.specs.Answers.{verdict_of, IsAnswerOf}
 use Rattle.cert_check.specs.declared.accepted.Accepted.{Accepted}
 use Rattle.cert_check.specs.declared.fault.CheckFault.{CheckFault}
 use Rattle.cert_check.specs.declared.fault.CheckFault.TheVariants as fault
 use Rattle.run_ends.specs.declared.Status.{Status}
 use Rattle.run_ends.specs.declared.Status.TheVariants as status
 use Rattle.run_ends.specs.Ends.{end_line}
-use Rattle.run_ends.specs.Reads.{problem_by, problem_in, ComesOf, IsWithout}
+use Rattle.run_ends.specs.Reads.{problem_in, ComesOf, IsWithout}
 use Rattle.run_ends.specs.Runs.{StoreState, SinkState, IsQuiet, Answered, ending_of, IsEarlyEnd, IsCarriedOut}
 use Rattle.run_ends.proofs.TextLemmas.{err_same, says_problem, without_text}
 use Rattle.run_ends.proofs.EndLemmas.{all_kept, none_written}
@@ -125,11 +121,6 @@ carried input cert switches v (Err store_fault.NoMemory) one other old new found
   by_cause = record { cause = (quiet, put.cause); kept = all_kept [] one.held other.held kept };
 }
 
--- what a check answers, by what it tells of the bytes
-pub accepted_told : (p : Problem) (told : Option (List ℕ)) (a : Accepted) → IfSome told (λ bytes. IsAnswerOf p (reading bytes) (Ok a)) → IsAccepted p told (verdict_of a)
-accepted_told p None a said = tt
-accepted_told p (Some bytes) a said = said
-
 told_of : (p : Problem) (told : Option (List ℕ)) (f : CheckFault) → IfSome told (λ bytes. IsAnswerOf p (reading bytes) (Err f)) → ending_of (status_of f) ≡ Answered
     → IsCertAnswer p told (status_of f) (end_line (status_of f))
 told_of p None f said answered = tt
@@ -137,17 +128,6 @@ told_of p (Some bytes) (fault.Text n kind) said answered = (ap status_by (sym sa
 told_of p (Some bytes) (fault.Rejected n kind) said answered = (ap status_by (sym said), ap text_by (sym said))
 told_of p (Some bytes) fault.ReadFault said answered = cc
 told_of p (Some bytes) fault.NoMemory said answered = cc
-
--- why it does not accept
-pub unaccepted : (p : Problem) (cert : List ℕ) (f : CheckFault) (s : Status) (one other : StoreState) → s ≡ status_of f
-    → IfSome (one.held cert) (λ bytes. IsAnswerOf p (reading bytes) (Err f)) → IfReadFault {T = Accepted} (Err f) (Rose (one.reads cert) (other.reads cert)) ⊤
-    → IfReadFault {T = Accepted} (Err f) ⊤ (IsQuiet one other) → IsNotAccepted p cert s one other
-unaccepted p cert (fault.Text n kind) s one other is said cause quiet =
-    subst (λ x. IsNotAccepted p cert x one other) (sym is) (inl (record { answer = told_of p (one.held cert) (fault.Text n kind) said refl; answered = refl; quiet = quiet }))
-unaccepted p cert (fault.Rejected n kind) s one other is said cause quiet =
-    subst (λ x. IsNotAccepted p cert x one other) (sym is) (inl (record { answer = told_of p (one.held cert) (fault.Rejected n kind) said refl; answered = refl; quiet = quiet }))
-unaccepted p cert fault.ReadFault s one other is said cause quiet = inr (inl (is, cause))
-unaccepted p cert fault.NoMemory s one other is said cause quiet = inr (inr (is, quiet))
 
 -- the same of an answer that may be either
 pub if_err : {X E : Type 0} (r : Result X E) (P : E → Type 0) (fault : E) → P fault → r ≡ Err fault → IfErr r P

@@ -2,10 +2,7 @@
 use Rattle.std.proofs.Common.{◌≡◌, Bool, List, [], ◌∷◌, ◌++◌, map, Some, None, Result, Ok, Err, refl, sym, ap, subst}
 use Rattle.std.specs.Prelude.{⊤, IfOk}
 use Rattle.std.specs.Result.{IsErrAnd}
-use Rattle.world_model.specs.Problem.{Problem, restricted}
-use Rattle.world_model.specs.Family.{Family}
-use Rattle.world_model.specs.Questions.{IsMet}
-use Rattle.constraint_set.specs.Facts.{IsAsRead}
+use Rattle.world_model.specs.Problem.{Problem}
 use Rattle.point_query.specs.Asking.{AskerState, IsNewAsker}
 use Rattle.cert_text.specs.declared.line.CertLine.{CertLine}
 use Rattle.cert_text.specs.declared.line.CertLine.TheVariants.{Claims, Proof, Done}
@@ -15,13 +12,11 @@ use Rattle.cert_rules.proofs.ClaimWriting.{claims_put_keep_up_law}
 use Rattle.search_log.specs.declared.fault.StepFault.{StepFault}
 use Rattle.search_log.specs.Logging.{AddsLines, AreToldWith, IsFlushed, IsSameButLines}
 use Rattle.split_search.specs.Claiming.{ClaimsBegin, ToldClaims}
-use Rattle.split_search.specs.Choosing.{IsMetBy}
 use Rattle.claim_blocks.specs.Blocks.{AreClaimsTold, AreClaimsMade, FromClaims, KeepsClaims}
 use Rattle.claim_blocks.proofs.Joins.{told_then, keeps_join, keeps_err}
 use Rattle.claim_blocks.proofs.Steps.{leads_flushed}
 use Rattle.mir_report.specs.declared.possible.MirSets.{MirSets}
 use Rattle.mir_report.specs.Possible.{claims_from}
-use Rattle.conflict_min.specs.Conflicts.{all_kept}
 use Rattle.claims_run.specs.declared.question.Answer.{Answer}
 use Rattle.claims_run.specs.declared.question.Answer.TheVariants.{Possible}
 use Rattle.claims_run.specs.Answering.{IsClaimed}
@@ -46,10 +41,6 @@ possible_failed e r p mir a b c one two three is adds first second =
     keeps_err (λ f. f ≡ e) r p (IsClaimed p) a c one three is
     (keeps_join {T = Bool} (Err e) p (λ claims. claims ≡ claims_from p 0 mir.sets.items) (λ some claims. ⊤) (λ some. IsClaimed p (Possible mir some)) a b c one two three adds
     (λ some first second is nothing. possible_claimed p mir some first second is) first second)
-
--- a family that meets a problem with all its articulations meets the problem, which keeps them all as it was read
-pub met_as_read : (p : Problem) (f : Family) → IsAsRead p → IsMetBy (restricted p (all_kept p)) f → IsMet p
-met_as_read p f read by = (f, (subst (λ kept. IsMetBy (restricted p kept) f) (sym read.all_kept) by).met)
 
 -- the first line begins a list of claims with a new asker
 begun : (p : Problem) (asker : AskerState) → IsNewAsker p asker → ClaimsBegin p asker.solver.waiting asker.solver.state None [] (Claims p.switches ∷ [])

@@ -10,7 +10,7 @@ use Rattle.rcc5_core.specs.RelationSet.{has}
 use Rattle.mir_report.specs.declared.possible.MirSets.{MirSets}
 use Rattle.conflict_min.specs.Conflicts.{places_from}
 use Rattle.world_watch.specs.Kinds.{set_at, seen_lines}
-use Rattle.run_ends.specs.Ends.{in_lines, line_of}
+use Rattle.run_ends.specs.Ends.{in_lines}
 use Rattle.run_ends.specs.Runs.{SinkState, LeavesPiece}
 use Rattle.run_ends.proofs.PieceLemmas.{IsEnded, ended_line, ended_behind, ended_lines}
 use Rattle.claims_run.specs.declared.question.Answer.{Answer}
@@ -77,12 +77,6 @@ pub line_dropped : (p : Problem) (kept : List Bool) (k : ℕ) (d : Bool) (old wh
 line_dropped p kept k d old whole h flags is so_far =
     let item = item_at p.articulations k (omega (arith, h, flags)) in
     ap (λ xs. old ++ xs) (sym (line_at p kept k false d item.0 h is item.2)) ∙ so_far
-
-pub lines_all : (p : Problem) (kept : List Bool) (k : ℕ) (old whole : List ℕ) → length p.articulations ≤ k → old ++ lines_at p kept k ≡ whole → old ≡ whole
-lines_all p kept k old whole end so_far =
-    sym (append-nil old)
-    ∙ ap (λ xs. old ++ xs) (sym (ap (λ xs. numbered_lines p (k + 1) xs (drop k kept)) (drop_all k p.articulations end)))
-    ∙ so_far
 
 -- the lines of an answer end with a line feed
 ended_numbered : (p : Problem) (number : ℕ) (rows : List Articulation) (flags : List Bool) (before : List ℕ) → IsEnded before → IsEnded (before ++ numbered_lines p number rows flags)

@@ -64,7 +64,7 @@ fn put_articulation(
     requires { index < length problem.now.articulations }
     ensures { OnOk result (IsNumberedAt problem.now index text.old.items text.new.items) }
 {
-    let _few = problem.articulation_count();
+    problem.facts();
     let number = index + 1;
     let number = format!(in alloc; "{number} ")?;
     text.extend_from_slice(number.as_bytes())?;

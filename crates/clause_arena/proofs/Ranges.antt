@@ -100,10 +100,6 @@ pub record_at-records_of : (codes : List ℕ) (heads : List Head) (i : ℕ) (h :
 record_at-records_of codes heads i h lt is =
     get_or-map (record_of codes) heads i h _ lt ∙ ap (record_of codes) (sym is)
 
--- a head changed in place
-pub records_of-set : (codes : List ℕ) (heads : List Head) (i : ℕ) (h g : Head) (r : Record) → i < length heads → h ≡ get_or heads i h → record_of codes g ≡ r → records_of codes (set heads i g) ≡ set (records_of codes heads) i r
-records_of-set codes heads i h g r lt is changed = map-set (record_of codes) heads i g ∙ ap (set (records_of codes heads) i) changed
-
 -- the record under a Ref is that of the head there
 pub record-is : (codes : List ℕ) (heads : List Head) (i : ℕ) (h : Head) (rs : List Record) (at : ℕ) → records_of codes heads ≡ rs → i ≡ at → at < length rs → h ≡ get_or heads i h → record_at rs at ≡ record_of codes h
 record-is codes heads i h rs at view same lt is =

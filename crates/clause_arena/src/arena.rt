@@ -1,3 +1,4 @@
+//! The arena of clauses: their literals in one list, a head for each.
 ghost use Rattle.std.specs.Prelude.{◌≡◌, ℕ, ◌+◌, ◌^◌, ◌<◌, ◌≤◌, ◌↔◌, IsTrue, MatchOption, [], ◌∷◌, ◌++◌, length, slice_index, slice_set, OnErr, OnOk, IfOk, None, Some, if◌then◌else◌, nat_lt, ◌==◌};
 ghost use Rattle.clause_arena.specs.Records.{new_record, record_at, link_of, with_link, with_lits_swapped, forgotten, compacted};
 ghost use Rattle.clause_arena.specs.Movings.{new_ref, place_after, LeadsTo};

@@ -1,3 +1,4 @@
+//! Where a compaction brought each clause.
 ghost use Rattle.std.specs.Prelude.{◌≡◌, ◌≤◌, [], length, vec_len, OnErr, OnOk};
 ghost use Rattle.clause_arena.specs.Movings.{new_ref, pairs_from};
 

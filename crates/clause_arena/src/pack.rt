@@ -1,3 +1,4 @@
+//! The compaction itself: live clauses move to the front.
 ghost use Rattle.std.specs.Prelude.{◌≡◌, ℕ, ◌+◌, ◌^◌, ◌<◌, ◌≤◌, length, slice_index_or, None};
 ghost use Rattle.clause_arena.specs.declared.arena.Head.{Head};
 ghost use Rattle.clause_arena.specs.Layout.{AreInOrder, MovesDown, Packs};

@@ -1,3 +1,4 @@
+//! What names a clause, and the links between clauses.
 ghost use Rattle.std.specs.Prelude.{◌≡◌, ℕ};
 
 use std::marker::Model;

@@ -9,7 +9,7 @@ use borrow.Author.Tests.{eqb-true, eq-eqb, ne_eqb}
 use Rattle.lits_core.specs.Literals.{negation_of, variable_of}
 use Rattle.lits_core.proofs.LiteralLemmas.{variable_of-negation}
 use Rattle.watch_arena.specs.declared.places.Place.{Place}
-use Rattle.watch_arena.specs.Places.{place_at, no_place, place_of, reason_of, is_false, is_false_clause, is_assumed, level_of}
+use Rattle.watch_arena.specs.Places.{place_at, no_place, place_of, is_false, is_false_clause, is_assumed, level_of}
 use Rattle.watch_arena.specs.Trails.{TrailState, IsTrail}
 use Rattle.watch_arena.proofs.ByIndex.{cases_bool, and_from, list_any_at, list_any_index, list_all_at, position_is}
 use Rattle.watch_arena.proofs.Watching.{index_of}
@@ -145,9 +145,3 @@ position_within test (x ∷ xs) from k is =
 
 pub place_of-within : (places : List Place) (variable place : ℕ) → Some place ≡ place_of places variable → place < length places
 place_of-within places variable place is = let lt = position_within (λ (p : Place). variable_of p.lit == variable) places 0 place is in omega arith
-
--- the reason of a literal that is false by a place
-pub reason_of-place : (t : TrailState) (q lit : ℕ) → IsTrail t → q < length t.places → (place_at t.places q).lit ≡ negation_of lit → reason_of t.places (variable_of lit) ≡ (place_at t.places q).reason
-reason_of-place t q lit trail lt is =
-    let at : place_of t.places (variable_of lit) ≡ Some q = place_of-is t q (variable_of lit) trail lt (ap variable_of is ∙ variable_of-negation lit) in
-    rw at refl

@@ -1,3 +1,4 @@
+//! The search back through a trail, from a conflict to the clause that it teaches.
 ghost use Rattle.std.specs.Prelude.{◌≡◌, ◌≢◌, ℕ, ◌+◌, ◌-◌, ◌<◌, ◌≤◌, ◌⊎◌, [], ◌∷◌, ◌++◌, true, length, reverse, slice_set, slice_index, slice_index_or, false, Some, None, IfOk, OnOk, MatchOption, slice_get, IsTrue, Contains, All, IsPermutation};
 ghost use Rattle.clause_arena.specs.Records.{record_at};
 ghost use Rattle.lits_core.specs.Literals.{negation_of, variable_of};

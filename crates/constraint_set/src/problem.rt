@@ -10,7 +10,7 @@ ghost use Rattle.constraint_set.specs.Facts.{all_fit, is_said, IsBuilt};
 ghost use Rattle.constraint_set.specs.Readers.{taxonomy_of, name_of, is_sum_at, sum_places, all_sums, rule_at};
 ghost use Rattle.constraint_set.specs.Shape.{SameShape, OneShapeShares};
 
-use crate::limits::{MAX_ARTICULATIONS, MAX_CONCEPTS, MAX_TAXONOMIES};
+use crate::limits::{MAX_ARTICULATIONS, MAX_CONCEPTS, MAX_PAIRS, MAX_TAXONOMIES};
 use crate::shape::Shape;
 use crate::statements::{Kept, Narrowed, Narrowing};
 use rcc5_core::RelSet;
@@ -18,7 +18,7 @@ use std::alloc::{AllocError, Global};
 use std::marker::Model;
 use std::rc::Rc;
 use taxon_tree::Forest;
-use world_model::{Articulation, Switches};
+use world_model::{Articulation, Switches, pairs_stand_once};
 
 /// Concepts of two to eight taxonomies and what experts say of them: which articulations are kept,
 /// what pairs are narrowed to besides, and which rules hold.
@@ -82,17 +82,18 @@ impl Problem {
 
     /// What holds of every problem. A call does nothing: it tells the prover.
     pub fn facts(&self)
-        ensures { IsBuilt self.now }
+        ensures built { IsBuilt self.now }
+        ensures pairs { pair_count self.now ≤ MAX_PAIRS }
+        ensures concepts { concept_count self.now ≤ MAX_CONCEPTS }
     {
+        pairs_stand_once();
         self.shape.facts();
     }
 
-    /// How many taxonomies there are. Its contract says too what holds of every problem.
+    /// How many taxonomies there are.
     pub fn taxonomy_count(&self) -> u32
-        ensures count { result ≡ length self.now.taxonomies }
-        ensures built { IsBuilt self.now }
+        ensures { result ≡ length self.now.taxonomies }
     {
-        self.facts();
         self.shape.taxonomy_count()
     }
 

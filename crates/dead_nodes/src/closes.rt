@@ -125,7 +125,7 @@ fn is_empty_there(problem: &Problem, node: &Position, pair: u32, part: u32) -> b
 fn is_kept_there(problem: &Problem, sum: u32) -> bool
     ensures { IsTrue result → (m : List Rel) → Contains (selectors_of problem.now m) (is_so (first_sum_selector problem.now + sum)) }
 {
-    let _built = problem.taxonomy_count();
+    problem.facts();
     if sum < problem.sum_count() {
         return problem.is_kept(problem.sum_at(sum));
     }

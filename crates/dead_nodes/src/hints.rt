@@ -15,7 +15,7 @@ use rcc5_core::Position;
 use std::alloc::{AllocError, Global};
 
 /// So many reasons are kept of a pair.
-const MOST: usize = 8;
+const MOST_REASONS: usize = 8;
 
 /// A need, by its number, and the id of a clause that closes it.
 #[derive(Clone, Copy, Debug)]
@@ -131,13 +131,13 @@ impl Recent {
 
     // Keeps a reason, in the place of the oldest where there are many.
     fn keep(&mut self, kept: Kept) -> Result<(), AllocError> {
-        if self.list.len() < MOST {
+        if self.list.len() < MOST_REASONS {
             self.list.push(kept)?;
             return Ok(());
         }
-        let place = self.next % MOST;
+        let place = self.next % MOST_REASONS;
         self.list[place] = kept;
-        self.next = (place + 1) % MOST;
+        self.next = (place + 1) % MOST_REASONS;
         Ok(())
     }
 }

@@ -8,7 +8,7 @@ use crate::shown::Shown;
 use constraint_set::Problem;
 use lits_core::Lit;
 use point_encode::forced_at;
-use point_pool::{count_pairs, word_of};
+use point_pool::word_of;
 use rcc5_core::{Occupancy, Position};
 use std::alloc::{AllocError, Global};
 
@@ -101,7 +101,7 @@ fn shown_in(
         Occupancy::Empty => {}
         Occupancy::Occupied | Occupancy::Free => return Ok(None),
     }
-    let _pairs = count_pairs(problem);
+    problem.facts();
     let selector = problem.concept_count() + 3 * region.pair + region.part;
     let lits = [
         Lit::new(selector, true),

@@ -76,7 +76,7 @@ fn near(
     ensures kept { AskerGoes asker.old asker.new }
     ensures closed { IfOk result (λ found. IfSome found (Closes problem.now asker.new.solver.state node.now)) }
 {
-    let _pairs = problem.pair_count();
+    problem.facts();
     let Some(pair) = node.len().checked_sub(1) else {
         return Ok(None);
     };
@@ -175,7 +175,7 @@ fn asked_of_last(
     ensures kept { AskerGoes asker.old asker.new }
     ensures closed { IfOk result (λ found. IfSome found (Closes problem.now asker.new.solver.state node.now)) }
 {
-    let _pairs = problem.pair_count();
+    problem.facts();
     let Some(pair) = node.len().checked_sub(1) else {
         return Ok(None);
     };

@@ -13,7 +13,7 @@ use crate::lone::Lone;
 use constraint_set::Problem;
 use lits_core::Lit;
 use point_encode::{Need, need_lits, need_of, variable_count};
-use point_pool::{count_pairs, word_of};
+use point_pool::word_of;
 use point_query::{Asker, Found};
 use rcc5_core::{Occupancy, Position};
 use std::alloc::{AllocError, Global};
@@ -163,7 +163,7 @@ fn shown_by(
     ensures kept { AskerGoes asker.old asker.new }
 {
     let (left, right) = problem.pair_at(lone.pair);
-    let _pairs = count_pairs(problem);
+    problem.facts();
     let [one, other] = lits_of(left, right, part);
     if !(table.implies(place, one) && table.implies(place, other)) {
         return Ok(None);

@@ -3,7 +3,7 @@ use Rattle.std.proofs.Common.{◌≡◌, ◌≢◌, ◌∙◌, ◌⊎◌, ℕ, z
 use Rattle.std.specs.Prelude.{filter}
 use Rattle.std.specs.List.{Contains, count_by}
 use Rattle.std.proofs.lemmas.Bool.{cases_Bool, cases_lt, true≢false, false≢true, eq-eqb}
-use Rattle.std.proofs.lemmas.List.{length-map, map-append, take-append-drop, take-take, get_or-take, append-nil, take-append-le, drop-append-le, take_all, drop_all}
+use Rattle.std.proofs.lemmas.List.{length-map, map-append, take-append-drop, take-take, get_or-take, take-append-le, drop-append-le, take_all, drop_all}
 use Rattle.std.proofs.lemmas.List.Elements.{filter-append}
 use Rattle.std.proofs.lemmas.List.Sums.{count_by_more_yes, sum_by-take-le}
 use Rattle.lits_core.specs.Derivation.{State, DerivedFollow, next_state, line_fault}
@@ -19,7 +19,7 @@ use Rattle.watch_arena.proofs.ByIndex.{or_false}
 use Rattle.watch_arena.proofs.Compacting.{CameFrom, came, place-live}
 use Rattle.learn_solver.specs.States.{state_of, is_reason, idle_from, idle_of}
 use Rattle.learn_solver.specs.Learners.{AreRecords, AreUpTo, AreNoted, Forgets}
-use Rattle.learn_solver.proofs.Idle.{idle-index, idle-step, idle-none, record-drop, drop-within}
+use Rattle.learn_solver.proofs.Idle.{idle-index, idle-step, record-drop, drop-within}
 use Rattle.learn_solver.proofs.Forgetting.{left_from, entry, names, Ascend, without-idle, forget-idle, compacted-left, compacted-kept, lits-unlinked, entries-unlinked, idle-nothing, reason-anew}
 
 -- two lists of records, the one with its idle clauses forgotten
@@ -232,11 +232,6 @@ idle-more places records given n id ids more sofar lt off id_is is =
     ∙ append_assoc ids (id ∷ []) (idle_from places (n + 1) (drop (n + 1) records))
     ∙ ap (λ (i : ℕ). ids ++ i ∷ idle_from places (n + 1) (drop (n + 1) records)) id_is
     ∙ ap (λ (xs : List ℕ). ids ++ xs) (sym step) ∙ sofar
-
--- all ids are gathered
-pub idle-all : (places : List Place) (records : List Record) (given n : ℕ) (ids : List ℕ) → ids ++ idle_from places n (drop n records) ≡ idle_of places records given → length records ≤ n → ids ≡ idle_of places records given
-idle-all places records given n ids sofar done =
-    sym (append-nil ids) ∙ ap (λ (xs : List ℕ). ids ++ xs) (sym (idle-none places records n done)) ∙ sofar
 
 -- idle clauses are forgotten as far as a number
 pub record ForgottenTo (old new : TrailState) (given n : ℕ) : Type 0 where

@@ -63,9 +63,6 @@ SameState-trans a b c h k = record {
 }
 
 -- the same records stand for the same state
-record_next : (r : Record) (records : List Record) (at : ℕ) → record_at (r ∷ records) (suc at) ≡ record_at records at
-record_next r records at = refl
-
 given_same : (one other : List Record) (n : ℕ) → length other ≡ length one → ((at : ℕ) → IsSameRecord (record_at one at) (record_at other at)) → SameGiven (map (λ r. r.lits) (take n one)) (map (λ r. r.lits) (take n other))
 given_same one other zero count each = tt
 given_same [] [] (suc n) count each = tt

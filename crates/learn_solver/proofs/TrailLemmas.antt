@@ -241,13 +241,7 @@ decided-index places lit h =
     let both = and_parts ((place_at places found.0).lit == lit) (is_assumed (place_at places found.0)) found.2 in
     (found.0, found.1, eqb-true (place_at places found.0).lit lit both.0, both.1)
 
--- the value of a variable with a place, or none
-pub value-none : (places : List Place) (variable : ℕ) → value_of places variable ≡ None → place_of places variable ≡ None
-value-none places variable = go (place_of places variable) where
-  go : (o : Option ℕ) → option_map (λ p. not (is_negative (place_at places p).lit)) o ≡ None → o ≡ None
-  go None h = refl
-  go (Some p) h = cc
-
+-- the place of a variable that has a value
 pub value-some : (places : List Place) (variable : ℕ) → is_some (value_of places variable) ≡ true → (p : ℕ) × (p < length places) × (variable_of (place_at places p).lit ≡ variable)
 value-some places variable h =
     elim (place_of-cases (place_of places variable)) [
@@ -258,17 +252,3 @@ value-some places variable h =
 -- there are no more places than variables
 pub places-few : (t : TrailState) → IsTrail t → length t.places ≤ t.variables
 places-few t f = at_most t.variables (length t.places) (λ p. variable_of (place_at t.places p).lit) f.places_in_range f.variable_once
-
--- no literal's level is past that which all have come to
-pub level-in-most : (t : TrailState) (lit : ℕ) → IsTrail t → level_in t.places lit ≤ t.level
-level-in-most t lit f =
-    elim (place_of-cases (place_of t.places (variable_of lit))) [
-      | inl (p, is) ↦
-          let found = place_of-found t.places (variable_of lit) p is in
-          let same = level-at t p lit f found.0 found.1 in
-          let most = level-most t p f found.0 in
-          omega arith
-      | inr none ↦
-          let same : level_in t.places lit ≡ 0 = ap (λ (o : Option ℕ). option_map_or (λ k. (place_at t.places k).level) o 0) none in
-          omega arith
-    ]

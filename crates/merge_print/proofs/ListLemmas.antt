@@ -1,8 +1,8 @@
 -- Ranges, filters and lists of lists.
-use Rattle.std.proofs.Common.{◌≡◌, ◌+◌, ◌<◌, ◌≤◌, ℕ, zero, suc, Bool, true, false, cond, List, [], ◌∷◌, ◌++◌, Option, Some, length, map, take, get_or, refl, sym, ap, subst, ◌∙◌, arith, append_assoc}
+use Rattle.std.proofs.Common.{◌≡◌, ◌+◌, ◌<◌, ◌≤◌, ℕ, Bool, true, false, cond, List, [], ◌∷◌, ◌++◌, Some, length, map, get_or, refl, sym, ap, subst, ◌∙◌, arith, append_assoc}
 use Rattle.std.specs.Prelude.{filter, flat_map, find, All, slice_get}
 use Rattle.std.specs.List.{range_with_len, list_any, position_or_len}
-use Rattle.std.proofs.lemmas.List.{append-nil, take_more}
+use Rattle.std.proofs.lemmas.List.{append-nil}
 use Rattle.std.proofs.lemmas.List.Elements.{filter-append, All-head, All-tail, All-from_get_or, All-filter, All-weaker}
 use Rattle.std.proofs.lemmas.List.Folds.{find_at}
 use Rattle.std.proofs.lemmas.List.FromFn.{length-range_with_len, get_or-range_with_len, map-range_with_len_more}
@@ -27,16 +27,6 @@ filter_took p old new n was e more =
 pub filter_left : (p : ℕ → Bool) (old : List ℕ) (n : ℕ) → old ≡ filter p (range_with_len 0 n) → p n ≡ false → old ≡ filter p (range_with_len 0 (n + 1))
 filter_left p old n was e =
     was ∙ sym (filter_next p n ∙ ap (λ b. filter p (range_with_len 0 n) ++ cond b (n ∷ []) []) e ∙ append-nil (filter p (range_with_len 0 n)))
-
--- one more member of a list
-pub flat_map_step : {X A : Type 0} (f : X → List A) (init out new : List A) (xs : List X) (k : ℕ) (d : X) → k < length xs
-    → out ≡ init ++ flat_map f (take k xs) → new ≡ out ++ f (get_or xs k d) → new ≡ init ++ flat_map f (take (k + 1) xs)
-flat_map_step f init out new xs k d lt was more =
-    more ∙ ap (λ o. o ++ f (get_or xs k d)) was ∙ append_assoc init (flat_map f (take k xs)) (f (get_or xs k d))
-    ∙ ap (λ r. init ++ r)
-    (ap (λ r. flat_map f (take k xs) ++ r) (sym (append-nil (f (get_or xs k d))))
-    ∙ sym (flat_map-append f (take k xs) (get_or xs k d ∷ []))
-    ∙ ap (flat_map f) (sym (take_more xs k d lt)))
 
 -- the numbers of a range are below its end
 pub range_below : (n : ℕ) → All (λ x. x < n) (range_with_len 0 n)

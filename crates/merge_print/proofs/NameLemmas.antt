@@ -1,5 +1,5 @@
 -- The names of a problem that a text says are UTF-8.
-use Rattle.std.proofs.Common.{◌≡◌, ◌+◌, ℕ, Bool, true, false, List, Result, Ok, Err, IfOk, length, take, refl, sym, subst}
+use Rattle.std.proofs.Common.{◌≡◌, ◌+◌, ℕ, Bool, true, false, List, Result, Ok, Err, length, take, refl, subst}
 use Rattle.std.specs.Prelude.{All, nat_lt, count_by, if◌then◌else◌}
 use Rattle.std.specs.Str.{IsUtf8}
 use Rattle.std.specs.Str.Lossy.{utf8_valid_len}
@@ -53,8 +53,3 @@ names_utf8 bytes switches p e = by (nat_lt 1048576 (length bytes)) (nat_lt (utf8
     by false true f h = absurd (cc)
     by false false f h = names_at_end switches p (after_lines 1 nothing_read (lines_of (without_mark bytes)))
         (λ r made. given_text (lines_of (without_mark bytes)) r (lines_utf8 (without_mark bytes) (unmarked_utf8 bytes (whole_utf8 bytes f))) made) h
-
--- what a reader answers
-pub read_ok : {E : Type 0} (bytes : List ℕ) (switches : Switches) (read : Result Problem E) → IfOk read (λ p. IsProblemText bytes switches p) → IfOk read (λ p. HasUtf8Names p)
-read_ok bytes switches (Ok p) h = names_utf8 bytes switches p h
-read_ok bytes switches (Err e) h = tt

@@ -1,3 +1,4 @@
+//! Copying bytes from a place on.
 ghost use Rattle.std.specs.Prelude.{◌≡◌, length};
 ghost use Rattle.outer_store.specs.Memory.{copied_over, copy_count};
 

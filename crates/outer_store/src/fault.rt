@@ -1,3 +1,4 @@
+//! Why a call of the outside was refused.
 ghost use Rattle.std.specs.Prelude.{◌≡◌};
 ghost use Rattle.outer_store.specs.declared.fault.StoreFault.TheVariants.{NoMemory};
 

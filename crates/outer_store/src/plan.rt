@@ -1,3 +1,4 @@
+//! Which calls of an object in memory are to fail.
 ghost use Rattle.std.specs.Prelude.{◌≡◌, ◌≤◌};
 ghost use Rattle.outer_store.specs.Plan.{Plan, fails_next, called, fresh_plan};
 

@@ -1,3 +1,4 @@
+//! Reading one name of a store.
 ghost use Rattle.std.specs.Prelude.{◌≡◌, refl};
 ghost use Rattle.std.proofs.Common.{◌∙◌};
 ghost use Rattle.outer_store.specs.Reader.{unread, OnlyRead, NoneMoved, OnlyRead-stays, OnlyRead-joins};

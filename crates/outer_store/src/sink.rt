@@ -1,3 +1,4 @@
+//! What receives bytes.
 ghost use Rattle.std.specs.Prelude.{◌≡◌, ◌≤◌, ℕ, List, Option, Result, OnOk, OnErr};
 ghost use Rattle.outer_store.specs.Bytes.{GrownInPart, added};
 ghost use Rattle.outer_store.specs.Faults.{Rose, IfFailed};

@@ -1,3 +1,4 @@
+//! What bytes are taken from.
 ghost use Rattle.std.specs.Prelude.{◌≡◌, ◌≤◌, ℕ, List, Option, Result, drop, IfOk, OnErr, IfSome, ⊤};
 ghost use Rattle.std.specs.Option.{option_map};
 ghost use Rattle.std.specs.Io.{ReadsAtMost};

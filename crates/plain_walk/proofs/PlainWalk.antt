@@ -42,14 +42,6 @@ spent_step p nodes worlds passed found next list node within is below n =
     ap (λ b. if b then Some node else first_spent p nodes worlds (passed + 1) (if is_world_by_trial p node then found + 1 else found) (drop (passed + 1) list)) below ∙
     ap (λ f. first_spent p nodes worlds (passed + 1) f (drop (passed + 1) list)) (sym n)
 
--- the first node of the rest, where a limit is reached there
-pub spent_here : (p : Problem) (nodes worlds : Option ℕ) (passed found : ℕ) (list : List (List Rel)) (node : List Rel) → passed < length list →
-    node ≡ get_or list passed node → (is_reached nodes passed || is_reached worlds found) ≡ true →
-    Some node ≡ first_spent p nodes worlds passed found (drop passed list)
-spent_here p nodes worlds passed found list node within is reached =
-    sym (ap (first_spent p nodes worlds passed found) (drop_more list passed node within ∙ ap (λ m. m ∷ drop (passed + 1) list) (sym is)) ∙
-    ap (λ b. if b then Some node else first_spent p nodes worlds (passed + 1) (if is_world_by_trial p node then found + 1 else found) (drop (passed + 1) list)) reached)
-
 -- one node more, which is kept or left out
 pub kept_more : (test : List Rel → Bool) (list worlds : List (List Rel)) (k : ℕ) (node : List Rel) (b : Bool) → k < length list → node ≡ get_or list k node →
     worlds ≡ filter test (take k list) → b ≡ test node → worlds ++ cond b (node ∷ []) [] ≡ filter test (take (k + 1) list)

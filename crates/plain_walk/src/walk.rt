@@ -28,7 +28,7 @@ fn next_set(problem: &Problem, prefix: &Position) -> RelSet
     requires { length prefix.now < pair_count problem.now }
     ensures { result ≡ allowed problem.now (pair_at problem.now (length prefix.now)) }
 {
-    let _few = problem.pair_count();
+    problem.facts();
     problem.allowed(prefix.len() as u32)
 }
 

@@ -1,15 +1,14 @@
 -- The frame of a problem itself.
-use Rattle.std.proofs.Common.{◌≡◌, ℕ, ◌+◌, ◌/◌, ◌<◌, ◌↔◌, Bool, true, false, ◌&&◌, ◌||◌, not, List, length, get_or, inl, inr, refl, sym, ap, ◌∙◌, subst, arith}
-use Rattle.std.specs.Prelude.{nat_lt, ◌==◌}
-use Rattle.std.proofs.lemmas.Bool.{and_from, true≢false, not-true, false_from_ne_true, cases_lt, cases_eq, lt-ltb, le-ltb, eq-eqb, ne_eqb, both_ways}
+use Rattle.std.proofs.Common.{◌≡◌, ℕ, ◌+◌, ◌/◌, ◌<◌, ◌↔◌, Bool, true, false, ◌&&◌, not, List, length, get_or, inl, inr, refl, sym, ap, ◌∙◌, subst, arith}
+use Rattle.std.specs.Prelude.{nat_lt}
+use Rattle.std.proofs.lemmas.Bool.{and_from, true≢false, cases_lt, lt-ltb, le-ltb}
 use Rattle.rcc5_core.specs.declared.RelSet.{RelSet}
 use Rattle.rcc5_core.specs.declared.Regions.{Regions}
 use Rattle.rcc5_core.specs.RelationSet.{is_empty_set, no_rels}
 use Rattle.world_model.specs.Problem.{Problem, concept_count, pairs, pair_count}
-use Rattle.world_model.specs.Node.{pair_at}
 use Rattle.world_model.specs.Alive.{allowed, is_point, IsAlive, all_allow}
 use Rattle.world_model.specs.Trial.{points_by_trial}
-use Rattle.world_model.proofs.Members.{In-get_or, all_at, all_from, place_of, IsPlaced}
+use Rattle.world_model.proofs.Members.{all_from, place_of, IsPlaced}
 use Rattle.bit_rows.specs.declared.words.Cells.{Cells}
 use Rattle.bit_rows.specs.Rows.{SomePlace, BitRows, bit_in, in_cells, all_cells}
 use Rattle.point_table.specs.Points.{AreAllowed}
@@ -20,13 +19,6 @@ use Rattle.point_ladder.proofs.Narrowing.{bits_at}
 use Rattle.point_ladder.proofs.Serving.{holds_all, table_point, served_by_parts, alive_here}
 
 -- a row with all places below one more
-pub lt_more : (k n : ℕ) → (nat_lt k n || (k == n)) ≡ nat_lt k (n + 1)
-lt_more k n = elim (cases_lt k n) [
-  | inl small ↦ ap (λ b. b || (k == n)) (lt-ltb k n small) ∙ sym (lt-ltb k (n + 1) (omega arith))
-  | inr large ↦ elim (cases_eq k n) [
-    | inl same ↦ ap (λ b. b || (k == n)) (le-ltb k n large) ∙ eq-eqb k n same ∙ sym (lt-ltb k (n + 1) (omega arith))
-    | inr apart ↦ ap (λ b. b || (k == n)) (le-ltb k n large) ∙ ne_eqb k n apart ∙ sym (le-ltb k (n + 1) (omega arith))
-  ]
 ]
 
 -- what is owed for each number below one more
@@ -82,13 +74,6 @@ allow_by_sets p sets are each = all_from (λ pair. not (is_empty_set (allowed p 
     let placed : IsPlaced pair (pairs p) = place_of i in
     let counted = are.counted in
     ap (λ set. not (is_empty_set set)) (sym (are.each placed.place no_rels placed.within ∙ ap (allowed p) (placed.is (0, 0)))) ∙ ap not (each placed.place (omega (arith, counted, placed.within))))
-
-pub not_allow : (p : Problem) (sets : List RelSet) (k : ℕ) (d : RelSet) → AreAllowed p sets → k < length sets → is_empty_set (get_or sets k d) ≡ true → all_allow p ≡ false
-not_allow p sets k d are small empty = false_from_ne_true (all_allow p) (λ h.
-    let counted = are.counted in
-    let within : k < pair_count p = omega (arith, counted, small) in
-    both_ways (is_empty_set (allowed p (pair_at p k))) (not-true (is_empty_set (allowed p (pair_at p k))) (all_at (λ pair. not (is_empty_set (allowed p pair))) h (In-get_or (pairs p) k (0, 0) within)))
-    (ap is_empty_set (sym (are.each k d within)) ∙ empty))
 
 -- whether a problem is alive, by its frame
 pub alive_at_start : (p : Problem) (rows : BitRows) → all_allow p ≡ true → IsFrame p (points_by_trial p) rows → Satisfies rows rows.count (bit_in rows 0) ↔ IsAlive p

@@ -112,7 +112,7 @@ fn stand(alloc: Global, problem: Problem, rows: Rows, bounds: Bounds) -> Result<
     requires bounds { AreBounds problem bounds }
     ensures { IfOk result (λ ladder. ladder ≡ record { problem = bound_to problem bounds.sets.items bounds.count; path = [] }) }
 {
-    let _few = problem.pair_count();
+    problem.facts();
     let line = first_line(alloc, &bounds.sets)?;
     let nexts = nexts_of(alloc, &bounds.sets, &line)?;
     let mut stretches = Vec::new(alloc);
@@ -186,7 +186,7 @@ impl Ladder {
         requires short { length self.now.path < pair_count self.now.problem }
         ensures { IsTrue result ↔ IsAlive (problem_at self.now.problem (self.now.path ++ rel ∷ [])) }
     {
-        let _few = self.problem.pair_count();
+        self.problem.facts();
         let pair = self.len;
         if !self.sets[pair].has(rel) {
             return false;
@@ -203,7 +203,7 @@ impl Ladder {
         requires short { length self.now.path < pair_count self.now.problem }
         ensures { (rel : Rel) → IsTrue (has result rel) ↔ IsAlive (problem_at self.now.problem (self.now.path ++ rel ∷ [])) }
     {
-        let _few = self.problem.pair_count();
+        self.problem.facts();
         let pair = self.len;
         let (left, right) = self.problem.pair_at(pair as u32);
         let (left, right) = (self.rows.row(left as usize), self.rows.row(right as usize));
@@ -221,7 +221,7 @@ impl Ladder {
         if !self.leads_to(rel) {
             return Ok(false);
         }
-        let _few = self.problem.pair_count();
+        self.problem.facts();
         let pair = self.len;
         let (left, right) = self.problem.pair_at(pair as u32);
         let (left, right) = (self.rows.row(left as usize), self.rows.row(right as usize));
@@ -244,7 +244,7 @@ impl Ladder {
         requires alive { IsAlive (problem_at self.old.problem self.old.path) }
         ensures { IsAlong self.old self.new }
     {
-        let _few = self.problem.pair_count();
+        self.problem.facts();
         if self.len < self.nexts.len() {
             self.len = self.nexts[self.len] as usize;
         }

@@ -56,20 +56,6 @@ undone_more n first depths at undone beyond place = elim (cases_eq place at) [
         absent (x ∷ xs) zero h = absurd (omega arith)
         absent (x ∷ xs) (suc k) h = absent xs k (omega arith)
 
-pub undone_none : (n : ℕ) (depth : Option ℕ) → IsUndone n depth depth
-undone_none n depth = record { earlier = λ e low h. h; later = λ e high h. unstruck_before e n depth high h }
-
--- nothing is struck out yet
-pub striking_none : (w : Pool) (regions : Regions) → IsPool w → IsStriking w regions 0
-striking_none w regions is = record {
-  kept = is.kept;
-  avoiding = λ place small. absurd (omega arith);
-  each = λ number within needed. elim (is.watched number within needed) [
-    | inl waits ↦ inl waits
-    | inr served ↦ inr (served, λ small. absurd (omega arith))
-  ];
-}
-
 -- a point is left
 pub striking_left : (w : Pool) (regions : Regions) (i : ℕ) → IsStriking w regions i →
     (IsUnstruck (length w.cursor.path) (depth_at w.depths.items i) →
@@ -99,10 +85,6 @@ striking_left w regions i is left =
         )
       ];
     }
-
--- struck out beyond a depth, a point was not struck out at it
-struck_depth : (n depth e : ℕ) → e ≤ n → depth ≡ n + 1 → IsUnstruck e (Some depth)
-struck_depth n depth e low same = omega arith
 
 -- depths where one place is struck out
 set_here : (depths : List (Option ℕ)) (i place depth : ℕ) → i < length depths → place ≡ i → depth_at (set depths i (Some depth)) place ≡ Some depth
@@ -199,9 +181,6 @@ but_waiting w low high waiting is stay = record {
 -- no number is left out
 pub but_none : (w : Pool) (low high : ℕ) → high ≤ low → IsPoolBut w low high → IsPool w
 but_none w low high done is = record { kept = is.kept; watched = λ number within needed. is.watched number within (needed, λ above below. absurd (omega arith)) }
-
-pub but_some : (w : Pool) (low high : ℕ) → IsPool w → IsPoolBut w low high
-but_some w low high is = record { kept = is.kept; watched = λ number within counts. is.watched number within counts.0 }
 
 -- with fewer relations, and what was struck out beyond them taken back
 pub pool_back : PositionsNarrow → (w : Pool) (n : ℕ) (cursor : CursorState) (depths : Vec (Option ℕ) Global) (struck : Vec ℕ Global) → IsPool w → IsOpen w.cursor.problem w.cursor.path →

@@ -37,12 +37,6 @@ record IsEmptyRegion (first : ℕ) (regions : Regions) (lit : ℕ) : Type 0 wher
   is : lit ≡ is_so (first + region_number region)
   empty : same_word (word_at regions region) Empty ≡ true
 
-from_pair : (first : ℕ) (regions : Regions) (lit : ℕ) → In lit (pair_selectors first regions) → IsEmptyRegion first regions lit
-from_pair first regions lit i =
-    let image : IsImage (λ region. is_so (first + region_number region)) lit (filter (λ region. same_word (word_at regions region) Empty) all_regions) =
-    from_map (λ region. is_so (first + region_number region)) (filter (λ region. same_word (word_at regions region) Empty) all_regions) i in
-    record { region = image.source; is = image.is; empty = (from_filter (λ region. same_word (word_at regions region) Empty) all_regions image.member).1 }
-
 into_pair : (first : ℕ) (regions others : Regions) (lit : ℕ) → ((region : Region) → same_word (word_at regions region) Empty ≡ true → same_word (word_at others region) Empty ≡ true) →
     In lit (pair_selectors first regions) → In lit (pair_selectors first others)
 into_pair first regions others lit more i =

@@ -4,8 +4,6 @@ use Rattle.std.specs.Prelude.{IsTrue, Contains, Some, None, nat_lt}
 use Rattle.std.proofs.lemmas.List.{append-nil}
 use Rattle.std.proofs.lemmas.Bool.{cases_lt, lt-ltb, le-ltb}
 use Rattle.rcc5_core.specs.declared.Rel.{Rel}
-use Rattle.rcc5_core.specs.declared.Occupancy.TheVariants.{Occupied}
-use Rattle.rcc5_core.specs.Region.{word_at, same_word}
 use Rattle.world_model.specs.Problem.{Problem, concept_count, pair_count}
 use Rattle.world_model.specs.Node.{pair_at}
 use Rattle.world_model.specs.Alive.{Need, InRegion, InConcept, all_allow, needs, problem_at, HasPoint, IsAlive}
@@ -16,10 +14,9 @@ use Rattle.point_encode.specs.declared.need.Need as code
 use Rattle.point_encode.specs.declared.need.Need.TheVariants.{Region, Concept}
 use Rattle.point_encode.specs.Needs.{need_seen, number_of, IsInRange}
 use Rattle.point_pool.specs.declared.pool.Pool.{Pool}
-use Rattle.point_pool.specs.Needs.{EachServed, need_at, is_needed, forced_at, needs_below, need_count}
+use Rattle.point_pool.specs.Needs.{EachServed, need_at, is_needed, needs_below, need_count}
 use Rattle.point_pool.specs.Cursors.{CursorState}
 use Rattle.point_pool.specs.Pools.{point_at, IsPool, HasWitness}
-use Rattle.point_pool.proofs.Prefixes.{needed_by, needed_past}
 use Rattle.point_pool.proofs.Numbering.{needs_numbered, needs_more, from_below, IsNumbered}
 use Rattle.point_pool.proofs.Serving.{each_push}
 use Rattle.point_pool.proofs.Pooling.{served_has, served_point}
@@ -95,19 +92,6 @@ need_named p number within = (number, named (cases_lt number (3 * pair_count p))
 
 pub seen_named : (p : Problem) (need : code.Need) → IsInRange p need → IsNeed p (need_seen p need)
 seen_named p need range = subst (λ x. IsNeed p x) (numbered_need p need range).1 (need_named p (number_of p need) (numbered_need p need range).0)
-
-pub numbered_needed : (p : Problem) (m : List Rel) (need : code.Need) → IsInRange p need → Contains (needs (problem_at p m)) (need_seen p need) → is_needed (problem_at p m) (number_of p need) ≡ true
-numbered_needed p m (Region pair part) range there =
-    let q = problem_at p m in
-    let number = 3 * pair + part in
-    let forced = (alive.from_needs q (InRegion (pair_at p pair) (region_with part)) (in_from_contains (needs q) there)).1 in
-    let third : number / 3 ≡ pair = omega (arith, range) in
-    let rest : number % 3 ≡ part = omega (arith, range) in
-    needed_by q number (omega (arith, range)) ∙ ap (λ k. same_word (word_at (forced_at q k) (region_with (number % 3))) Occupied) third ∙
-    ap (λ k. same_word (word_at (forced_at q pair) (region_with k)) Occupied) rest ∙ forced.same
-numbered_needed p m (Concept c) range there =
-    let q = problem_at p m in
-    needed_past q (3 * pair_count p + c) (omega arith) ∙ (alive.from_needs q (InConcept c) (in_from_contains (needs q) there)).0
 
 -- the parts of a cursor
 pub cursor_from : (s : CursorState) (p : Problem) (m : List Rel) → s.problem ≡ p → s.path ≡ m → s ≡ record { problem = p; path = m }

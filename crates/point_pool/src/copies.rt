@@ -19,7 +19,7 @@ fn flags_of(alloc: Global, problem: &Problem) -> Result<Vec<bool>, AllocError>
     ensures value { IfOk result (λ flags. flags.items ≡ problem.now.kept) }
     ensures counted { IfOk result (λ flags. length flags.items ≡ length problem.now.articulations) }
 {
-    let _built = problem.taxonomy_count();
+    problem.facts();
     let mut flags = Vec::with_capacity(alloc, problem.articulation_count() as usize)?;
     for index in 0..problem.articulation_count() {
         flags.push(problem.is_kept(index))?;
@@ -43,8 +43,8 @@ fn same_flags(one: &Problem, other: &Problem) -> bool
     requires { one.now.articulations ≡ other.now.articulations }
     ensures { result ≡ true → one.now.kept ≡ other.now.kept }
 {
-    let _one = one.taxonomy_count();
-    let _other = other.taxonomy_count();
+    one.facts();
+    other.facts();
     for index in 0..one.articulation_count() {
         if one.is_kept(index) != other.is_kept(index) {
             return false;

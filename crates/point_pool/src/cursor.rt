@@ -9,7 +9,7 @@ ghost use Rattle.world_model.specs.Alive.{allowed, problem_at};
 ghost use Rattle.world_model.specs.Node.{pair_at};
 ghost use Rattle.world_model.specs.Problem.{concept_count, pair_count};
 
-use crate::needs::{count_pairs, word_of};
+use crate::needs::word_of;
 use crate::selectors::{selected_alone, selected_at};
 use constraint_set::Problem;
 use lits_core::Lit;
@@ -69,19 +69,25 @@ impl Cursor {
         &self.problem
     }
 
-    // The prefix. The problem allows each of its relations.
+    // The prefix.
     pub fn path(&self) -> &[Rel]
-        ensures value { result.now ≡ self.now.path }
-        ensures open { IsOpen self.now.problem self.now.path }
+        ensures { result.now ≡ self.now.path }
     {
         &self.path
+    }
+
+    // What holds of every cursor. A call does nothing: it tells the prover.
+    pub fn facts(&self)
+        ensures { IsOpen self.now.problem self.now.path }
+    {
+        let _ = &self.path;
     }
 
     // How many relations the prefix has.
     pub fn len(&self) -> u32
         ensures { result ≡ length self.now.path }
     {
-        let _few = count_pairs(&self.problem);
+        self.problem.facts();
         self.path.len() as u32
     }
 
@@ -138,7 +144,7 @@ impl Cursor {
     {
         positions_narrow();
         let pair = self.path.len();
-        let _few = count_pairs(&self.problem);
+        self.problem.facts();
         let more = selected_at(self.alloc, &self.problem, pair as u32, rel.row())?;
         self.path.reserve(1)?;
         self.selected.extend_from_slice(&more)?;

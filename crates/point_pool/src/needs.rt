@@ -7,20 +7,18 @@ ghost use Rattle.std.specs.Prelude.{length, ◌<◌, ◌≡◌, ◌≤◌};
 ghost use Rattle.world_model.specs.Alive.{is_in_need};
 ghost use Rattle.world_model.specs.Problem.{concept_count, pair_count};
 
-use constraint_set::Problem;
+use constraint_set::{MAX_CONCEPTS, MAX_PAIRS, Problem};
 use lits_core::Bits;
 use point_encode::Need;
 use rcc5_core::{Occupancy, Regions};
-use world_model::pairs_stand_once;
 
 /// How many pairs there are, which is not too many to count their regions.
 pub fn count_pairs(problem: &Problem) -> u32
     ensures count { result ≡ pair_count problem.now }
-    ensures pairs { result ≤ 523776 }
-    ensures concepts { concept_count problem.now ≤ 1024 }
+    ensures pairs { result ≤ MAX_PAIRS }
+    ensures concepts { concept_count problem.now ≤ MAX_CONCEPTS }
 {
-    let _built = problem.taxonomy_count();
-    pairs_stand_once();
+    problem.facts();
     problem.pair_count()
 }
 

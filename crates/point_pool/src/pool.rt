@@ -103,7 +103,7 @@ impl Pool {
         ensures cursor { self.new.cursor ≡ record self.old.cursor { path = take count self.old.cursor.path } }
     {
         positions_narrow();
-        let _open = self.cursor.path();
+        self.cursor.facts();
         unstrike(&mut self.depths, &mut self.struck, count);
         self.cursor.back_to(count);
     }
@@ -117,7 +117,7 @@ impl Pool {
         ensures cursor { OnOk result (self.new.cursor ≡ record self.old.cursor { path = self.old.cursor.path ++ rel ∷ [] }) }
     {
         positions_narrow();
-        let _open = self.cursor.path();
+        self.cursor.facts();
         let pair = self.cursor.len();
         self.strike(pair, rel.row())?;
         self.cursor.push(rel)?;
@@ -141,12 +141,12 @@ impl Pool {
             let pair = self.cursor.len();
             let rel = prefix.at(pair as usize);
             if !self.cursor.problem().allowed(pair).has(rel) {
-                let _open = self.cursor.path();
+                self.cursor.facts();
                 return Ok(Some(pair));
             }
             self.push(rel)?;
         }
-        let _open = self.cursor.path();
+        self.cursor.facts();
         Ok(self.cursor.empty())
     }
 }

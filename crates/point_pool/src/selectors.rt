@@ -78,7 +78,7 @@ fn push_empty(
     requires { pair < pair_count problem.now }
     ensures { OnOk result (lits.new.items ≡ lits.old.items ++ pair_selectors (concept_count problem.now + 3 * pair) regions) }
 {
-    let _few = count_pairs(problem);
+    problem.facts();
     add_empty_regions(problem.concept_count() + 3 * pair, regions, lits)
 }
 
@@ -88,7 +88,7 @@ fn push_sum(lits: &mut Vec<Lit>, problem: &Problem, sum: u32) -> Result<(), Allo
     ensures { OnOk result (lits.new.items ≡ lits.old.items ++ kept_selector problem.now sum) }
 {
     let few = count_pairs(problem);
-    let _built = problem.taxonomy_count();
+    problem.facts();
     if problem.is_kept(problem.sum_at(sum)) {
         lits.push(Lit::new(problem.concept_count() + 3 * few + sum, false))?;
     }

@@ -64,7 +64,7 @@ impl Pool {
         ensures pool { OnOk result (IsPool self.new) }
         ensures cursor { OnOk result (self.new.cursor ≡ self.old.cursor) }
     {
-        let _few = count_pairs(self.cursor.problem());
+        self.cursor.problem().facts();
         for number in 3 * pair..3 * pair + 3 {
             self.want(number, 3 * pair + 3)?;
         }

@@ -93,7 +93,7 @@ impl Pool {
         ensures waiting { OnOk result (self.new.waiting ≡ self.old.waiting) }
     {
         positions_narrow();
-        let _open = self.cursor.path();
+        self.cursor.facts();
         let place = self.points.len();
         self.points.push(bits)?;
         self.depths.push(None)?;

@@ -126,9 +126,6 @@ refuted_is_closed points literals sets p m need selectors lits s id built is num
 pub goes_nowhere : (s : SolverState) → GoesTo s s
 goes_nowhere s = record { variables = refl; added = []; waits = sym (append-nil s.waiting); leads = record { valid = refl; after = same-self s.state }; from_one = λ k d h. absurd (omega arith) }
 
-pub goes_same : (old new : SolverState) → new ≡ old → GoesTo old new
-goes_same old new same = subst (λ s. GoesTo old s) (sym same) (goes_nowhere old)
-
 derived_chain : (a b c : List (ℕ × List ℕ)) → SameDerived a b → SameDerived b c → SameDerived a c
 derived_chain [] [] [] g h = tt
 derived_chain [] [] (c ∷ cs) g h = absurd h

@@ -1,14 +1,12 @@
 -- Points that were found for needs in turn, beside the needs that they serve.
 use Rattle.std.proofs.Common.{Vec, Global, ◌≡◌, ℕ, ◌+◌, ◌<◌, ◌≤◌, Bool, List, [], ◌∷◌, ◌++◌, map, length, get_or, take, drop, refl, sym, ap, ◌∙◌, subst, arith}
 use Rattle.std.specs.Prelude.{All, IsTrue}
-use Rattle.std.specs.List.{list_all}
-use Rattle.std.proofs.lemmas.Bool.{and_parts, eqb-true}
 use Rattle.std.proofs.lemmas.List.{map-append, length-append, take_more, get_or_append_left, take-append-drop, drop_more}
 use Rattle.std.proofs.lemmas.List.Elements.{All-push, All-head, All-tail, All-weaker}
 use Rattle.rcc5_core.specs.declared.Rel.{Rel}
 use Rattle.lits_core.specs.declared.Bits.{Bits}
-use Rattle.world_model.specs.Problem.{Problem, concept_count}
-use Rattle.world_model.specs.Alive.{all_allow, problem_at, meets_structure, is_point, is_in_need, HasPoint, IsAlive, avoids, forced_pairs}
+use Rattle.world_model.specs.Problem.{Problem}
+use Rattle.world_model.specs.Alive.{all_allow, problem_at, is_in_need, HasPoint, IsAlive}
 use Rattle.world_model.proofs.Members.{In-map, from_map, in_from_contains, contains_from_in, IsImage}
 use Rattle.point_encode.specs.declared.need.Need as code
 use Rattle.point_encode.specs.Needs.{need_seen, IsInRange}
@@ -20,15 +18,6 @@ use Rattle.point_query.specs.Queries.{ArePoints}
 use Rattle.point_query.specs.Seeking.{chosen, AreServed, IsStopped, IsFront, IsSoughtAt}
 use Rattle.point_pool.proofs.Serving.{each_push, each_has, served_is_alive}
 use Rattle.point_query.proofs.Answering.{served}
-
--- points have a bit for each concept
-pub point_length : (p : Problem) (bits : List Bool) → IsTrue (is_point p bits) → length bits ≡ concept_count p
-point_length p bits h =
-    let structure = and_parts (meets_structure p bits) (list_all (avoids bits) (forced_pairs p)) h in
-    let sums = and_parts _ _ structure.0 in
-    let covered = and_parts _ _ sums.0 in
-    let apart = and_parts _ _ covered.0 in
-    eqb-true (length bits) (concept_count p) (and_parts _ _ apart.0).0
 
 -- points stay at their places where more are added
 chosen_more : (points more : List (List Bool)) (places : List ℕ) → All (λ place. place < length points) places → chosen (points ++ more) places ≡ chosen points places

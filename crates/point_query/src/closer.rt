@@ -141,7 +141,7 @@ impl Closer {
         requires closes { MatchOption (live_clause self.now.state id) ⊥ (IsClosedAt cursor.now.problem cursor.now.path (need_at cursor.now.problem number)) }
         ensures { IsClosed (asker_with cursor.now.problem self.now) cursor.now.problem cursor.now.path (need_at cursor.now.problem number) id }
     {
-        let _built = cursor.problem().taxonomy_count();
+        cursor.problem().facts();
         self.solver.facts();
         clauses_are_points();
         needs_are_literals();

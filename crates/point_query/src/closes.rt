@@ -78,7 +78,7 @@ pub(crate) fn is_selector(cursor: &Cursor, lit: Lit) -> bool
     ensures { IsTrue result → Contains (selectors_of cursor.now.problem cursor.now.path) lit }
 {
     positions_narrow();
-    let _open = cursor.path();
+    cursor.facts();
     if lit.is_negative() {
         return false;
     }
@@ -112,7 +112,7 @@ fn is_empty_there(cursor: &Cursor, pair: u32, part: u32) -> bool
 fn is_kept_there(problem: &Problem, sum: u32) -> bool
     ensures { IsTrue result → (m : List Rel) → Contains (selectors_of problem.now m) (is_so (first_sum_selector problem.now + sum)) }
 {
-    let _built = problem.taxonomy_count();
+    problem.facts();
     if sum < problem.sum_count() {
         return problem.is_kept(problem.sum_at(sum));
     }

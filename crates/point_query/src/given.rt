@@ -32,7 +32,7 @@ fn add_each(solver: &mut Solver, problem: &Problem, clauses: &[Clause]) -> Resul
     ensures quiet { OnOk result (solver.new.waiting ≡ []) }
     ensures idle { OnOk result (solver.new.idle ≡ solver.old.idle) }
 {
-    let _built = problem.taxonomy_count();
+    problem.facts();
     for clause in clauses {
         solver.add(clause.lits())?;
     }

@@ -33,7 +33,7 @@ pub(crate) fn query(
     ensures solver { IsSolverOf problem.now solver.new }
     ensures found { IfOk result (IsFound (asker_with problem.now solver.new) problem.now prefix.now (need_seen problem.now need)) }
 {
-    let _built = problem.taxonomy_count();
+    problem.facts();
     clauses_are_points();
     needs_are_literals();
     law_derived_clauses_follow();

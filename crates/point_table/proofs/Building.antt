@@ -129,12 +129,6 @@ joined_implied p old new on row concept own are gains is follows x y h bits poin
   | inr now ↦ follows y now.2 bits point (are row concept (sym is ∙ now.0) bits point (ap (bit_of bits) (sym now.1) ∙ has))
 ]
 
-pub joined_excluded : (p : Problem) (implied old new : BitRows) (on : Bool) (row concept : ℕ) (own : List ℕ) → AreImplied p implied → AreExcluded p old →
-    GainsOne old new on row (λ k. has_bit own k ≡ true) → on ≡ bit_in implied row concept →
-    ((k : ℕ) → has_bit own k ≡ true → (bits : List Bool) → IsTrue (is_point p bits) → bit_of bits concept ≡ true → bit_of bits k ≡ false) → AreExcluded p new
-joined_excluded p implied old new on row concept own follow are gains is lacks x y h bits point has = elim (gains x y h) [
-  | inl before ↦ are x y before bits point has
-  | inr now ↦ lacks y now.2 bits point (follow row concept (sym is ∙ now.0) bits point (ap (bit_of bits) (sym now.1) ∙ has))
 ]
 
 -- what is forced of a pair, as rules of its concepts

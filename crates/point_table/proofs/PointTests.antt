@@ -2,8 +2,8 @@
 use Rattle.std.proofs.Common.{◌≡◌, ℕ, zero, suc, ◌+◌, ◌<◌, ◌≤◌, Bool, true, false, ◌&&◌, ◌||◌, not, cond, List, [], ◌∷◌, ◌++◌, length, get_or, drop, inl, inr, refl, sym, ap, ◌∙◌, arith}
 use Rattle.std.specs.Prelude.{Some, filter, filter_map, slice_get}
 use Rattle.std.specs.List.{list_all, range_with_len, items_where_true}
-use Rattle.std.proofs.lemmas.Bool.{cases_Bool, cases_lt, and_from, and_parts, false≢true, true≢false, false_from_ne_true}
-use Rattle.std.proofs.lemmas.List.{drop_more, drop_all, length-append, get_or_append_left, get_or_push}
+use Rattle.std.proofs.lemmas.Bool.{cases_Bool, and_from, and_parts, false≢true, true≢false, false_from_ne_true}
+use Rattle.std.proofs.lemmas.List.{drop_more, drop_all}
 use Rattle.std.proofs.lemmas.List.Folds.{list_all-append}
 use Rattle.std.proofs.lemmas.Option.{slice_get_within, get_or_from_slice_get}
 use Rattle.std.proofs.lemmas.List.Elements.{filter-append}
@@ -34,15 +34,6 @@ range_all_not test n i small fails = false_from_ne_true (list_all test (range_wi
 pub record AreAllowedBelow (p : Problem) (sets : List RelSet) (n : ℕ) : Type 0 where
   pub counted : length sets ≡ n
   pub each : (k : ℕ) (d : RelSet) → k < n → get_or sets k d ≡ allowed p (pair_at p k)
-
-pub allowed_more : (p : Problem) (sets : List RelSet) (n : ℕ) (set : RelSet) → AreAllowedBelow p sets n → set ≡ allowed p (pair_at p n) → AreAllowedBelow p (sets ++ set ∷ []) (n + 1)
-allowed_more p sets n set are is = record {
-  counted = length-append sets (set ∷ []) ∙ ap (λ m. m + 1) are.counted;
-  each = λ k d small. elim (cases_lt k n) [
-    | inl before ↦ let counted = are.counted in get_or_append_left sets (set ∷ []) d k (omega arith) ∙ are.each k d before
-    | inr last ↦ let same : k ≡ n = omega arith in get_or_push sets set d k (are.counted ∙ sym same) ∙ is ∙ ap (λ m. allowed p (pair_at p m)) (sym same)
-  ];
-}
 
 -- one pair more
 pub pairs_more : (test : ℕ → Bool) (old new : List ℕ) (i : ℕ) → old ≡ filter test (range_with_len 0 i) → new ≡ old ++ cond (test i) (i ∷ []) [] → new ≡ filter test (range_with_len 0 (i + 1))
@@ -134,8 +125,3 @@ pub sums_all : (bits : List Bool) (said : List Articulation) → list_all (sum_h
 sums_all bits [] = refl
 sums_all bits (Pair left right set ∷ said) = sums_all bits said
 sums_all bits (Sum whole parts ∷ said) = ap (λ b. sum_holds bits (Sum whole parts) && b) (sums_all bits said)
-
--- some pairs, one of which is not avoided
-pub pairs_all_not : (test : ℕ → Bool) (xs : List ℕ) (i x : ℕ) → i < length xs → x ≡ get_or xs i 0 → test x ≡ false → list_all test xs ≡ false
-pairs_all_not test xs i x small is fails =
-    false_from_ne_true (list_all test xs) (λ all. true≢false (sym (all_at test all (In-get_or xs i 0 small)) ∙ ap test (sym is) ∙ fails))

@@ -60,7 +60,7 @@ fn add_parent(problem: &Problem, concept: u32, implied: &mut Rows)
     ensures size { IsSameSize implied.old implied.new }
     ensures rules { AreImplied problem.now implied.new }
 {
-    let _built = problem.taxonomy_count();
+    problem.facts();
     for child in problem.children(concept) {
         set_if(true, *child as usize, concept as usize, implied);
     }
@@ -76,7 +76,7 @@ fn add_sibling(problem: &Problem, concept: u32, child: u32, excluded: &mut Rows)
     ensures size { IsSameSize excluded.old excluded.new }
     ensures rules { AreExcluded problem.now excluded.new }
 {
-    let _built = problem.taxonomy_count();
+    problem.facts();
     for other in problem.children(concept) {
         set_if(*other != child, child as usize, *other as usize, excluded);
     }
@@ -258,7 +258,7 @@ fn cover_parents(problem: &Problem, rules: &mut Rules) -> Result<(), AllocError>
     ensures same { OnOk result (IsMoreCovered rules.old rules.new) }
     ensures covers { OnOk result (AreCovers problem.now rules.new.heads.items rules.new.covers) }
 {
-    let _built = problem.taxonomy_count();
+    problem.facts();
     for concept in 0..problem.concept_count() {
         let children = problem.children(concept);
         if !children.is_empty() {
@@ -306,7 +306,7 @@ pub(crate) fn rules_of(
     ensures fit { IfOk result (FitConcepts (concept_count problem.now)) }
     ensures rules { IfOk result (AreRules problem.now) }
 {
-    let _built = problem.taxonomy_count();
+    problem.facts();
     let mut rules = no_rules(alloc, problem.concept_count() as usize)?;
     add_trees(problem, &mut rules.implied, &mut rules.excluded);
     add_pairs(

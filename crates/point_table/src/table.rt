@@ -28,7 +28,7 @@ pub fn all_points(
     requires { AreAllowed problem.now sets.now }
     ensures { IfOk result (λ found. IfSome found (λ points. points.items ≡ points_by_trial problem.now)) }
 {
-    let _built = problem.taxonomy_count();
+    problem.facts();
     let pairs = pairs_with_empty(alloc, problem, sets)?;
     let rules = rules_of(alloc, problem, sets, &pairs)?;
     let count = problem.concept_count() as usize;

@@ -1,5 +1,5 @@
 -- Reports that are put one after the other.
-use Rattle.std.proofs.Common.{◌≡◌, ℕ, ◌+◌, ◌<◌, ◌≤◌, List, [], ◌∷◌, ◌++◌, zero, suc, take, length, get_or, map, flat_map, Option, None, Some, Result, OnErr, refl, sym, ap, subst, ◌∙◌, append-nil, arith}
+use Rattle.std.proofs.Common.{◌≡◌, ℕ, ◌+◌, ◌<◌, List, [], ◌∷◌, ◌++◌, zero, suc, take, length, get_or, map, flat_map, Option, Result, OnErr, refl, sym, ap, subst, ◌∙◌, arith}
 use Rattle.std.specs.Prelude.{codes}
 use Rattle.std.proofs.lemmas.List.{length-map}
 use Rattle.outer_store.specs.Bytes.{GrownInPart, added}
@@ -11,15 +11,11 @@ use Rattle.outer_store.proofs.BytesLemmas.{GrownInPart-kept}
 use Rattle.run_ends.specs.Runs.{SinkState, LeavesPiece}
 use Rattle.report_run.specs.Reporting.{watched, report_of}
 use Rattle.report_run.proofs.AskLemmas.{seen_as}
-use Rattle.run_ends.proofs.PieceLemmas.{piece_after, part_of_more, line_put, line_refused, lines_put}
+use Rattle.run_ends.proofs.PieceLemmas.{piece_after, part_of_more, line_put, line_refused}
 
 -- what the first of some watchers report is put
 pub record AreReportsPut {W : Type 0} (ws : List W) (name : W → List ℕ) (text : W → Texts) (p : Problem) (place : ℕ) (old new : Option (List ℕ)) : Type 0 where
   pub put : new ≡ added old (flat_map (report_of p []) (take place (watched name text ws)))
-
-pub no_reports : {W : Type 0} (ws : List W) (name : W → List ℕ) (text : W → Texts) (p : Problem) (old : Option (List ℕ)) → AreReportsPut ws name text p 0 old old
-no_reports ws name text p None = record { put = refl }
-no_reports ws name text p (Some bytes) = record { put = ap Some (sym (append-nil bytes)) }
 
 item_seen : {W : Type 0} (name : W → List ℕ) (text : W → Texts) (ws : List W) (k : ℕ) (w : W) → k < length ws → w ≡ get_or ws k w → seen_as name text w ≡ get_or (watched name text ws) k (seen_as name text w)
 item_seen name text [] k w within is = absurd (omega arith)
@@ -33,10 +29,6 @@ item_named name (x ∷ ws) (suc k) w kind within is named = item_named name ws k
 
 long : {W : Type 0} (name : W → List ℕ) (text : W → Texts) (ws : List W) → length (watched name text ws) ≡ length ws
 long name text ws = length-map ws (seen_as name text)
-
--- the kinds are as many as the watchers
-pub kinds_within : {W : Type 0} (name : W → List ℕ) (ws : List W) (kinds : List (List ℕ)) (k : ℕ) → map name ws ≡ kinds → k < length ws → k < length kinds
-kinds_within name ws kinds k named within = omega (arith, within, ap length named, length-map ws name)
 
 pub report_put : {W : Type 0} (ws : List W) (name : W → List ℕ) (text : W → Texts) (p : Problem) (kinds : List (List ℕ)) (k : ℕ) (w : W) (kind : List ℕ) (old mid new : Option (List ℕ))
     → map name ws ≡ kinds → k < length ws → w ≡ get_or ws k w → kind ≡ get_or kinds k kind → AreReportsPut ws name text p k old mid
@@ -55,10 +47,6 @@ report_refused r ws name text p kinds k w kind old mid new named within is of_ki
     let called : kind ≡ name w = item_named name ws k w kind within is (subst (λ ks. kind ≡ get_or ks k kind) (sym named) of_kind) in
     line_refused r (report_of p []) (watched name text ws) k (seen_as name text w) old mid new (omega (arith, within, long name text ws)) (item_seen name text ws k w within is) so_far.put
     (subst (λ x. GrownInPart mid new (line_of (codes "report " ++ x) ++ in_lines (text w p []))) called part)
-
-pub reports_put : {W : Type 0} (ws : List W) (name : W → List ℕ) (text : W → Texts) (p : Problem) (k : ℕ) (old new : Option (List ℕ)) → length ws ≤ k → AreReportsPut ws name text p k old new
-    → new ≡ added old (flat_map (report_of p []) (watched name text ws))
-reports_put ws name text p k old new end so_far = lines_put (report_of p []) (watched name text ws) k old new (omega (arith, end, long name text ws)) so_far.put
 
 -- before anything is put
 pub nothing_put : {T E : Type 0} (r : Result T E) (old : Option (List ℕ)) (text : List ℕ) → OnErr r (GrownInPart old old text)

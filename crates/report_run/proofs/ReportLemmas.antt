@@ -1,8 +1,7 @@
 -- How a report ends, by its parts.
-use Rattle.std.proofs.Common.{◌≡◌, ◌==◌, Bool, true, false, cond, ℕ, suc, List, [], ◌∷◌, ◌++◌, length, map, flat_map, Option, None, Some, IfSome, Result, Ok, Err, refl, sym, ap, subst, ◌∙◌, inl, inr, ⊎_elim, arith, take, IsTrue, append-nil}
+use Rattle.std.proofs.Common.{◌≡◌, ℕ, suc, List, [], ◌∷◌, ◌++◌, map, flat_map, Option, None, Result, Ok, Err, refl, sym, ap, subst, ◌∙◌, inl, arith, IsTrue, append-nil}
 use Rattle.std.specs.Prelude.{codes, IfOk, OnErr}
 use Rattle.outer_store.specs.Bytes.{GrownInPart}
-use Rattle.std.proofs.lemmas.Bool.{eqb-true}
 use Rattle.outer_store.specs.Contents.{Contents}
 use Rattle.outer_store.specs.declared.fault.StoreFault.{StoreFault}
 use Rattle.outer_store.specs.declared.fault.StoreFault.TheVariants as store_fault
@@ -10,8 +9,6 @@ use Rattle.rcc5_core.specs.declared.Rel.{Rel}
 use Rattle.world_model.specs.declared.Switches.{Switches}
 use Rattle.world_model.specs.Problem.{Problem, is_problem}
 use Rattle.world_model.proofs.TrialLaws.{trial_is_right_law}
-use Rattle.cleantax_text.specs.declared.TextKind.{TextKind}
-use Rattle.cleantax_text.specs.Reading.{text_result}
 use Rattle.merge_print.specs.Json.{HasUtf8Names}
 use Rattle.merge_print.specs.Laws.{ReadNamesAreUtf8}
 use Rattle.world_watch.specs.Held.{held}
@@ -19,12 +16,12 @@ use Rattle.world_watch.specs.Steps.{Texts}
 use Rattle.run_ends.specs.declared.Status.{Status}
 use Rattle.run_ends.specs.declared.Status.TheVariants as status
 use Rattle.run_ends.specs.Ends.{line_of, in_lines, complete_line, end_line}
-use Rattle.run_ends.specs.Reads.{problem_by, problem_in, ComesOf, IsWithout}
+use Rattle.run_ends.specs.Reads.{problem_in, ComesOf, IsWithout}
 use Rattle.run_ends.specs.Runs.{StoreState, SinkState, LeavesPiece, IsQuiet, Answered, ending_of, IsEarlyEnd, IsCarriedOut}
 use Rattle.run_ends.proofs.TextLemmas.{says_problem, without_text}
 use Rattle.run_ends.proofs.EndLemmas.{all_kept, none_written}
 use Rattle.report_run.specs.Reporting.{Watched, watched, asked, AreKinds, report_of, report_text, report_status, IsAnswerBy, IsReportAnswer, report_names}
-use Rattle.report_run.specs.Steps.{all_worlds, HaveSeen, AreShownAll, status_at}
+use Rattle.report_run.specs.Steps.{all_worlds, HaveSeen, AreShownAll}
 use Rattle.report_run.proofs.AskLemmas.{asked_named, names_seen}
 
 -- a run that has no problem
@@ -136,14 +133,6 @@ pub names_right : {W : Type 0} (name : W → List ℕ) (text : W → Texts) (p :
     → watched name text old ≡ asked (watched name text ws) kinds → AreShownAll name text p old new count → map name new ≡ kinds
 names_right name text p ws old new kinds count kinds_are are shown =
     seen_names name text p (all_worlds p) old new shown.0 ∙ sym (names_seen name text old) ∙ ap (map (λ (w : Watched). w.name)) are ∙ asked_named (watched name text ws) kinds kinds_are.named
-
-pub status_right : (worlds : List (List Rel)) (count : ℕ) → count ≡ held (length worlds) → status_at count ≡ report_status worlds
-status_right [] count counted = rw counted refl
-status_right (world ∷ worlds) count counted = by (count == 0) refl
-  where
-    by : (b : Bool) → (count == 0) ≡ b → cond b status.NoWorld status.Done ≡ status.Done
-    by false e = refl
-    by true e = let none : count ≡ 0 = eqb-true count 0 e in absurd (omega (arith, counted, none))
 
 -- a first part of what is put of watchers that have seen all worlds is one of the text of the answer
 pub part_told : {W T E : Type 0} (r : Result T E) (name : W → List ℕ) (text : W → Texts) (p : Problem) (ws : List Watched) (old new : List W) (count : ℕ) (before now : Option (List ℕ)) → watched name text old ≡ ws

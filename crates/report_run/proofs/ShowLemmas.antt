@@ -15,7 +15,7 @@ use Rattle.world_model.proofs.TrialLaws.{trial_is_right_law}
 use Rattle.table_walk.specs.Ahead.{IsOnward, Lists}
 use Rattle.table_walk.specs.Tables.{TablesState, IsAtWorld, PassedTold}
 use Rattle.table_walk.proofs.Stepping.{lists_nowhere}
-use Rattle.world_search.specs.Searching.{SearchState, Passes, Came, last_place}
+use Rattle.world_search.specs.Searching.{SearchState, Passes, Came}
 use Rattle.world_watch.specs.Held.{held}
 use Rattle.world_watch.specs.Steps.{Texts, AllTook}
 use Rattle.report_run.specs.Steps.{all_worlds, HaveSeen, AreShownAll}
@@ -39,15 +39,6 @@ lists_of p (Some one) other nodes worlds between = record { onward = onward othe
 
 pub came_lists : (p : Problem) (one other : SearchState) (before left : Option ℕ) (worlds : List (List Rel)) → one.problem ≡ p → Came one other before left worlds → Lists p one.at other.at worlds
 came_lists p one other before left worlds same came = lists_of p one.at other.at came.nodes worlds (subst (λ q. Passes q one.at other.at came.nodes worlds) same came.passed)
-
--- a search without an end ends where all is passed
-pub came_end : (p : Problem) (one other : SearchState) (before left : Option ℕ) → one.problem ≡ p → one.to ≡ None → Came one other before left [] → other.at ≡ last_place other.from other.to → Lists p one.at None []
-came_end p one other before left same none came at =
-    subst (λ o. Lists p one.at o []) (at ∙ ap (last_place other.from) (came.to ∙ none)) (came_lists p one other before left [] same came)
-
--- one that counts no nodes never stops before it
-pub never_spent : {G : Type 0} (one other : SearchState) (left : Option ℕ) → Came one other None left [] → left ≡ Some 0 → G
-never_spent one other left came spent = let none : left ≡ None = came.counted in cc
 
 -- what stands up to a place, and from there up to another
 upto_on : (p : Problem) (mid other : Option (List Rel)) (worlds more : List (List Rel)) → IsListing p [] mid worlds → Lists p mid other more → IsListing p [] other (worlds ++ more)

@@ -85,7 +85,7 @@ pub fn run_report<S: Store, W: Sink>(
         Ok(problem) => problem,
         Err(status) => return put_end(alloc, out, status),
     };
-    let _built = problem.taxonomy_count();
+    problem.facts();
     match report(alloc, out, &problem, kinds, watchers) {
         Ok(status) => status,
         Err(StoreFault::Failed) => Status::WriteFault,

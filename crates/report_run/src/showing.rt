@@ -50,7 +50,7 @@ fn show_tables(
     requires tables { IsNewListing problem.now [] tables.old }
     ensures { IfOk result (AreShownAll name text problem.now watchers.old.items watchers.new.items) }
 {
-    let _built = problem.taxonomy_count();
+    problem.facts();
     let mut world = Position::new(alloc);
     let mut count: u64 = 0;
     while let Some(kept) = tables.next()? {
@@ -95,7 +95,7 @@ fn show_found(
     requires shape { asker.old.shape ≡ shape_of problem.now }
     ensures { IfOk result (AreShownAll name text problem.now watchers.old.items watchers.new.items) }
 {
-    let _built = problem.taxonomy_count();
+    problem.facts();
     let mut count: u64 = 0;
     while let Some(world) = next_found(problem, asker, search)? {
         feed(watchers, problem, &world)?;

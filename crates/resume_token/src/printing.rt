@@ -24,6 +24,7 @@ pub(crate) fn print(
     ensures reads_back { IfOk result (λ token. token_result problem.now token.items ≡ Ok position.now) }
 {
     printing_reads_back();
+    problem.facts();
     let digest = digest_of(alloc, problem)?;
     let mut token = Vec::from_slice(alloc, b"token 2 ")?;
     print_number(&mut token, u64::from(problem.taxonomy_count()))?;

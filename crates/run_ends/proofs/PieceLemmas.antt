@@ -1,5 +1,5 @@
 -- Pieces that are put one behind the other.
-use Rattle.std.proofs.Common.{◌≡◌, ◌≢◌, ℕ, zero, suc, ◌+◌, ◌-◌, ◌<◌, ◌≤◌, ◌==◌, ◌⊎◌, inl, inr, Bool, true, false, cond, List, [], ◌∷◌, ◌++◌, take, drop, length, flat_map, get_or, Option, None, Some, Result, Ok, Err, OnErr, refl, sym, ap, subst, ◌∙◌, append-nil, append_assoc, arith}
+use Rattle.std.proofs.Common.{◌≡◌, ◌≢◌, ℕ, zero, suc, ◌+◌, ◌-◌, ◌<◌, ◌≤◌, ◌==◌, ◌⊎◌, inl, inr, Bool, true, false, cond, List, [], ◌∷◌, ◌++◌, take, drop, length, flat_map, get_or, Option, Result, Ok, Err, OnErr, refl, sym, ap, subst, ◌∙◌, append-nil, append_assoc, arith}
 use Rattle.std.proofs.lemmas.Bool.{eqb-true}
 use Rattle.std.specs.List.{slice_range}
 use Rattle.std.proofs.Math.Seq.{take-suc}
@@ -129,13 +129,6 @@ pub record ArePutTo (text : List ℕ) (from : ℕ) (old new : Option (List ℕ))
   pub lines : List ℕ
   pub whole : in_lines text ≡ lines ++ in_lines (drop from text)
   pub put : new ≡ added old lines
-
-pub none_put : (text : List ℕ) (old : Option (List ℕ)) → ArePutTo text 0 old old
-none_put text old = record { lines = []; whole = refl; put = added-nil old }
-  where
-    added-nil : (told : Option (List ℕ)) → told ≡ added told []
-    added-nil None = refl
-    added-nil (Some bytes) = ap Some (sym (append-nil bytes))
 
 -- the rest of a text from a line on
 pub line_next : (text : List ℕ) (from to : ℕ) → IsLineEnd text from to → in_lines (drop from text) ≡ in_lines (slice_range text from to) ++ in_lines (drop to text)

@@ -1,5 +1,5 @@
 -- What calls leave of a log, and of an asker.
-use Rattle.std.proofs.Common.{◌≡◌, ℕ, ◌≤◌, Bool, inl, inr, List, [], ◌∷◌, ◌++◌, map, Option, Some, None, Result, Ok, Err, OnOk, OnErr, refl, sym, ap, ◌∙◌, subst, arith, append_assoc, append-nil}
+use Rattle.std.proofs.Common.{◌≡◌, ℕ, ◌≤◌, Bool, inl, inr, [], ◌∷◌, ◌++◌, map, Some, None, Result, Ok, Err, OnOk, OnErr, refl, sym, ap, ◌∙◌, subst, arith, append_assoc, append-nil}
 use Rattle.std.specs.Prelude.{⊤}
 use Rattle.std.specs.Result.{IsErrAnd}
 use Rattle.outer_store.specs.Faults.{Rose, IfFailed}
@@ -14,7 +14,7 @@ use Rattle.cert_text.specs.declared.line.CertLine.TheVariants.{Proof}
 use Rattle.cert_text.specs.Logs.{Told, IsToldWith}
 use Rattle.search_log.specs.declared.fault.StepFault.{StepFault}
 use Rattle.search_log.specs.declared.fault.StepFault.TheVariants.{NoMemory, LogFailed}
-use Rattle.search_log.specs.Logging.{step_fault, AddsLines, AreToldWith, IfLogFailed, LogGoes, AllTold, NoneTold, IsFlushed, IsSameButLines}
+use Rattle.search_log.specs.Logging.{step_fault, AddsLines, AreToldWith, IfLogFailed, LogGoes, IsFlushed, IsSameButLines}
 
 -- an asker that is left as it is, and one that goes on twice
 pub asker_stays : (one : AskerState) → AskerGoes one one
@@ -137,17 +137,6 @@ module _ {L : Type 0} {drops : L → Bool} {lines : L → Told} {faults : L → 
     still = fault_of S T e f ⊤ (quiet a b) h still;
     as_before = as_before;
   }
-
--- one more line told behind others
-pub told_more : (a b c : Told) (xs : List CertLine) (x : CertLine) → AreToldWith a xs b → IsToldWith b x c → AreToldWith a (xs ++ x ∷ []) c
-told_more None b c xs x first second = tt
-told_more (Some lines) b c xs x first second =
-    let there : IsToldWith (Some (lines ++ xs)) x c = subst (λ b. IsToldWith b x c) first second in
-    there ∙ ap Some (append_assoc lines xs (x ∷ []))
-
-pub told_none : (a : Told) → AreToldWith a [] a
-told_none None = tt
-told_none (Some lines) = ap Some (sym (append-nil lines))
 
 -- what is so anyhow is so at an error
 pub on_err : {T E P : Type 0} (r : Result T E) → P → OnErr r P

@@ -96,16 +96,6 @@ common_step_right xs ys i j in_x in_y below left =
     (below_least (get_or ys j 0) (get_or xs i 0) (drop (i + 1) xs) below (at_rest xs i in_x left))) ∙
     sym (at_rests have_common xs ys i j in_x in_y)
 
-common_both : (a : ℕ) (xs ys : List ℕ) → have_common (a ∷ xs) (a ∷ ys) ≡ true
-common_both a xs ys = let found : (a == a) ≡ true = eq-eqb a a refl in rw found refl
-
-pub common_step_both : (xs ys : List ℕ) (i j : ℕ) → i < length xs → j < length ys → get_or ys j 0 ≡ get_or xs i 0 →
-    have_common (drop i xs) (drop j ys) ≡ true
-common_step_both xs ys i j in_x in_y same =
-    at_rests have_common xs ys i j in_x in_y ∙
-    ap (λ y. have_common (get_or xs i 0 ∷ drop (i + 1) xs) (y ∷ drop (j + 1) ys)) same ∙
-    common_both (get_or xs i 0) (drop (i + 1) xs) (drop (j + 1) ys)
-
 pub common_end : (xs ys : List ℕ) (i j : ℕ) → (length xs ≤ i) ⊎ (length ys ≤ j) → have_common (drop i xs) (drop j ys) ≡ false
 common_end xs ys i j (inl done) = ap (λ rest. have_common rest (drop j ys)) (drop_all i xs done)
 common_end xs ys i j (inr done) = ap (λ rest. have_common (drop i xs) rest) (drop_all j ys done) ∙ have_common-nil (drop i xs)

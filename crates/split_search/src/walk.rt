@@ -164,7 +164,7 @@ impl Walk {
         requires { IsWalk self.now }
         ensures { result ≡ length self.now.path }
     {
-        let _pairs = self.subject.pair_count();
+        self.subject.facts();
         self.path.len() as u32
     }
 

@@ -23,9 +23,6 @@ shorter_first (x ∷ a) (y ∷ b) c d same less =
 pub alike_none : (other : List Rel) → BeginAlike [] other 0
 alike_none other = record { common = []; counted = refl; first = ([], refl); second = (other, refl) }
 
-pub alike_path : (m path : List Rel) → Begins path m → BeginAlike m path (length path)
-alike_path m path begins = record { common = path; counted = refl; first = begins; second = begins_itself path }
-
 -- where a path goes on, as many are kept, and where it is cut back, no more than are left
 pub alike_longer : (one path on : List Rel) (count : ℕ) → BeginAlike one path count → Begins path on → BeginAlike one on count
 alike_longer one path on count alike begins = record { common = alike.common; counted = alike.counted; first = alike.first; second = begins_on alike.common path on alike.second begins }

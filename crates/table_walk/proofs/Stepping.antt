@@ -354,33 +354,6 @@ same_way old new is standing p here levels stage =
 pub stays : (w : Way) → IsWay w → w.stage ≡ Standing → WentOn w w
 stays w is standing = same_way w w is standing refl refl refl refl
 
--- a way at a full table tells it
-pub told_way : (old new : Way) → IsWay old → old.stage ≡ Standing → old.turn ≡ None → length old.ladder.path ≡ pair_count (problem_of old) →
-    new.ladder ≡ old.ladder → new.turn ≡ old.turn → new.levels.items ≡ old.levels.items → new.stage ≡ Told → IsWay new × (at_of new ≡ at_of old)
-told_way old new is standing settled full ladder turn levels stage =
-    let p : problem_of new ≡ problem_of old = ap (λ l. l.problem) ladder in
-    let here : place new ≡ place old = (λ i. (ladder i).path ++ option_to_list (turn i)) in
-    let was = under old is standing in
-    let now : IsUnderWay new = record {
-      ahead = subst (λ q. IsAhead q (place new) new.levels.items) (sym p) (subst (λ m. IsAhead (problem_of old) m new.levels.items) (sym here)
-          (subst (λ ls. IsAhead (problem_of old) (place old) ls) (sym levels) was.ahead));
-      leads = subst (λ q. LeadOn q (place new) new.levels.items) (sym p) (subst (λ m. LeadOn (problem_of old) m new.levels.items) (sym here)
-          (subst (λ ls. LeadOn (problem_of old) (place old) ls) (sym levels) was.leads));
-      alive = subst (λ q. IsAlive (problem_at q (place new))) (sym p) (subst (λ m. IsAlive (problem_at (problem_of old) m)) (sym here) was.alive);
-      upto = subst (λ q. length (place new) ≤ pair_count q) (sym p) (subst (λ m. length m ≤ pair_count (problem_of old)) (sym here) was.upto);
-    } in
-    let at_table : IsAtTable new = record {
-      under_way = now;
-      settled = turn ∙ settled;
-      full = ap (λ l. length l.path) ladder ∙ full ∙ sym (ap pair_count p);
-    } in (
-      record {
-        valid = subst (λ q. IsTrue (is_problem q)) (sym p) is.valid;
-        by_stage = subst (λ s. IsWayBy new s) (sym stage) at_table;
-      },
-      ap (λ s. at_by (place new) s) stage ∙ ap Some here ∙ sym (ap (λ s. at_by (place old) s) standing),
-    )
-
 -- a way whose table was told is at it
 pub at_table : (w : Way) → IsWay w → w.stage ≡ Told → IsAtTable w
 at_table w is told = subst (λ s. IsWayBy w s) told is.by_stage

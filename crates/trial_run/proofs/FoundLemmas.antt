@@ -1,10 +1,10 @@
 -- How many worlds a search without an end has found.
-use Rattle.std.proofs.Common.{◌≡◌, ℕ, ◌+◌, ◌-◌, ◌^◌, ◌<◌, ◌≤◌, min, Bool, true, false, not, List, [], ◌∷◌, ◌++◌, Option, None, Some, length, refl, sym, ap, subst, ◌∙◌, arith, IsTrue, append-nil, length-append}
+use Rattle.std.proofs.Common.{◌≡◌, ℕ, ◌+◌, ◌-◌, ◌^◌, ◌<◌, min, true, false, List, [], ◌∷◌, ◌++◌, Option, None, Some, length, refl, sym, ap, subst, ◌∙◌, arith, IsTrue, length-append}
 use Rattle.std.proofs.lemmas.Bool.{true≢false, not_from_false}
 use Rattle.rcc5_core.specs.declared.Rel.{Rel}
 use Rattle.world_model.specs.Problem.{Problem, is_problem}
 use Rattle.world_model.specs.Family.{Family, IsPossibleWorld}
-use Rattle.world_model.specs.Listing.{is_below, is_before_end, is_between, IsListing}
+use Rattle.world_model.specs.Listing.{is_below, is_between, IsListing}
 use Rattle.world_model.specs.Laws.{is_not_above_end}
 use Rattle.world_model.specs.Trial.{worlds_between}
 use Rattle.world_model.proofs.OrderPositions.{below_itself}
@@ -12,7 +12,6 @@ use Rattle.world_model.proofs.OrderLists.{IsExactly, Between, between_parts}
 use Rattle.world_model.proofs.OrderListings.{listing, listings_join_law, one_listing_law}
 use Rattle.world_model.proofs.TrialLaws.{trial_is_right_law}
 use Rattle.world_search.specs.Searching.{SearchState, StandsBetween, Passes, Came, last_place}
-use Rattle.trial_run.specs.Trials.{count_of}
 use Rattle.world_search.specs.Steps.{IsStep}
 use Rattle.world_search.specs.declared.step.Step.TheVariants as step
 use Rattle.trial_run.specs.Steps.{AreFound}
@@ -22,10 +21,6 @@ use Rattle.trial_run.specs.Searches.{WentPastWorld, CameToEnd}
 none_below : (m : List Rel) → is_below m [] ≡ false
 none_below [] = refl
 none_below (rel ∷ m) = refl
-
-start_not_above : (other : Option (List Rel)) → IsTrue (is_not_above_end [] other)
-start_not_above None = refl
-start_not_above (Some end) = not_from_false (is_below end []) (none_below end)
 
 -- nothing stands from a place on and below it
 nothing_there : (W : List Rel → Type 0) (q : List Rel) → IsExactly (Between W q (Some q)) []

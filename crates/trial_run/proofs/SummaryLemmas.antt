@@ -1,22 +1,21 @@
 -- The counts of a summary.
-use Rattle.std.proofs.Common.{◌≡◌, ℕ, ◌+◌, ◌-◌, ◌^◌, ◌<◌, ◌≤◌, min, Bool, true, false, not, cond, All, List, [], ◌∷◌, ◌++◌, Option, None, Some, length, drop, get_or, refl, sym, ap, subst, ◌∙◌, arith, append_assoc, length-append}
+use Rattle.std.proofs.Common.{◌≡◌, ℕ, ◌+◌, ◌-◌, ◌≤◌, Bool, true, false, not, cond, All, List, [], ◌∷◌, ◌++◌, None, Some, length, refl, ap, subst, ◌∙◌, arith, append_assoc, length-append}
 use Rattle.std.specs.Prelude.{count_by, filter, slice_get, Result, OnOk}
-use Rattle.std.specs.List.{list_any, range_with_len}
+use Rattle.std.specs.List.{range_with_len}
 use Rattle.std.proofs.lemmas.List.Elements.{All-weaker, All-contains_itself}
 use Rattle.std.proofs.lemmas.Option.{get_or_from_slice_get}
 use Rattle.std.proofs.lemmas.Result.{IfOk-weaker}
 use Rattle.std.proofs.lemmas.List.Sums.{sum_by-append}
 use Rattle.rcc5_core.specs.declared.Rel.{Rel}
 use Rattle.rcc5_core.specs.declared.Rel.TheVariants.{Equals}
-use Rattle.rcc5_core.specs.Relation.{same_rel}
-use Rattle.world_model.specs.Problem.{Problem, cross_pairs, pair_count, all_pairs, is_cross}
+use Rattle.world_model.specs.Problem.{Problem, cross_pairs, all_pairs, is_cross}
 use Rattle.world_model.specs.Family.{IsPossibleWorld}
 use Rattle.world_model.specs.Listing.{IsListing}
 use Rattle.world_model.proofs.PointPositions.{world_is_full}
 use Rattle.world_model.proofs.OrderListings.{one_listing_law}
 use Rattle.constraint_set.proofs.Lists.{range_more}
 use Rattle.trial_make.specs.Made.{made}
-use Rattle.trial_run.specs.Trials.{count_of, count_line, rel_at, is_varied, varied_count, summary, IsSummary}
+use Rattle.trial_run.specs.Trials.{count_of, count_line, rel_at, summary, IsSummary}
 use Rattle.trial_run.specs.Steps.{AreFound}
 
 -- one number more is counted, or isn't
@@ -28,12 +27,6 @@ count_more test n =
     by : (b : Bool) → 0 + cond b 1 0 ≡ cond b 1 0
     by true = refl
     by false = refl
-
--- what is compared with the first world
-pub varied_at : (worlds : List (List Rel)) (place : ℕ) (d : List Rel) → 0 < length worlds
-    → is_varied worlds place ≡ list_any (λ world. not (same_rel (rel_at world place) (rel_at (get_or worlds 0 d) place))) (drop 1 worlds)
-varied_at [] place d some = absurd (omega arith)
-varied_at (first ∷ worlds) place d some = refl
 
 -- the relation of a world at a place
 pub rel_got : (world : List Rel) (place : ℕ) (rel : Rel) → slice_get world place ≡ Some rel → rel_at world place ≡ rel

@@ -1,9 +1,8 @@
 -- The promises of a trail's calls.
-use Rattle.std.proofs.Common.{◌≡◌, ◌≢◌, ◌∙◌, ℕ, zero, suc, ◌+◌, ◌-◌, ◌*◌, ◌<◌, ◌≤◌, ◌==◌, Bool, true, false, cond, List, [], ◌∷◌, ◌++◌, length, get_or, take, min, Option, Some, None, refl, sym, ap, subst, arith, inl, inr, length-take, add-zero}
+use Rattle.std.proofs.Common.{◌≡◌, ◌≢◌, ◌∙◌, ℕ, zero, suc, ◌+◌, ◌-◌, ◌*◌, ◌<◌, ◌≤◌, ◌==◌, Bool, true, false, cond, List, [], ◌∷◌, ◌++◌, length, take, min, Option, Some, None, refl, sym, ap, subst, arith, inl, inr, length-take, add-zero}
 use Rattle.std.specs.Prelude.{MatchOption, is_none}
-use Rattle.std.specs.List.{Contains, position_from, swap}
+use Rattle.std.specs.List.{Contains, position_from}
 use Rattle.std.specs.List.Sorted.{IsPermutation}
-use Rattle.std.proofs.lemmas.List.Edits.{Swapped, swapped_from_swap}
 use Rattle.std.proofs.lemmas.List.Sorted.{IsPermutation-refl}
 use Rattle.std.proofs.lemmas.Bool.{cases_eq, cases_lt, false≢true}
 use Rattle.std.proofs.lemmas.List.{take_all, get_or_past, length_push}
@@ -15,8 +14,8 @@ use Rattle.clause_arena.specs.Records.{Record, record_at, new_record}
 use Rattle.watch_arena.specs.declared.places.Place.{Place}
 use Rattle.watch_arena.specs.declared.engine.Engine.{Engine}
 use Rattle.watch_arena.specs.Places.{place_at, no_place, is_assumed, level_of, place_of}
-use Rattle.watch_arena.specs.Trails.{TrailState, IsReason, Propagates, IsConflict, IsPropagated, SameRecords, IsSameRecord, Adds, AreInRange}
-use Rattle.watch_arena.specs.Engines.{mark_of, IsReasonBelow, CanMark, IsSound, IsFalse, IsDone, Steps, KeepsPlaces, seen, with_place}
+use Rattle.watch_arena.specs.Trails.{IsReason, Propagates, IsConflict, IsPropagated, SameRecords, IsSameRecord, Adds, AreInRange}
+use Rattle.watch_arena.specs.Engines.{mark_of, IsReasonBelow, CanMark, IsSound, IsFalse, IsDone, Steps, KeepsPlaces, seen}
 use Rattle.watch_arena.proofs.Watching.{record_at-put, record_at-new}
 use Rattle.watch_arena.specs.Chains.{SameBodies}
 use Rattle.watch_arena.proofs.Moved.{SameRecords-trans}
@@ -140,17 +139,6 @@ CanMark-implied e lit at s none r =
           });
     }
 
--- what is seen after one more place
-pub seen-implied : (e : Engine) (p : Place) → is_assumed p ≡ false → seen (with_place e p) ≡ record (seen e) { places = e.places.list ++ p ∷ [] }
-seen-implied e p implied =
-    let level : level_of (e.places.list ++ p ∷ []) ≡ level_of e.places.list = level_of-push e.places.list p ∙ ap (λ (b : Bool). level_of e.places.list + cond b 1 0) implied ∙ add-zero (level_of e.places.list) in
-    ap (λ (n : ℕ). let t : TrailState = record { records = e.arena; places = e.places.list ++ p ∷ []; variables = e.variables; level = n; spare = e.moves.spare } in t) level
-
-pub seen-assumed : (e : Engine) (p : Place) → is_assumed p ≡ true → seen (with_place e p) ≡ record (seen e) { places = e.places.list ++ p ∷ []; level = level_of e.places.list + 1 }
-seen-assumed e p assumed =
-    let level : level_of (e.places.list ++ p ∷ []) ≡ level_of e.places.list + 1 = level_of-push e.places.list p ∙ ap (λ (b : Bool). level_of e.places.list + cond b 1 0) assumed in
-    ap (λ (n : ℕ). let t : TrailState = record { records = e.arena; places = e.places.list ++ p ∷ []; variables = e.variables; level = n; spare = e.moves.spare } in t) level
-
 -- the place of a variable, by the mark of its positive literal, of its negative one, or of neither
 pub place_of-even : (e : Engine) (variable mark : ℕ) → IsSound e → mark ≡ mark_of e.marks (2 * variable) → mark ≢ 0 → Some (mark - 1) ≡ place_of e.places.list variable
 place_of-even e variable mark s is ne =
@@ -201,24 +189,6 @@ Adds-from old new given lits i kept permuted arena = record {
   level = ap level_of kept.places;
 }
 
--- a refused one
-pub seen-kept : (old new : Engine) → KeepsPlaces old new → new.arena ≡ old.arena → seen new ≡ seen old
-seen-kept old new kept arena =
-    let places = kept.places in
-    let variables = kept.variables in
-    let level : level_of new.places.list ≡ level_of old.places.list = ap level_of kept.places in
-    let moves = kept.moves in
-    cc (places, variables, level, arena, moves)
-
 -- literals of the first variables
 pub codes_in_range : (lits : List ℕ) (variables : ℕ) → AreInRange lits variables → (lit : ℕ) → Contains lits lit → lit < 2 * variables
 codes_in_range lits variables range lit c = let below = range lit c in omega arith
-
--- after the exchange that brings a different literal to the second place
-pub second_differs : (codes : List ℕ) (k : ℕ) → k < length codes → get_or codes k 0 ≢ get_or codes 0 0 → (1 < length codes) × (get_or (swap codes 1 k) 0 0 ≢ get_or (swap codes 1 k) 1 0)
-second_differs codes k lt ne =
-    let some : k ≢ 0 = λ z. ne (ap (λ (n : ℕ). get_or codes n 0) z) in
-    let two : 1 < length codes = omega arith in
-    let s : Swapped (λ n. get_or codes n 0) (λ n. get_or (swap codes 1 k) n 0) 1 k = swapped_from_swap codes (swap codes 1 k) 1 k 0 two lt refl in
-    let first : get_or (swap codes 1 k) 0 0 ≡ get_or codes 0 0 = s.2 0 (λ z. absurd (omega arith)) (λ z. some (sym z)) in
-    (two, λ z. ne (sym s.0 ∙ sym z ∙ first))

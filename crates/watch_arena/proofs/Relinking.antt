@@ -60,21 +60,6 @@ AreChains-passed records chains at all none =
     AreChains-aside records chains (IsFrom at) (IsFrom (at + 1)) (λ y le. let more : at + 1 ≤ y.at = le in omega arith)
     (λ l y p le. let from : at ≤ y.at = le in let ne : y.at ≢ at = λ e. none l y p e in omega arith) all
 
-pub few_no_entry : (records : List Record) (at lit : ℕ) (y : Link) → length (record_at records at).lits < 2 → IsEntry records lit y → y.at ≡ at → ⊥
-few_no_entry records at lit y few p e =
-    let two : 2 ≤ length (record_at records at).lits = subst (λ (n : ℕ). 2 ≤ length (record_at records n).lits) e p.two in absurd (omega arith)
-
-pub same_no_entry : (records : List Record) (at lit : ℕ) (y : Link) → get_or (record_at records at).lits 0 0 ≡ get_or (record_at records at).lits 1 0 → IsEntry records lit y → y.at ≡ at → ⊥
-same_no_entry records at lit y same p e =
-    let here : get_or (record_at records y.at).lits 0 0 ≡ get_or (record_at records y.at).lits 1 0 = subst (λ (n : ℕ). get_or (record_at records n).lits 0 0 ≡ get_or (record_at records n).lits 1 0) (sym e) same in
-    let small = p.slot_is in
-    elim (cases_eq y.slot 0) [
-      | inl z ↦ p.differ (sym p.lit_is ∙ ap (λ (n : ℕ). get_or (record_at records y.at).lits n 0) z ∙ here ∙ sym (ap (λ (n : ℕ). get_or (record_at records y.at).lits (1 - n) 0) z))
-      | inr nz ↦
-          let one : y.slot ≡ 1 = omega arith in
-          p.differ (sym p.lit_is ∙ ap (λ (n : ℕ). get_or (record_at records y.at).lits n 0) one ∙ sym here ∙ sym (ap (λ (n : ℕ). get_or (record_at records y.at).lits (1 - n) 0) one))
-    ]
-
 -- a clause's two watches come to the front, in an engine
 pub record HasWatched (old new : Engine) (at : ℕ) : Type 0 where
   pub relinks : Relinks old new

@@ -316,10 +316,6 @@ Advances-head old new lit s v below is agree =
       first = v.first;
     }
 
--- how far the head may be
-pub head_below : (e : Engine) → IsSound e → e.head ≤ e.variables
-head_below e s = let within = s.now.within in let most = places_at_most e.marks e.places.list e.variables s.marked in omega arith
-
 -- the place that is read
 pub place_read : (places : List Place) (p : ℕ) (q : Place) → p < length places → q ≡ get_or places p q → place_at places p ≡ q
 place_read places p q lt is = sym (is ∙ get_or_default places p q no_place lt)

@@ -1,5 +1,5 @@
 -- Guides along a prefix: further with it, and back.
-use Rattle.std.proofs.Common.{◌≡◌, ◌≤◌, List, [], ◌∷◌, ◌++◌, length, take, refl, sym, ap, ◌∙◌, subst, arith, append_assoc, append-nil, length-append}
+use Rattle.std.proofs.Common.{◌≡◌, ◌≤◌, List, [], ◌∷◌, ◌++◌, length, take, refl, sym, ap, ◌∙◌, subst, arith, append_assoc, append-nil}
 use Rattle.std.specs.Prelude.{Option, Some, None, IfSome, slice_get}
 use Rattle.rcc5_core.specs.declared.Rel.{Rel}
 use Rattle.world_model.specs.Problem.{Problem}
@@ -94,16 +94,3 @@ dead_behind p prefix rel s law at next dead alive =
     let long : IsAlive (problem_at p ((s.path ++ rel ∷ []) ++ more.0)) =
     subst (λ m. IsAlive (problem_at p m)) (more.1 ∙ sym (append_assoc s.path (rel ∷ []) more.0)) alive in
     dead (subst (λ q. IsAlive (problem_at q (s.path ++ rel ∷ []))) (sym at.problem) (law.prefixes p (s.path ++ rel ∷ []) more.0 long))
-
--- a ladder that is no shorter than its prefix stands there
-pub ladder_there : (p : Problem) (prefix : List Rel) (s : LadderState) → IsLadderOf p prefix s → length prefix ≤ length s.path → s.path ≡ prefix
-ladder_there p prefix s at long =
-    let longer = shorter_begins prefix [] s.path at.rest (append-nil prefix ∙ at.begins) long in
-    by at.rest longer.0 at.begins longer.1
-  where
-    by : (rest x : List Rel) → prefix ≡ s.path ++ rest → s.path ≡ prefix ++ x → s.path ≡ prefix
-    by [] x e f = sym (e ∙ append-nil s.path)
-    by (r ∷ rest) x e f =
-        let one = ap length e in
-        let two = length-append s.path (r ∷ rest) in
-        absurd (omega arith)

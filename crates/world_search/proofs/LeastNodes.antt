@@ -218,9 +218,6 @@ pub record IsClimb (p : Problem) (old c : List Rel) : Type 0 where
   pub longer : old ≡ c ++ rest
   pub behind : (x : List Rel) → IsNode p x → IsBehind old x → IsBehind c x
 
-pub climb_start : (p : Problem) (old : List Rel) → IsNode p old → IsClimb p old old
-climb_start p old node = record { node = node; rest = []; longer = sym (append-nil old); behind = λ x n f. f }
-
 pub climb_on : (p : Problem) (old c parent : List Rel) (r : Rel) → IsClimb p old c → c ≡ parent ++ r ∷ [] → next_of (allowed p (pair_at p (length parent))) r ≡ None →
     IsClimb p old parent
 climb_on p old c parent r k is none = record {

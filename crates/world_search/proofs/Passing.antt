@@ -161,25 +161,6 @@ stays_put p None = (refl, refl, refl)
 stays_put p (Some one) =
     stands_none p one (Some one) (λ m h. h) (λ x node before. true≢false (sym before ∙ not-true (is_below x one) node.1))
 
-pub came_nowhere : (s : SearchState) (left : Option ℕ) → Came s s left left []
-came_nowhere s left = record {
-  problem = refl;
-  from = refl;
-  to = refl;
-  nodes = [];
-  passed = stays_put s.problem s.at;
-  counted = fell_nowhere left;
-}
-
--- where the first node is found, a walk is placed
-pub placed_first : (p : Problem) (from : List Rel) (to : Option (List Rel)) (w : Walk) (stage : Stage) → LeadsBy p (IsFrom from) (place w) stage → IsPlacedBy p from to w stage
-placed_first p from to w Start leads = absurd leads
-placed_first p from to w Standing leads = record {
-  node = (leads.node, leads.kind);
-  earlier = λ x node less. absurd (true≢false (sym less ∙ not-true (is_below x (place w)) (leads.least x node.0 node.1)));
-}
-placed_first p from to w Past leads = λ x node. absurd (leads x node.0 node.1)
-
 -- up to its place nothing is passed
 last_none : (p : Problem) (from : List Rel) (to : Option (List Rel)) → ((x : List Rel) → IsNodeFrom p from x → IsTrue (is_before_end x to) → ⊥) →
     Passes p (Some from) (last_place from to) [] []

@@ -1,6 +1,6 @@
 -- What a turn of a walk leaves, as a step of the search.
-use Rattle.std.proofs.Common.{◌≡◌, ◌≢◌, ℕ, ◌<◌, true, false, not, IsTrue, List, [], ◌∷◌, ◌++◌, refl, sym, ap, ◌∙◌, subst, append-nil}
-use Rattle.std.specs.Prelude.{Option, Some, IfSome, if◌then◌else◌}
+use Rattle.std.proofs.Common.{◌≡◌, ℕ, ◌<◌, true, false, not, IsTrue, List, [], ◌∷◌, ◌++◌, refl, sym, ap, ◌∙◌, subst, append-nil}
+use Rattle.std.specs.Prelude.{Option, Some, if◌then◌else◌}
 use Rattle.std.proofs.lemmas.Bool.{not_from_false}
 use Rattle.rcc5_core.specs.declared.Rel.{Rel}
 use Rattle.world_model.specs.Problem.{Problem}
@@ -14,9 +14,9 @@ use Rattle.world_search.specs.Steps.{IsTableStep, IsStepped, StandsBehind}
 use Rattle.world_search.specs.Stopping.{IsAtWorld, IsStop}
 use Rattle.world_search.specs.declared.step.TableStep.TheVariants.{World as Table, Spent, End}
 use Rattle.world_search.specs.declared.walk.Stage.{Stage}
-use Rattle.world_search.specs.declared.walk.Stage.TheVariants.{Start, Standing}
+use Rattle.world_search.specs.declared.walk.Stage.TheVariants.{Standing}
 use Rattle.world_search.specs.declared.walk.Walk.{Walk}
-use Rattle.world_search.specs.Walking.{place, LeadsBy, LeadsTo, IsAfter, IsStanding, IsPlacedBy, IsPlaced, at_by, state_of, left_by, nodes_left, Knows, AreOpenBeside, waiting, expects_by, expected}
+use Rattle.world_search.specs.Walking.{place, LeadsTo, IsAfter, IsStanding, IsPlacedBy, IsPlaced, at_by, state_of, left_by, nodes_left, waiting, expects_by, expected}
 use Rattle.world_search.proofs.Passing.{WorldsAt, one_there, stays_put, fell_nowhere, came_join, passes_next, none_behind, placed_next, fewer_left, at_end_standing}
 
 -- a walk that stands is at its place
@@ -45,11 +45,6 @@ came_same p from to old new left stage same = record {
       subst (λ at. Passes p (at_by from to (place old) old.stage) at [] []) (sym (same_at from to old new stage same)) (stays_put p (at_by from to (place old) old.stage));
   counted = fell_nowhere left;
 }
-
--- where a search comes without a visit
-pub came_uncounted : (p : Problem) (from : List Rel) (to : Option (List Rel)) (old new : Walk) (left : Option ℕ) →
-    Passes p (at_by from to (place old) old.stage) (at_by from to (place new) new.stage) [] [] → Came (state_of p from to old) (state_of p from to new) left left []
-came_uncounted p from to old new left passed = record { problem = refl; from = refl; to = refl; nodes = []; passed = passed; counted = fell_nowhere left }
 
 -- what comes next in a log, at a node
 pub expected_at : (w : Walk) (node : List Rel) → w.stage ≡ Standing → place w ≡ node → expected w ≡ Some node
@@ -131,16 +126,6 @@ fewer_visit p from to old new node standing placed is leads =
     let there : IsStanding p from to node = subst (IsStanding p from to) (sym is) (standing_at p from to old standing placed) in
     let same : left_by p node Standing ≡ left_by p (place old) old.stage = ap (λ m. left_by p m Standing) is ∙ ap (left_by p (place old)) (sym standing) in
     subst (λ k. left_by p (place new) new.stage < k) same (fewer_left p node (place new) new.stage there.node.0 leads)
-
--- what is known at a place
-pub knows_same : (p : Problem) (old new : Walk) → new.stage ≡ old.stage → place new ≡ place old → new.open ≡ old.open → Knows p old → Knows p new
-knows_same p old new stage same known knows = λ standing.
-    let here : IfSome old.open (AreOpenBeside p (place new)) = subst (λ m. IfSome old.open (AreOpenBeside p m)) (sym same) (knows (sym stage ∙ standing)) in
-    subst (λ set. IfSome set (AreOpenBeside p (place new))) (sym known) here
-
--- a walk that leads on has begun
-pub leads_begun : (p : Problem) (K : List Rel → Type 0) (w : Walk) → LeadsTo p K w → w.stage ≢ Start
-leads_begun p K w leads start = subst (LeadsBy p K (place w)) start leads
 
 -- a walk at a world has settled
 pub place_is : (p : Problem) (to : Option (List Rel)) (w : Walk) (left : Option ℕ) (table : List Rel) → IsAtWorld p to w left table → place w ≡ w.path

@@ -121,7 +121,7 @@ impl Guide {
     {
         match &mut self.ladder {
             Some(ladder) => {
-                let _alive = climb_to(ladder, prefix)?;
+                climb_to(ladder, prefix)?;
                 Ok(ladder.leads_on())
             }
             None => asker.alive_after(problem, prefix),

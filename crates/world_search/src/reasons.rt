@@ -24,7 +24,7 @@ fn depth_of(problem: &Problem, node: &Position) -> u32
     requires { length node.now ≤ pair_count problem.now }
     ensures { result ≡ length node.now }
 {
-    let _pairs = problem.pair_count();
+    problem.facts();
     node.len() as u32
 }
 
@@ -94,7 +94,7 @@ pub(crate) fn world_line(
     ensures leaf { IfOk result (λ line. is_branch line ≡ false) }
     ensures ids { IfOk result IdsFromOne }
 {
-    let _concepts = problem.concept_count();
+    problem.facts();
     Ok(CertLine::World {
         depth: depth_of(problem, node),
         last: last_rel(node),

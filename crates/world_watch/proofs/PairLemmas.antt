@@ -1,8 +1,7 @@
 -- Lines of pairs: what a further world adds to them.
-use Rattle.std.proofs.Common.{◌≡◌, ◌+◌, ◌<◌, ◌≤◌, ℕ, min, Bool, true, false, cond, ◌||◌, List, [], ◌∷◌, ◌++◌, length, map, get_or, set, codes, decimal, refl, sym, ap, subst, ◌∙◌, arith, inl, inr}
-use Rattle.std.specs.Prelude.{filter, flat_map, All}
-use Rattle.std.specs.List.{list_any, range_with_len}
-use Rattle.std.proofs.lemmas.Bool.{cases_lt, cases_eq}
+use Rattle.std.proofs.Common.{◌≡◌, ◌+◌, ◌<◌, ◌≤◌, ℕ, Bool, true, false, cond, ◌||◌, List, [], ◌∷◌, ◌++◌, length, map, get_or, set, codes, decimal, refl, sym, ap, ◌∙◌, arith, inl, inr}
+use Rattle.std.specs.List.{range_with_len}
+use Rattle.std.proofs.lemmas.Bool.{cases_eq}
 use Rattle.std.proofs.lemmas.List.{get_or-set_same, get_or-set_other}
 use Rattle.std.proofs.lemmas.List.Elements.{All-weaker, filter_agree}
 use Rattle.std.proofs.lemmas.List.Sums.{sum_by-cons}
@@ -10,12 +9,12 @@ use Rattle.rcc5_core.specs.declared.Rel.{Rel}
 use Rattle.rcc5_core.specs.declared.Rel.TheVariants.{Equals, Includes, IncludedIn, Overlaps, Disjoint}
 use Rattle.rcc5_core.specs.declared.RelSet.{RelSet}
 use Rattle.rcc5_core.specs.Relation.{all_rels, same_rel, letter_of}
-use Rattle.rcc5_core.specs.RelationSet.{has, adding, no_rels}
+use Rattle.rcc5_core.specs.RelationSet.{has, adding}
 use Rattle.world_model.specs.Problem.{Problem, cross_pairs}
 use Rattle.cleantax_text.specs.Canonical.{spaced}
 use Rattle.merge_print.proofs.ListLemmas.{flat_map_same, range_below}
 use Rattle.world_watch.specs.Held.{held}
-use Rattle.world_watch.specs.Counts.{count_in, counting, counts_at, no_counts}
+use Rattle.world_watch.specs.Counts.{count_in, counting, counts_at}
 use Rattle.world_watch.specs.declared.counts.Counts.{Counts}
 use Rattle.world_watch.specs.Kinds.{pair_names, cross_at, or_dot, pair_lines, seen_line, seen_lines, tally_line, tally_lines, set_at, is_seen, times, has_at}
 
@@ -132,14 +131,3 @@ tally_more p table old new marked rest = tally_same p (λ k rel. count_in (count
 -- what is reported in the end, and what a new one would report
 pub tally_end : (p : Problem) (counts : List Counts) → tally_lines p (λ k. count_in (counts_at counts k)) ≡ tally_lines p (λ k rel. count_in (counts_at counts k) rel + times [] k rel)
 tally_end p counts = tally_same p (λ k. count_in (counts_at counts k)) (λ k rel. count_in (counts_at counts k) rel + times [] k rel) (λ k lt rel. omega arith)
-
-count_none : (rel : Rel) → count_in no_counts rel ≡ 0
-count_none Equals = refl
-count_none Includes = refl
-count_none IncludedIn = refl
-count_none Overlaps = refl
-count_none Disjoint = refl
-
-pub tally_new : (p : Problem) (tables : List (List Rel)) → tally_lines p (λ k rel. count_in (counts_at [] k) rel + times tables k rel) ≡ tally_lines p (times tables)
-tally_new p tables = tally_same p (λ k rel. count_in (counts_at [] k) rel + times tables k rel) (times tables)
-    (λ k lt rel. let none = count_none rel in ap held (let e : count_in no_counts rel + times tables k rel ≡ times tables k rel = omega arith in e))

@@ -1,17 +1,10 @@
 -- Lists that grow by a world, and watchers that are fed one after the other.
-use Rattle.std.proofs.Common.{◌≡◌, ◌+◌, ◌<◌, ◌≤◌, ℕ, List, [], ◌∷◌, ◌++◌, length, get_or, set, refl, sym, ap, subst, ◌∙◌, arith, append_assoc, inl, inr, Result, Ok, Err, OnErr}
-use Rattle.std.specs.Prelude.{flat_map}
-use Rattle.std.proofs.lemmas.Bool.{cases_eq, cases_lt}
+use Rattle.std.proofs.Common.{◌≡◌, ◌+◌, ◌<◌, ◌≤◌, ℕ, List, length, get_or, set, refl, sym, ap, subst, ◌∙◌, arith, inl, inr, Result, Ok, Err, OnErr}
+use Rattle.std.proofs.lemmas.Bool.{cases_eq}
 use Rattle.std.proofs.lemmas.List.{get_or-set_same, get_or-set_other, get_or_default, length-set}
 use Rattle.rcc5_core.specs.declared.Rel.{Rel}
 use Rattle.world_model.specs.Problem.{Problem}
 use Rattle.world_watch.specs.Steps.{Texts, Took, Holds, AllTook, PrefixTook}
-
--- what is kept and the parts of all worlds to come
-pub part_put : (part : Problem → List Rel → List ℕ) (p : Problem) (table : List Rel) (old new piece : List ℕ) → piece ≡ part p table → new ≡ old ++ piece
-    → (rest : List (List Rel)) → new ++ flat_map (part p) rest ≡ old ++ flat_map (part p) (table ∷ rest)
-part_put part p table old new piece is more rest =
-    ap (λ l. l ++ flat_map (part p) rest) (more ∙ ap (λ l. old ++ l) is) ∙ append_assoc old (part p table) (flat_map (part p) rest)
 
 -- the first n watchers took the step, and the others are as before
 pub record Fed {W : Type 0} (old now : List W) (name : W → List ℕ) (text : W → Texts) (p : Problem) (table : List Rel) (n : ℕ) : Type 0 where

@@ -14,13 +14,13 @@ put_line-requires-2 g c = ids_of_last c.in_ok-last.last c.in_ok-listed.listed.cu
 pub returns-in_err-first : goal.returns-in_err-first
 returns-in_err-first g c =
     starved _ (tt {0}) c.from_residual.result c.args.order.now (sink_state (g.W.Sink.received c.args.out.now) (g.W.Sink.faults c.args.out.now)) (sink_state (g.W.Sink.received c.args.out.now) (g.W.Sink.faults c.args.out.now)) c.args.log.now c.args.log.now
-    c.from_residual.ensures.1 (partly_nothing c.args.order.now c.taxonomy_count-built.ensures.built.valid (g.W.Sink.received c.args.out.now)) refl
+    c.from_residual.ensures.1 (partly_nothing c.args.order.now c.facts.ensures.built.valid (g.W.Sink.received c.args.out.now)) refl
     (log_rests (tt {0}) c.args.log.now (g.met.L.TreeLog.steady_stays c.args.log.now) (g.met.L.TreeLog.quiet_stays c.args.log.now))
 
 pub returns-in_err-put_line : goal.returns-in_err-put_line
 returns-in_err-put_line g c =
     log_refused (Unit {0}) c.in_err-put_line.field-0.0 c.from_residual-in_err-put_line.result c.args.order.now (sink_state (g.W.Sink.received c.args.out.now) (g.W.Sink.faults c.args.out.now)) (sink_state (g.W.Sink.received c.args.out.now) (g.W.Sink.faults c.args.out.now)) c.args.log.now c.put_line.new.self
-    c.from_residual-in_err-put_line.ensures.1 (partly_nothing c.args.order.now c.taxonomy_count-built.ensures.built.valid (g.W.Sink.received c.args.out.now)) refl
+    c.from_residual-in_err-put_line.ensures.1 (partly_nothing c.args.order.now c.facts.ensures.built.valid (g.W.Sink.received c.args.out.now)) refl
     (log_put_err (Unit {0}) c.in_err-put_line.field-0.0 c.args.log.now c.put_line.new.self c.in_err-put_line.ensures.cause c.put_line.ensures.steady c.in_err-put_line.ensures.quiet)
 
 pub returns-in_err-listed : goal.returns-in_err-listed

@@ -31,7 +31,7 @@ worlds-init g c =
 pub returns-in_err-table : goal.returns-in_err-table
 returns-in_err-table g c =
     let order = c.args.order.now in
-    let valid = c.taxonomy_count-built.ensures.built.valid in
+    let valid = c.facts.ensures.built.valid in
     let some : c.worlds.worlds ≢ Some 0 = λ e. let t = c.is_spent.ensures.1 e in cc in
     log_refused Met _ c.from_residual.result order
     (sink_state (g.W.Sink.received c.args.out.now) (g.W.Sink.faults c.args.out.now)) (sink_state (g.W.Sink.received c.worlds.out) (g.W.Sink.faults c.worlds.out)) c.args.log.now c.next_met.new.log
@@ -46,7 +46,7 @@ returns-in_err-table g c =
 pub returns-in_err-put_world-in-World : goal.returns-in_err-put_world-in-World
 returns-in_err-put_world-in-World g c =
     let order = c.args.order.now in
-    let valid = c.taxonomy_count-built.ensures.built.valid in
+    let valid = c.facts.ensures.built.valid in
     let some : c.worlds.worlds ≢ Some 0 = λ e. let t = c.is_spent.ensures.1 e in cc in
     let met : Came c.worlds.search c.next_met.new.search c.worlds.nodes.left c.next_met.new.nodes.left (c.in-World.table ∷ []) × StandsBehind c.next_met.new.search c.in-World.table =
     rw c.in-World.is at c.in_ok-table.ensures.met in
@@ -67,13 +67,13 @@ pub worlds-smaller : goal.worlds-smaller
 worlds-smaller g c =
     let met : Came c.worlds.search c.next_met.new.search c.worlds.nodes.left c.next_met.new.nodes.left (c.in-World.table ∷ []) × StandsBehind c.next_met.new.search c.in-World.table =
     rw c.in-World.is at c.in_ok-table.ensures.met in
-    came_fewer c.args.order.now.problem c.taxonomy_count-built.ensures.built.valid c.worlds.search c.next_met.new.search c.worlds.nodes.left c.next_met.new.nodes.left c.in-World.table
+    came_fewer c.args.order.now.problem c.facts.ensures.built.valid c.worlds.search c.next_met.new.search c.worlds.nodes.left c.next_met.new.nodes.left c.in-World.table
     c.worlds.invariant.problem met.0
 
 pub worlds-preserved : goal.worlds-preserved
 worlds-preserved g c =
     let order = c.args.order.now in
-    let valid = c.taxonomy_count-built.ensures.built.valid in
+    let valid = c.facts.ensures.built.valid in
     let some : c.worlds.worlds ≢ Some 0 = λ e. let t = c.is_spent.ensures.1 e in cc in
     let met : Came c.worlds.search c.next_met.new.search c.worlds.nodes.left c.next_met.new.nodes.left (c.in-World.table ∷ []) × StandsBehind c.next_met.new.search c.in-World.table =
     rw c.in-World.is at c.in_ok-table.ensures.met in
@@ -102,7 +102,7 @@ worlds-preserved g c =
 pub returns-in-Cut : goal.returns-in-Cut
 returns-in-Cut g c =
     let order = c.args.order.now in
-    let valid = c.taxonomy_count-built.ensures.built.valid in
+    let valid = c.facts.ensures.built.valid in
     let some : c.worlds.worlds ≢ Some 0 = λ e. let t = c.is_spent.ensures.1 e in cc in
     let met : Came c.worlds.search c.next_met.new.search c.worlds.nodes.left c.next_met.new.nodes.left [] × (c.next_met.new.nodes.left ≡ Some 0) × IsNext c.next_met.new.search c.in-Cut.node =
     rw c.in-Cut.is at c.in_ok-table.ensures.met in
@@ -123,7 +123,7 @@ returns-in-Cut g c =
 pub returns-in-End : goal.returns-in-End
 returns-in-End g c =
     let order = c.args.order.now in
-    let valid = c.taxonomy_count-built.ensures.built.valid in
+    let valid = c.facts.ensures.built.valid in
     let some : c.worlds.worlds ≢ Some 0 = λ e. let t = c.is_spent.ensures.1 e in cc in
     let met : Came c.worlds.search c.next_met.new.search c.worlds.nodes.left c.next_met.new.nodes.left [] × (c.next_met.new.search.at ≡ None) =
     rw c.in-End.is at c.in_ok-table.ensures.met in
@@ -146,7 +146,7 @@ returns-in_err-cut g c =
     log_refused _ _ c.from_residual-in_err-cut.result c.args.order.now
     (sink_state (g.W.Sink.received c.args.out.now) (g.W.Sink.faults c.args.out.now)) (sink_state (g.W.Sink.received c.worlds.out) (g.W.Sink.faults c.worlds.out)) c.args.log.now c.put_stop.new.log
     c.from_residual-in_err-cut.ensures.1
-    (partly_so_far c.args.order.now c.taxonomy_count-built.ensures.built.valid c.worlds.search.at (g.W.Sink.received c.args.out.now) (g.W.Sink.received c.worlds.out) c.worlds.count c.worlds.nodes.left c.worlds.worlds
+    (partly_so_far c.args.order.now c.facts.ensures.built.valid c.worlds.search.at (g.W.Sink.received c.args.out.now) (g.W.Sink.received c.worlds.out) c.worlds.count c.worlds.nodes.left c.worlds.worlds
     c.worlds.invariant.put)
     c.worlds.invariant.faults
     (log_twice _ _ c.args.log.now c.worlds.log c.put_stop.new.log (g.met.L.TreeLog.steady_joins c.args.log.now c.worlds.log c.put_stop.new.log) (g.met.L.TreeLog.quiet_joins c.args.log.now c.worlds.log c.put_stop.new.log)

@@ -8,5 +8,5 @@ pub returns-in_err-search : goal.returns-in_err-search
 returns-in_err-search g c =
     starved _ (tt {0}) c.from_residual.result c.args.order.now
     (sink_state (g.W.Sink.received c.args.out.now) (g.W.Sink.faults c.args.out.now)) (sink_state (g.W.Sink.received c.args.out.now) (g.W.Sink.faults c.args.out.now)) c.args.log.now c.args.log.now
-    c.from_residual.ensures.1 (partly_nothing c.args.order.now c.taxonomy_count-built.ensures.built.valid (g.W.Sink.received c.args.out.now)) refl
+    c.from_residual.ensures.1 (partly_nothing c.args.order.now c.facts.ensures.built.valid (g.W.Sink.received c.args.out.now)) refl
     (log_rests (tt {0}) c.args.log.now (g.met.L.TreeLog.steady_stays c.args.log.now) (g.met.L.TreeLog.quiet_stays c.args.log.now))

@@ -18,14 +18,14 @@ loop-line-init g c =
     let received = g.W.Sink.received c.args.out.now in
     record {
       tabled = subst (λ line. IsTabled order c.args.tables.now line received received 0 order.worlds) (sym c.new-line.ensures.items)
-          (tabled_first order c.args.tables.now received c.taxonomy_count-built.ensures.built.valid c.requires.tables);
+          (tabled_first order c.args.tables.now received c.facts.ensures.built.valid c.requires.tables);
       faults = refl;
     }
 
 pub returns-in_err-kept : goal.returns-in_err-kept
 returns-in_err-kept g c =
     let order = c.args.order.now in
-    let valid = c.taxonomy_count-built.ensures.built.valid in
+    let valid = c.facts.ensures.built.valid in
     let old = g.W.Sink.received c.args.out.now in
     let mid = g.W.Sink.received c.loop-line.out in
     let so_far = c.loop-line.invariant.tabled in
@@ -47,7 +47,7 @@ rewrite-requires-clause-same g c =
 pub returns-in_err-rewrite : goal.returns-in_err-rewrite
 returns-in_err-rewrite g c =
     let order = c.args.order.now in
-    let valid = c.taxonomy_count-built.ensures.built.valid in
+    let valid = c.facts.ensures.built.valid in
     let old = g.W.Sink.received c.args.out.now in
     let mid = g.W.Sink.received c.loop-line.out in
     let so_far = c.loop-line.invariant.tabled in
@@ -65,7 +65,7 @@ returns-in_err-rewrite g c =
 pub returns-in_err-put : goal.returns-in_err-put
 returns-in_err-put g c =
     let order = c.args.order.now in
-    let valid = c.taxonomy_count-built.ensures.built.valid in
+    let valid = c.facts.ensures.built.valid in
     let old = g.W.Sink.received c.args.out.now in
     let mid = g.W.Sink.received c.loop-line.out in
     let so_far = c.loop-line.invariant.tabled in
@@ -86,7 +86,7 @@ returns-in_err-put g c =
 pub returns-in_err-cut : goal.returns-in_err-cut
 returns-in_err-cut g c =
     let order = c.args.order.now in
-    let valid = c.taxonomy_count-built.ensures.built.valid in
+    let valid = c.facts.ensures.built.valid in
     let old = g.W.Sink.received c.args.out.now in
     let mid = g.W.Sink.received c.loop-line.out in
     let so_far = c.loop-line.invariant.tabled in
@@ -108,7 +108,7 @@ returns-in_err-cut g c =
 pub returns-then-is_spent : goal.returns-then-is_spent
 returns-then-is_spent g c =
     let order = c.args.order.now in
-    let valid = c.taxonomy_count-built.ensures.built.valid in
+    let valid = c.facts.ensures.built.valid in
     let old = g.W.Sink.received c.args.out.now in
     let mid = g.W.Sink.received c.loop-line.out in
     let so_far = c.loop-line.invariant.tabled in
@@ -136,7 +136,7 @@ returns-then-is_spent g c =
 pub loop-line-smaller : goal.loop-line-smaller
 loop-line-smaller g c =
     let order = c.args.order.now in
-    let valid = c.taxonomy_count-built.ensures.built.valid in
+    let valid = c.facts.ensures.built.valid in
     let old = g.W.Sink.received c.args.out.now in
     let mid = g.W.Sink.received c.loop-line.out in
     let so_far = c.loop-line.invariant.tabled in
@@ -149,7 +149,7 @@ loop-line-smaller g c =
 pub loop-line-preserved : goal.loop-line-preserved
 loop-line-preserved g c =
     let order = c.args.order.now in
-    let valid = c.taxonomy_count-built.ensures.built.valid in
+    let valid = c.facts.ensures.built.valid in
     let old = g.W.Sink.received c.args.out.now in
     let mid = g.W.Sink.received c.loop-line.out in
     let so_far = c.loop-line.invariant.tabled in
@@ -171,7 +171,7 @@ loop-line-preserved g c =
 pub returns : goal.returns
 returns g c =
     let order = c.args.order.now in
-    let valid = c.taxonomy_count-built.ensures.built.valid in
+    let valid = c.facts.ensures.built.valid in
     let old = g.W.Sink.received c.args.out.now in
     let mid = g.W.Sink.received c.loop-line.out in
     let so_far = c.loop-line.invariant.tabled in

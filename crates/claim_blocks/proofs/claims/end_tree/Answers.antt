@@ -8,7 +8,7 @@ use Rattle.claim_blocks.proofs.Answered.{shown, few_sets}
 use Rattle.claim_blocks.proofs.claims.end_tree.Goals as goal
 
 pub leave_tree-requires : goal.leave_tree-requires
-leave_tree-requires g c = few_sets c.args.problem.now c.in-Met.family c.facts.ensures (subst (IsChoice c.args.problem.now) c.in-Met.is c.requires)
+leave_tree-requires g c = few_sets c.args.problem.now c.in-Met.family c.facts.ensures.built (subst (IsChoice c.args.problem.now) c.in-Met.is c.requires)
 
 pub returns-in-Met-clause-keeps : goal.returns-in-Met-clause-keeps
 returns-in-Met-clause-keeps g c = λ p at claims is may.

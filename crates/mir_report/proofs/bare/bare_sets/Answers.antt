@@ -10,7 +10,7 @@ pub returns-then-are_whole-clause-sets : goal.returns-then-are_whole-clause-sets
 returns-then-are_whole-clause-sets c =
     let p = c.args.problem.now in
     let told = subst (λ found. IfSome found (λ sets. AreAliveAlone p c.cross_count.result sets.items)) c.in-Some.is c.in_ok-alive.ensures in
-    alive_sets_are_possible p c.in-Some.alive.items c.facts.ensures.valid c.if-are_whole.ensures (told_alive p c.cross_count.result c.in-Some.alive.items c.cross_count.ensures told)
+    alive_sets_are_possible p c.in-Some.alive.items c.facts.ensures.built.valid c.if-are_whole.ensures (told_alive p c.cross_count.result c.in-Some.alive.items c.cross_count.ensures told)
 
 pub ask_all-requires-2-clause-among : goal.ask_all-requires-2-clause-among
 ask_all-requires-2-clause-among c =

@@ -21,4 +21,4 @@ pub returns-clause-keeps : goal.returns-clause-keeps
 returns-clause-keeps g c =
     let p = c.args.problem.now in
     keeps_made {T = Bool} (Ok true) p (λ _ more. more ≡ settled (Kept c.new.result) c.in_ok-choice.choice) (λ _ _. ⊤) (g.L.TreeLog.lines c.args.log.now) (g.L.TreeLog.lines c.settle.new.log) c.args.asker.now c.settle.new.asker
-    (λ _ _ _. tt) (c.in_ok-choice.ensures.keeps p (kept_problem p c.new.result c.facts.ensures (c.new.ensures ∙ c.in_ok-kept_flags.ensures)))
+    (λ _ _ _. tt) (c.in_ok-choice.ensures.keeps p (kept_problem p c.new.result c.facts.ensures.built (c.new.ensures ∙ c.in_ok-kept_flags.ensures)))

@@ -9,7 +9,7 @@ use Rattle.mir_report.proofs.Subjects.{shows_subject, few_sets}
 use Rattle.mir_report.proofs.possible.settle_rel.Goals as goal
 
 pub show-requires : goal.show-requires
-show-requires g c = few_sets c.args.problem.now c.in-Some.family.now c.facts.ensures c.in-Some.ensures.met_by
+show-requires g c = few_sets c.args.problem.now c.in-Some.family.now c.facts.ensures.built c.in-Some.ensures.met_by
 
 pub returns-in_err-show-clause-keeps : goal.returns-in_err-show-clause-keeps
 returns-in_err-show-clause-keeps g c =

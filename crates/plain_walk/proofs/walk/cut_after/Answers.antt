@@ -8,7 +8,7 @@ use Rattle.plain_walk.proofs.walk.cut_after.Goals as goal
 pub returns-clause-exactly : goal.returns-clause-exactly
 returns-clause-exactly c =
     let p = c.args.problem.now in
-    let is : IsTrue (is_problem p) = c.facts.ensures.valid in
+    let is : IsTrue (is_problem p) = c.facts.ensures.built.valid in
     let all = ap (first_spent p c.args.nodes c.args.worlds 0 0) (c.deref.ensures.value ∙ c.in_ok-list.ensures.by_trial) in
     IfOk-weaker c.first_spent.result
     (λ cut. cut ≡ first_spent p c.args.nodes c.args.worlds 0 0 c.deref.result.now)

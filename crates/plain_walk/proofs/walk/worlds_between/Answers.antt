@@ -10,7 +10,7 @@ use Rattle.plain_walk.proofs.walk.worlds_between.Goals as goal
 pub returns-clause-exactly : goal.returns-clause-exactly
 returns-clause-exactly c =
     let p = c.args.problem.now in
-    let is : IsTrue (is_problem p) = c.facts.ensures.valid in
+    let is : IsTrue (is_problem p) = c.facts.ensures.built.valid in
     let all = ap (filter (is_world_by_trial p)) (c.deref.ensures.value ∙ c.in_ok-nodes.ensures.by_trial) in
     IfOk-weaker c.worlds_of.result
     (λ worlds. worlds.items ≡ filter (is_world_by_trial p) c.deref.result.now)

@@ -3,4 +3,4 @@ use Rattle.point_encode.proofs.Sizes.{few_sums}
 use Rattle.point_encode.proofs.variables.sum_count.Goals as goal
 
 pub returns-clause-small : goal.returns-clause-small
-returns-clause-small c = omega (arith, few_sums c.args.problem.now c.facts.ensures, c.sum_count.ensures.places)
+returns-clause-small c = omega (arith, few_sums c.args.problem.now c.facts.ensures.built, c.sum_count.ensures.places)

@@ -14,11 +14,11 @@ few_sums p built = let few = few_filtered (is_sum_at p.articulations) (length p.
 
 pub overflow_add-concept_count-then-is_kept : goal.overflow_add-concept_count-then-is_kept
 overflow_add-concept_count-then-is_kept c =
-    omega (arith, few_sums c.args.problem.now c.taxonomy_count-built.ensures.built, c.count_pairs-few.ensures.pairs, c.count_pairs-few.ensures.concepts, c.concept_count.ensures)
+    omega (arith, few_sums c.args.problem.now c.facts.ensures.built, c.count_pairs-few.ensures.pairs, c.count_pairs-few.ensures.concepts, c.concept_count.ensures)
 
 pub new-requires : goal.new-requires
 new-requires c =
-    omega (arith, few_sums c.args.problem.now c.taxonomy_count-built.ensures.built, c.count_pairs-few.ensures.pairs, c.count_pairs-few.ensures.concepts, c.concept_count.ensures)
+    omega (arith, few_sums c.args.problem.now c.facts.ensures.built, c.count_pairs-few.ensures.pairs, c.count_pairs-few.ensures.concepts, c.concept_count.ensures)
 
 -- the selector of a sum whose flag is known
 selector_is : (p : Problem) (sum place : ℕ) (flag : Bool) → place ≡ slice_index (sum_places p) sum → slice_get p.kept place ≡ Some flag →

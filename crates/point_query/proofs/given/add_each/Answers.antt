@@ -14,7 +14,7 @@ add-requires-clause-range c =
     let i = c.loop-clause.clause-index in
     let clause : c.lits.result.now ≡ get_or c.args.clauses.now i [] = c.lits.ensures ∙ get_or_read c.args.clauses.now i c.clause-item.result c.loop-clause-test.true c.clause-item.is [] in
     let there = In-get_or c.args.clauses.now i [] c.loop-clause-test.true in
-    let small = given_in_range p c.taxonomy_count-built.ensures.built (get_or c.args.clauses.now i []) (subst (λ cs. In (get_or c.args.clauses.now i []) cs) c.requires.all there) in
+    let small = given_in_range p c.facts.ensures.built (get_or c.args.clauses.now i []) (subst (λ cs. In (get_or c.args.clauses.now i []) cs) c.requires.all there) in
     subst (λ v. AreInRange c.lits.result.now v) (sym (c.loop-clause.invariant.variables ∙ c.requires.variables)) (subst (λ ls. AreInRange ls (variable_count p)) (sym clause) small)
 
 pub loop-clause-preserved : goal.loop-clause-preserved

@@ -13,7 +13,7 @@ set_if-requires-clause-row c =
     let child = get_or c.children-child-items.result.now c.loop-child.child-index 0 in
     let i : In child (children_of p c.args.concept) = subst (In child) c.children-child-items.ensures (In-get_or c.children-child-items.result.now c.loop-child.child-index 0 c.loop-child-test.true) in
     row_in_square (concept_count p) c.loop-child.implied child (square_stays (concept_count p) c.args.implied.now c.loop-child.implied c.requires.square c.loop-child.invariant.size)
-    (child_below p c.taxonomy_count-built.ensures.built c.args.concept child i)
+    (child_below p c.facts.ensures.built c.args.concept child i)
 
 pub set_if-requires-clause-within : goal.set_if-requires-clause-within
 set_if-requires-clause-within c =

@@ -11,7 +11,7 @@ pub set_if-requires-clause-row : goal.set_if-requires-clause-row
 set_if-requires-clause-row c =
     let p = c.args.problem.now in
     row_in_square (concept_count p) c.loop-other.excluded c.args.child (square_stays (concept_count p) c.args.excluded.now c.loop-other.excluded c.requires.square c.loop-other.invariant.size)
-    (child_below p c.taxonomy_count-built.ensures.built c.args.concept c.args.child (in_from_contains (children_of p c.args.concept) c.requires.child))
+    (child_below p c.facts.ensures.built c.args.concept c.args.child (in_from_contains (children_of p c.args.concept) c.requires.child))
 
 pub set_if-requires-clause-within : goal.set_if-requires-clause-within
 set_if-requires-clause-within c =
@@ -19,7 +19,7 @@ set_if-requires-clause-within c =
     let other = get_or c.children-other-items.result.now c.loop-other.other-index 0 in
     let i : In other (children_of p c.args.concept) = subst (In other) c.children-other-items.ensures (In-get_or c.children-other-items.result.now c.loop-other.other-index 0 c.loop-other-test.true) in
     place_in_square (concept_count p) c.loop-other.excluded other (square_stays (concept_count p) c.args.excluded.now c.loop-other.excluded c.requires.square c.loop-other.invariant.size)
-    (child_below p c.taxonomy_count-built.ensures.built c.args.concept other i)
+    (child_below p c.facts.ensures.built c.args.concept other i)
 
 pub loop-other-preserved : goal.loop-other-preserved
 loop-other-preserved c =

@@ -29,7 +29,7 @@ returns-in-Ok-report g c =
     (store_state (g.S.Store.held c.args.store.now) (g.S.Store.read_faults c.args.store.now) (g.S.Store.write_faults c.args.store.now))
     (store_state (g.S.Store.held c.problem_under.new.store) (g.S.Store.read_faults c.problem_under.new.store) (g.S.Store.write_faults c.problem_under.new.store))
     (sink_state (g.W.Sink.received c.args.out.now) (g.W.Sink.faults c.args.out.now)) (sink_state (g.W.Sink.received c.report.new.out) (g.W.Sink.faults c.report.new.out))
-    c.taxonomy_count-built.ensures.built.valid c.in-Ok.ensures.problem c.in-Ok.ensures.kept c.in-Ok.ensures.quiet c.in-Ok-report.ensures.status c.in-Ok-report.ensures.put)
+    c.facts.ensures.built.valid c.in-Ok.ensures.problem c.in-Ok.ensures.kept c.in-Ok.ensures.quiet c.in-Ok-report.ensures.status c.in-Ok-report.ensures.put)
 
 pub returns-in-Err-Failed : goal.returns-in-Err-Failed
 returns-in-Err-Failed g c =
@@ -41,7 +41,7 @@ returns-in-Err-Failed g c =
     (store_state (g.S.Store.held c.args.store.now) (g.S.Store.read_faults c.args.store.now) (g.S.Store.write_faults c.args.store.now))
     (store_state (g.S.Store.held c.problem_under.new.store) (g.S.Store.read_faults c.problem_under.new.store) (g.S.Store.write_faults c.problem_under.new.store))
     (sink_state (g.W.Sink.received c.args.out.now) (g.W.Sink.faults c.args.out.now)) (sink_state (g.W.Sink.received c.report.new.out) (g.W.Sink.faults c.report.new.out))
-    c.taxonomy_count-built.ensures.built.valid c.in-Ok.ensures.problem c.in-Ok.ensures.kept c.in-Ok.ensures.quiet (search rules) (search rules))
+    c.facts.ensures.built.valid c.in-Ok.ensures.problem c.in-Ok.ensures.kept c.in-Ok.ensures.quiet (search rules) (search rules))
 
 pub returns : goal.returns
 returns g c =
@@ -53,5 +53,5 @@ returns g c =
     (store_state (g.S.Store.held c.args.store.now) (g.S.Store.read_faults c.args.store.now) (g.S.Store.write_faults c.args.store.now))
     (store_state (g.S.Store.held c.problem_under.new.store) (g.S.Store.read_faults c.problem_under.new.store) (g.S.Store.write_faults c.problem_under.new.store))
     (sink_state (g.W.Sink.received c.args.out.now) (g.W.Sink.faults c.args.out.now)) (sink_state (g.W.Sink.received c.report.new.out) (g.W.Sink.faults c.report.new.out))
-    c.taxonomy_count-built.ensures.built.valid c.in-Ok.ensures.problem c.in-Ok.ensures.kept c.in-Ok.ensures.quiet (search rules) (search rules))
+    c.facts.ensures.built.valid c.in-Ok.ensures.problem c.in-Ok.ensures.kept c.in-Ok.ensures.quiet (search rules) (search rules))
     c.put_end-in-Err-NoMemory.ensures.put

@@ -15,7 +15,7 @@ loop-world-init g c = record {
 
 pub loop-world-smaller : goal.loop-world-smaller
 loop-world-smaller g c =
-    found_fewer c.args.problem.now c.taxonomy_count-built.ensures.built.valid c.loop-world.search.at c.next_found.new.search.at c.in-Some.world
+    found_fewer c.args.problem.now c.facts.ensures.built.valid c.loop-world.search.at c.next_found.new.search.at c.in-Some.world
     (subst (λ o. IfSome o (λ table. Lists c.args.problem.now c.loop-world.search.at c.next_found.new.search.at (table ∷ []))) c.in-Some.is c.in_ok-world.ensures.world)
 
 pub loop-world-preserved : goal.loop-world-preserved
@@ -32,7 +32,7 @@ loop-world-preserved g c = record {
 
 pub returns : goal.returns
 returns g c =
-    shown_end _ _ c.args.problem.now c.loop-world.search.at c.args.watchers.now.items c.loop-world.watchers.items c.loop-world.count c.taxonomy_count-built.ensures.built.valid c.loop-world.invariant.shown
+    shown_end _ _ c.args.problem.now c.loop-world.search.at c.args.watchers.now.items c.loop-world.watchers.items c.loop-world.count c.facts.ensures.built.valid c.loop-world.invariant.shown
     (subst (λ o. IfNone o (Lists c.args.problem.now c.loop-world.search.at None [])) c.in_default.is c.in_ok-world.ensures.end)
 
 pub feed-requires-clause-whole : goal.feed-requires-clause-whole

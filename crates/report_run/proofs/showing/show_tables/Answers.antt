@@ -8,7 +8,7 @@ use Rattle.report_run.proofs.showing.show_tables.Goals as goal
 pub loop-world-smaller : goal.loop-world-smaller
 loop-world-smaller g c =
     let at : IsAtWorld c.next.new.self = subst (λ o. IfSome o (λ _. IsAtWorld c.next.new.self)) c.in-Some.is c.in_ok-kept.ensures.world in
-    told_fewer c.args.problem.now c.taxonomy_count-built.ensures.built.valid c.loop-world.tables c.next.new.self c.loop-world.invariant.problem c.in_ok-kept.ensures.passed at
+    told_fewer c.args.problem.now c.facts.ensures.built.valid c.loop-world.tables c.next.new.self c.loop-world.invariant.problem c.in_ok-kept.ensures.passed at
 
 pub loop-world-preserved : goal.loop-world-preserved
 loop-world-preserved g c = record {
@@ -23,5 +23,5 @@ loop-world-preserved g c = record {
 pub returns : goal.returns
 returns g c =
     let end = subst (λ o. IfNone o ((c.next.new.self.at ≡ None) × (c.next.new.self.told ≡ []))) c.in_default.is c.in_ok-kept.ensures.end in
-    shown_past _ _ c.args.problem.now c.loop-world.tables c.next.new.self c.args.watchers.now.items c.loop-world.watchers.items c.loop-world.count c.taxonomy_count-built.ensures.built.valid
+    shown_past _ _ c.args.problem.now c.loop-world.tables c.next.new.self c.args.watchers.now.items c.loop-world.watchers.items c.loop-world.count c.facts.ensures.built.valid
     c.loop-world.invariant.problem c.loop-world.invariant.shown c.in_ok-kept.ensures.passed end.0

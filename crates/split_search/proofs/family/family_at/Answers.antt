@@ -11,7 +11,7 @@ pub from_points-requires-clause-few : goal.from_points-requires-clause-few
 from_points-requires-clause-few c =
     let node = c.node-node.result.now in
     let served = subst (λ o. IfSome o (IsServedByFew (problem_at node c.new.result))) c.in-Some.is c.in_ok-serving.ensures.some in
-    rw c.list.ensures (few_here node c.new.result c.in-Some.points c.facts.ensures.concepts c.new.ensures served)
+    rw c.list.ensures (few_here node c.new.result c.in-Some.points c.facts.ensures.built.concepts c.new.ensures served)
 
 pub returns-in-None-clause-none : goal.returns-in-None-clause-none
 returns-in-None-clause-none c =
@@ -23,5 +23,5 @@ pub returns-clause-some : goal.returns-clause-some
 returns-clause-some c =
     let node = c.node-node.result.now in
     let served = subst (λ o. IfSome o (IsServedByFew (problem_at node c.new.result))) c.in-Some.is c.in_ok-serving.ensures.some in
-    family_meets c.whole_sets_are_decided.ensures c.args.walk.now.subject c.args.walk.now.path node c.new.result c.in-Some.points c.in_ok-family-in-Some.family c.requires.full c.node-node.ensures c.facts.ensures
+    family_meets c.whole_sets_are_decided.ensures c.args.walk.now.subject c.args.walk.now.path node c.new.result c.in-Some.points c.in_ok-family-in-Some.family c.requires.full c.node-node.ensures c.facts.ensures.built
     c.new.ensures served (c.in_ok-family-in-Some.ensures.of_problem node (sym c.concept_count.ensures) ∙ ap (family_of node) c.list.ensures)

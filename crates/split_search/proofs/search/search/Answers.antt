@@ -21,7 +21,7 @@ pub nodes-init : goal.nodes-init
 nodes-init g c =
     let q = c.args.problem.now in
     record {
-      built = c.facts.ensures;
+      built = c.facts.ensures.built;
       walk = c.in_ok-walk.ensures.walk;
       subject = c.in_ok-walk.ensures.subject;
       none = subst (λ m. NoTables q (Some m)) (sym c.in_ok-walk.ensures.root) (no_tables_first q);

@@ -23,7 +23,7 @@ pub worlds-smaller : goal.worlds-smaller
 worlds-smaller g c =
     let went : WentPastWorld c.worlds.search c.finds_next.new.search =
     subst (λ (b : Bool). IsFurther c.worlds.search c.finds_next.new.search b) c.if-not-found.false c.in_ok-found.ensures.further in
-    world_fewer c.args.problem.now c.facts.ensures.valid c.worlds.search c.finds_next.new.search c.worlds.invariant.problem went
+    world_fewer c.args.problem.now c.facts.ensures.built.valid c.worlds.search c.finds_next.new.search c.worlds.invariant.problem went
 
 pub worlds-preserved : goal.worlds-preserved
 worlds-preserved g c =

@@ -13,7 +13,7 @@ from_points-requires-clause-few c =
     let p = c.args.problem.now in
     let t = c.args.table.now in
     let served : IsServedByFew (problem_at p t) c.in-Some.points = subst (λ o. IfSome o (IsServedByFew (problem_at p t))) c.in-Some.is c.in_ok-serving.ensures.some in
-    rw c.list.ensures (few_points p t c.in-Some.points c.facts.ensures.concepts served)
+    rw c.list.ensures (few_points p t c.in-Some.points c.facts.ensures.built.concepts served)
 
 pub returns-clause-met : goal.returns-clause-met
 returns-clause-met c =
@@ -21,7 +21,7 @@ returns-clause-met c =
     let t = c.args.table.now in
     let served : IsServedByFew (problem_at p t) c.in-Some.points = subst (λ o. IfSome o (IsServedByFew (problem_at p t))) c.in-Some.is c.in_ok-serving.ensures.some in
     let law = c.alive_tables_are_worlds.ensures in
-    let world = law.served p c.facts.ensures.valid t (law.full p t c.requires.world) c.in-Some.points served.allow served.serve in
+    let world = law.served p c.facts.ensures.built.valid t (law.full p t c.requires.world) c.in-Some.points served.allow served.serve in
     IfOk-weaker c.from_points.result (λ f. (q : Problem) → concept_count q ≡ c.concept_count.result → f ≡ family_of q c.list.result.now) (λ f. IsTrue (meets p f))
     (λ f of. subst (λ g. IsTrue (meets p g)) (sym (of p (sym c.concept_count.ensures) ∙ ap (family_of p) c.list.ensures)) world.0)
     c.from_points.ensures.of_problem
@@ -32,7 +32,7 @@ returns-clause-shown c =
     let t = c.args.table.now in
     let served : IsServedByFew (problem_at p t) c.in-Some.points = subst (λ o. IfSome o (IsServedByFew (problem_at p t))) c.in-Some.is c.in_ok-serving.ensures.some in
     let law = c.alive_tables_are_worlds.ensures in
-    let world = law.served p c.facts.ensures.valid t (law.full p t c.requires.world) c.in-Some.points served.allow served.serve in
+    let world = law.served p c.facts.ensures.built.valid t (law.full p t c.requires.world) c.in-Some.points served.allow served.serve in
     IfOk-weaker c.from_points.result (λ f. (q : Problem) → concept_count q ≡ c.concept_count.result → f ≡ family_of q c.list.result.now) (λ f. table_of p f ≡ t)
     (λ f of. subst (λ g. table_of p g ≡ t) (sym (of p (sym c.concept_count.ensures) ∙ ap (family_of p) c.list.ensures)) world.1)
     c.from_points.ensures.of_problem

@@ -12,7 +12,7 @@ returns-then-not-has-clause-empty c =
     let w = c.loop-self.self in
     let same = c.loop-self.invariant.problem in
     refused_at c.positions_narrow.ensures c.args.self.now.cursor.problem c.problem.result.now c.args.prefix.now w.cursor.path c.at-rel.result c.allowed.result c.len-pair.result (c.problem.ensures ∙ same)
-    c.len-pair.ensures c.loop-self.invariant.front (omega arith) c.requires.prefix (subst (λ p. IsOpen p w.cursor.path) (sym c.problem.ensures) c.path-open.ensures.open) c.at-rel.ensures c.allowed.ensures
+    c.len-pair.ensures c.loop-self.invariant.front (omega arith) c.requires.prefix (subst (λ p. IsOpen p w.cursor.path) (sym c.problem.ensures) c.facts.ensures) c.at-rel.ensures c.allowed.ensures
     (sym c.if-not-has.ensures)
 
 pub push-requires-clause-allowed : goal.push-requires-clause-allowed
@@ -45,4 +45,4 @@ returns-clause-empty c =
     let whole : w.cursor.path ≡ m = c.loop-self.invariant.front ∙ take_all (length w.cursor.path) m (omega arith) in
     subst (λ p. IsEmptyPair (problem_at p m) c.empty.result) c.loop-self.invariant.problem
     (subst (λ n. IsEmptyPair (problem_at w.cursor.problem n) c.empty.result) whole
-    (empty_at_prefix c.positions_narrow.ensures w.cursor.problem w.cursor.path c.empty.result c.path-open-2.ensures.open c.empty.ensures))
+    (empty_at_prefix c.positions_narrow.ensures w.cursor.problem w.cursor.path c.empty.result c.facts-2.ensures c.empty.ensures))

@@ -14,7 +14,7 @@ pub want_pair-requires-clause-pool : goal.want_pair-requires-clause-pool
 want_pair-requires-clause-pool c =
     let w = c.strike.new.self in
     let stays = sym c.in_ok-strike.ensures.cursor in
-    let open_here = subst (λ s. IsOpen s.problem s.path) stays c.path-open.ensures.open in
+    let open_here = subst (λ s. IsOpen s.problem s.path) stays c.facts.ensures in
     let within = subst (λ s. length s.path < pair_count s.problem) stays c.requires.within in
     let allows = subst (λ s. IsTrue (has (allowed s.problem (pair_at s.problem (length s.path))) c.args.rel)) stays c.requires.allowed in
     let opened = open_more w.cursor.problem w.cursor.path c.args.rel open_here within allows in
