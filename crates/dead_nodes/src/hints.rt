@@ -6,9 +6,10 @@ ghost use Rattle.point_query.specs.Asking.{AskerGoes};
 ghost use Rattle.dead_nodes.specs.Why.{Closes};
 
 use crate::closes::{closes, may_close};
+use crate::lemmas::{Hint, Lemmas};
 use crate::near::Given;
-use crate::shown::Shown;
 use constraint_set::Problem;
+use lits_core::Lit;
 use point_encode::{is_forced, need_of};
 use point_query::Asker;
 use rcc5_core::Position;
@@ -24,11 +25,33 @@ pub struct Reason {
     pub clause: u64,
 }
 
-/// A reason, and how its clause was shown.
-#[derive(Drop)]
+/// Where a dead node has a need without a point, as far as somebody knows: a hint.
+#[derive(Clone, Copy, Debug)]
+pub enum Guess {
+    /// Nobody knows.
+    Unknown,
+    /// This region of its last pair has none.
+    Region(u8),
+    /// Each region of its last pair that has to has one.
+    Elsewhere,
+}
+
+impl Guess {
+    // Whether a region of the last pair may be without a point.
+    pub(crate) fn may_be(self, part: u8) -> bool {
+        match self {
+            Guess::Unknown => true,
+            Guess::Region(bare) => bare == part,
+            Guess::Elsewhere => false,
+        }
+    }
+}
+
+/// A need, by its number, and a clause that closed it.
+#[derive(Clone, Copy, Debug)]
 struct Kept {
-    reason: Reason,
-    shown: Shown,
+    need: u64,
+    by: Hint,
 }
 
 /// The last reasons of the nodes whose last pair is one, in a ring.
@@ -42,7 +65,9 @@ struct Recent {
 #[derive(Drop)]
 pub struct Hints {
     pairs: Vec<Recent>,
+    lemmas: Lemmas,
     pub(crate) given: Given,
+    pub(crate) guess: Guess,
     pub(crate) alloc: Global,
 }
 
@@ -78,14 +103,12 @@ pub(crate) fn held(
 }
 
 impl Kept {
-    // Whether the clause would close the need at a node, live or not.
-    fn may_close(&self, problem: &Problem, node: &Position) -> bool
+    // Whether a clause with these literals would close the need at a node, live or not.
+    fn may_close(&self, problem: &Problem, node: &Position, lits: &[Lit]) -> bool
         requires { length node.now ≤ pair_count problem.now }
     {
-        match need_of(problem, self.reason.need) {
-            Some(need) => {
-                is_forced(problem, node, need) && may_close(problem, node, need, &self.shown.lits)
-            }
+        match need_of(problem, self.need) {
+            Some(need) => { is_forced(problem, node, need) && may_close(problem, node, need, lits) }
             None => false,
         }
     }
@@ -93,13 +116,22 @@ impl Kept {
 
 impl Recent {
     // The first reason that holds at a node.
-    fn again(&self, problem: &Problem, asker: &Asker, node: &Position) -> Option<Reason>
+    fn again(
+        &self,
+        problem: &Problem,
+        asker: &Asker,
+        lemmas: &Lemmas,
+        node: &Position,
+    ) -> Option<Reason>
         requires { length node.now ≤ pair_count problem.now }
         ensures { IfSome result (Closes problem.now asker.now.solver.state node.now) }
     {
         for kept in &self.list {
-            if holds(problem, asker, node, kept.reason) {
-                return Some(kept.reason);
+            if let Some(clause) = lemmas.id_of(kept.by) {
+                let need = kept.need;
+                if holds(problem, asker, node, Reason { need, clause }) {
+                    return Some(Reason { need, clause });
+                }
             }
         }
         None
@@ -108,9 +140,10 @@ impl Recent {
     // The first reason whose clause was forgotten, would close its need at a node and is shown anew.
     #[tactic(auto, using(search_log::proofs::Logs::asker_stays, search_log::proofs::Logs::asker_joins))]
     fn anew(
-        &mut self,
+        &self,
         problem: &Problem,
         asker: &mut Asker,
+        lemmas: &mut Lemmas,
         node: &Position,
     ) -> Result<Option<Reason>, AllocError>
         requires within { length node.now ≤ pair_count problem.now }
@@ -118,11 +151,13 @@ impl Recent {
         ensures kept { AskerGoes asker.old asker.new }
         ensures closes { IfOk result (λ found. IfSome found (Closes problem.now asker.new.solver.state node.now)) }
     {
-        for kept in self.list.iter_mut() {
-            if kept.may_close(problem, node) {
-                if let Some(id) = kept.shown.anew(problem, asker)? {
-                    kept.reason.clause = id;
-                    return Ok(held(problem, asker, node, kept.reason));
+        for kept in &self.list {
+            if let Hint::Lemma(place) = kept.by {
+                if kept.may_close(problem, node, lemmas.lits(place)) {
+                    if let Some(clause) = lemmas.show(problem, asker, place)? {
+                        let need = kept.need;
+                        return Ok(held(problem, asker, node, Reason { need, clause }));
+                    }
                 }
             }
         }
@@ -147,9 +182,16 @@ impl Hints {
     pub fn new(alloc: Global) -> Hints {
         Hints {
             pairs: Vec::new(alloc),
+            lemmas: Lemmas::new(alloc),
             given: Given::none(alloc),
+            guess: Guess::Unknown,
             alloc,
         }
+    }
+
+    /// Takes a guess about the dead node that is asked about next.
+    pub fn guess(&mut self, guess: Guess) {
+        self.guess = guess;
     }
 
     // A reason that holds at a node, among those of its last pair.
@@ -158,7 +200,9 @@ impl Hints {
         ensures { IfSome result (Closes problem.now asker.now.solver.state node.now) }
     {
         let pair = node.len().checked_sub(1)?;
-        self.pairs.get(pair)?.again(problem, asker, node)
+        self.pairs
+            .get(pair)?
+            .again(problem, asker, &self.lemmas, node)
     }
 
     // The same, with a clause that was forgotten and is shown anew.
@@ -177,8 +221,8 @@ impl Hints {
         let Some(pair) = node.len().checked_sub(1) else {
             return Ok(None);
         };
-        match self.pairs.get_mut(pair) {
-            Some(recent) => recent.anew(problem, asker, node),
+        match self.pairs.get(pair) {
+            Some(recent) => recent.anew(problem, asker, &mut self.lemmas, node),
             None => Ok(None),
         }
     }
@@ -191,13 +235,19 @@ impl Hints {
         Ok(())
     }
 
-    // Keeps a reason of a node, and how its clause was shown.
+    // Keeps the clauses whose lines wait in an asker.
+    pub(crate) fn note(&mut self, asker: &Asker) -> Result<(), AllocError> {
+        self.lemmas.note(asker)
+    }
+
+    // Keeps a reason of a node, and the clauses whose lines wait.
     pub(crate) fn keep(
         &mut self,
+        asker: &Asker,
         node: &Position,
         reason: Reason,
-        shown: Shown,
     ) -> Result<(), AllocError> {
+        self.note(asker)?;
         let Some(pair) = node.len().checked_sub(1) else {
             return Ok(());
         };
@@ -207,6 +257,8 @@ impl Hints {
                 next: 0,
             })?;
         }
-        self.pairs[pair].keep(Kept { reason, shown })
+        let by = self.lemmas.hint(reason.clause);
+        let need = reason.need;
+        self.pairs[pair].keep(Kept { need, by })
     }
 }

@@ -2,10 +2,11 @@
 #![tactic(auto)]
 
 mod closes;
+mod derived;
 mod hints;
+mod lemmas;
 mod near;
-mod shown;
 mod why;
 
-pub use hints::{Hints, Reason};
+pub use hints::{Guess, Hints, Reason};
 pub use why::{WhyDead, why_dead};

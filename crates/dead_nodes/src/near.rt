@@ -4,7 +4,6 @@
 ghost use Rattle.std.specs.Prelude.{◌<◌, ◌≤◌, length, IfSome};
 ghost use Rattle.world_model.specs.Problem.{concept_count, pair_count};
 
-use crate::shown::Shown;
 use constraint_set::Problem;
 use lits_core::Lit;
 use point_encode::forced_at;
@@ -17,6 +16,13 @@ use std::alloc::{AllocError, Global};
 pub(crate) struct Given {
     within: Vec<u64>,
     first: u64,
+}
+
+/// A clause that is to be shown: its literals, and the ids of the two clauses that show it.
+#[derive(Clone, Copy, Debug)]
+pub(crate) struct Draft {
+    pub lits: [Lit; 3],
+    pub hints: [u64; 2],
 }
 
 /// What lies in one concept and in another, or in the one alone.
@@ -80,14 +86,13 @@ fn part_of(problem: &Problem, region: Region) -> Part
 // How a part is shown empty by another one, in which it lies since the concept of this number lies in its parent, where a
 // node forces the other one empty.
 fn shown_in(
-    alloc: Global,
     problem: &Problem,
     node: &Position,
     given: &Given,
     part: Part,
     wider: Part,
     step: u32,
-) -> Result<Option<Shown>, AllocError>
+) -> Option<Draft>
     requires within { length node.now ≤ pair_count problem.now }
     requires inside { part.inside < concept_count problem.now }
     requires other { part.other < concept_count problem.now }
@@ -95,34 +100,26 @@ fn shown_in(
     requires wide_other { wider.other < concept_count problem.now }
 {
     let Some(region) = region_of(problem, wider) else {
-        return Ok(None);
+        return None;
     };
     match word_of(forced_at(problem, node, region.pair), region.part) {
         Occupancy::Empty => {}
-        Occupancy::Occupied | Occupancy::Free => return Ok(None),
+        Occupancy::Occupied | Occupancy::Free => return None,
     }
     problem.facts();
     let selector = problem.concept_count() + 3 * region.pair + region.part;
-    let lits = [
-        Lit::new(selector, true),
-        Lit::new(part.inside, true),
-        Lit::new(part.other, part.both),
-    ];
-    let hints = given.of(step, region);
-    Ok(Some(Shown {
-        lits: Vec::from_slice(alloc, &lits)?,
-        hints: Vec::from_slice(alloc, &hints)?,
-    }))
+    Some(Draft {
+        lits: [
+            Lit::new(selector, true),
+            Lit::new(part.inside, true),
+            Lit::new(part.other, part.both),
+        ],
+        hints: given.of(step, region),
+    })
 }
 
 // How a part is shown empty by one with the parent of a concept of it in place of the concept.
-fn shown_by_parent(
-    alloc: Global,
-    problem: &Problem,
-    node: &Position,
-    given: &Given,
-    part: Part,
-) -> Result<Option<Shown>, AllocError>
+fn shown_by_parent(problem: &Problem, node: &Position, given: &Given, part: Part) -> Option<Draft>
     requires within { length node.now ≤ pair_count problem.now }
     requires inside { part.inside < concept_count problem.now }
     requires other { part.other < concept_count problem.now }
@@ -131,70 +128,63 @@ fn shown_by_parent(
     if let Some(inside) = problem.parent(part.inside) {
         if inside < count {
             let wider = Part { inside, ..part };
-            let shown = shown_in(alloc, problem, node, given, part, wider, part.inside)?;
+            let shown = shown_in(problem, node, given, part, wider, part.inside);
             if shown.is_some() {
-                return Ok(shown);
+                return shown;
             }
         }
     }
     if !part.both {
-        return Ok(None);
+        return None;
     }
     match problem.parent(part.other) {
         Some(other) if other < count => {
             let wider = Part { other, ..part };
-            shown_in(alloc, problem, node, given, part, wider, part.other)
+            shown_in(problem, node, given, part, wider, part.other)
         }
-        _ => Ok(None),
+        _ => None,
     }
 }
 
 // How a part outside of a concept is shown empty by the one outside of a child of it.
-fn shown_by_child(
-    alloc: Global,
-    problem: &Problem,
-    node: &Position,
-    given: &Given,
-    part: Part,
-) -> Result<Option<Shown>, AllocError>
+fn shown_by_child(problem: &Problem, node: &Position, given: &Given, part: Part) -> Option<Draft>
     requires within { length node.now ≤ pair_count problem.now }
     requires inside { part.inside < concept_count problem.now }
     requires other { part.other < concept_count problem.now }
 {
     if part.both {
-        return Ok(None);
+        return None;
     }
     let count = problem.concept_count();
     for child in problem.children(part.other) {
         let other = *child;
         if other < count {
             let wider = Part { other, ..part };
-            let shown = shown_in(alloc, problem, node, given, part, wider, other)?;
+            let shown = shown_in(problem, node, given, part, wider, other);
             if shown.is_some() {
-                return Ok(shown);
+                return shown;
             }
         }
     }
-    Ok(None)
+    None
 }
 
 // How a region is shown empty by one beside it, if by one.
 pub(crate) fn shown_near(
-    alloc: Global,
     problem: &Problem,
     node: &Position,
     given: &Given,
     region: Region,
-) -> Result<Option<Shown>, AllocError>
+) -> Option<Draft>
     requires within { length node.now ≤ pair_count problem.now }
     requires region { region.pair < pair_count problem.now }
 {
     let part = part_of(problem, region);
-    let shown = shown_by_parent(alloc, problem, node, given, part)?;
+    let shown = shown_by_parent(problem, node, given, part);
     if shown.is_some() {
-        return Ok(shown);
+        return shown;
     }
-    shown_by_child(alloc, problem, node, given, part)
+    shown_by_child(problem, node, given, part)
 }
 
 impl Given {

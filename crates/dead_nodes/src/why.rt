@@ -7,9 +7,9 @@ ghost use Rattle.point_encode.specs.Needs.{IsInRange};
 ghost use Rattle.point_query.specs.Asking.{AskerGoes};
 ghost use Rattle.dead_nodes.specs.Why.{Closes, IsWhy};
 
-use crate::hints::{Hints, Reason, held};
+use crate::derived::derived;
+use crate::hints::{Guess, Hints, Reason, held};
 use crate::near::{Region, shown_near};
-use crate::shown::shown_by;
 use constraint_set::Problem;
 use point_encode::{Need, is_forced, need_number};
 use point_query::{Asker, Found, Probe};
@@ -46,6 +46,7 @@ pub fn why_dead(
     if let Some(reason) = hints.again(problem, asker, node) {
         return Ok(WhyDead::NoPoint(reason));
     }
+    hints.note(asker)?;
     if let Some(reason) = hints.anew(problem, asker, node)? {
         asker.facts();
         return Ok(WhyDead::NoPoint(reason));
@@ -54,10 +55,9 @@ pub fn why_dead(
         asker.facts();
         return Ok(WhyDead::NoPoint(reason));
     }
-    let why = asked(problem, asker, node, hints.alloc)?;
+    let why = asked(problem, asker, node, hints.guess, hints.alloc)?;
     if let WhyDead::NoPoint(reason) = why {
-        let shown = shown_by(hints.alloc, asker, reason.clause)?;
-        hints.keep(node, reason, shown)?;
+        hints.keep(asker, node, reason)?;
     }
     asker.facts();
     Ok(why)
@@ -80,10 +80,13 @@ fn near(
     let Some(pair) = node.len().checked_sub(1) else {
         return Ok(None);
     };
+    let guess = hints.guess;
     for part in PARTS {
-        let reason = shown_at(problem, asker, hints, node, pair as u32, part)?;
-        if reason.is_some() {
-            return Ok(reason);
+        if guess.may_be(part) {
+            let reason = shown_at(problem, asker, hints, node, pair as u32, part)?;
+            if reason.is_some() {
+                return Ok(reason);
+            }
         }
     }
     Ok(None)
@@ -112,21 +115,14 @@ fn shown_at(
     }
     hints.learn(problem)?;
     let part = u32::from(part);
-    let Some(shown) = shown_near(
-        hints.alloc,
-        problem,
-        node,
-        &hints.given,
-        Region { pair, part },
-    )?
-    else {
+    let Some(draft) = shown_near(problem, node, &hints.given, Region { pair, part }) else {
         return Ok(None);
     };
-    let Some(clause) = shown.anew(problem, asker)? else {
+    let Some(clause) = derived(problem, asker, &draft.lits, &draft.hints)? else {
         return Ok(None);
     };
     let need = need_number(problem, need);
-    hints.keep(node, Reason { need, clause }, shown)?;
+    hints.keep(asker, node, Reason { need, clause })?;
     Ok(held(problem, asker, node, Reason { need, clause }))
 }
 
@@ -137,6 +133,7 @@ fn asked(
     problem: &Problem,
     asker: &mut Asker,
     node: &Position,
+    guess: Guess,
     alloc: Global,
 ) -> Result<WhyDead, AllocError>
     requires shape { asker.old.shape ≡ shape_of problem.now }
@@ -145,7 +142,7 @@ fn asked(
     ensures kept { AskerGoes asker.old asker.new }
     ensures why { IfOk result (IsWhy problem.now asker.new.solver.state node.now) }
 {
-    if let Some(reason) = asked_of_last(problem, asker, node, alloc)? {
+    if let Some(reason) = asked_of_last(problem, asker, node, guess, alloc)? {
         asker.facts();
         return Ok(WhyDead::NoPoint(reason));
     }
@@ -168,6 +165,7 @@ fn asked_of_last(
     problem: &Problem,
     asker: &mut Asker,
     node: &Position,
+    guess: Guess,
     alloc: Global,
 ) -> Result<Option<Reason>, AllocError>
     requires shape { asker.old.shape ≡ shape_of problem.now }
@@ -179,16 +177,21 @@ fn asked_of_last(
     let Some(pair) = node.len().checked_sub(1) else {
         return Ok(None);
     };
+    if let Guess::Elsewhere = guess {
+        return Ok(None);
+    }
     let mut prefix = node.copy(alloc)?;
     prefix.pop();
     for part in PARTS {
-        let need = Need::Region {
-            pair: pair as u32,
-            part,
-        };
-        let reason = asked_of(problem, asker, node, &prefix, need)?;
-        if reason.is_some() {
-            return Ok(reason);
+        if guess.may_be(part) {
+            let need = Need::Region {
+                pair: pair as u32,
+                part,
+            };
+            let reason = asked_of(problem, asker, node, &prefix, need)?;
+            if reason.is_some() {
+                return Ok(reason);
+            }
         }
     }
     Ok(None)

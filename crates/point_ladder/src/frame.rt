@@ -63,6 +63,24 @@ fn are_met(row: &[u64], left: &[u64], right: &[u64], words: Regions) -> bool
     is_met(row, left, right, words, Region::RightOnly)
 }
 
+// The number of the first region that has to have a place that is left, and has none.
+pub(crate) fn first_bare(frame: &Rows, left: &[u64], right: &[u64], words: Regions) -> Option<u8> {
+    if frame.count() == 0 {
+        return None;
+    }
+    let mask = frame.row(0);
+    if !is_met(mask, left, right, words, Region::LeftOnly) {
+        return Some(0);
+    }
+    if !is_met(mask, left, right, words, Region::Both) {
+        return Some(1);
+    }
+    if !is_met(mask, left, right, words, Region::RightOnly) {
+        return Some(2);
+    }
+    None
+}
+
 // Whether each row of which one place has to stay has one that is left in some cells of two sets.
 fn open_met(frame: &Rows, left: &[u64], right: &[u64], cells: Cells) -> bool
     requires { 2 ≤ frame.now.count }

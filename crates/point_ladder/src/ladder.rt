@@ -10,7 +10,7 @@ ghost use Rattle.point_ladder.specs.Bounds.{bound_to, AreBounds};
 ghost use Rattle.point_ladder.specs.Stretches.{AreNexts};
 
 use crate::bounds::{Bounds, are_same, bound, narrow_all, no_bounds};
-use crate::frame::{is_same, leads_on, narrowed};
+use crate::frame::{first_bare, is_same, leads_on, narrowed};
 use crate::stretches::{Stretch, cut};
 use bit_rows::Rows;
 use constraint_set::Problem;
@@ -209,6 +209,18 @@ impl Ladder {
         let (left, right) = (self.rows.row(left as usize), self.rows.row(right as usize));
         let last = self.stretches.len() - 1;
         bound(&self.stretches[last].frame, left, right, self.sets[pair])
+    }
+
+    /// The first region of the next pair that a relation needs a point in, and that has none left: a hint, by its number.
+    pub fn bare_region(&self, rel: Rel) -> Option<u8> {
+        self.problem.facts();
+        if self.len >= self.problem.pair_count() as usize {
+            return None;
+        }
+        let frame = &self.stretches.last()?.frame;
+        let (left, right) = self.problem.pair_at(self.len as u32);
+        let (left, right) = (self.rows.row(left as usize), self.rows.row(right as usize));
+        first_bare(frame, left, right, rel.row())
     }
 
     /// Puts a relation at the end of the path, if that leads to an alive one.

@@ -109,6 +109,7 @@ fn along<L: TreeLog>(
     ensures log { LogGoes L.drops L.lines L.faults L.steady L.quiet result log.old log.new }
 {
     let alive = guide.is_alive(problem, asker, &walk.path)?;
+    guide.mark(&walk.path, None, log.is_dropping());
     tell(
         alloc,
         problem,

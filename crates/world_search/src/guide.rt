@@ -9,7 +9,7 @@ ghost use Rattle.world_search.specs.Walking.{AreOpenAfter};
 ghost use Rattle.world_search.specs.Guiding.{IsLadderOf, IsGuideOf};
 
 use constraint_set::Problem;
-use dead_nodes::Hints;
+use dead_nodes::{Guess, Hints};
 use point_ladder::{Ladder, MOST_POINTS, MOST_TRIES};
 use point_query::Asker;
 use rcc5_core::{Position, RelSet};
@@ -77,6 +77,32 @@ impl Guide {
             if prefix.len() < ladder.path().len() {
                 ladder.back_to(prefix.len());
             }
+        }
+    }
+
+    /// Tells the hints what the table knows of a dead node: which region of its last pair is without a point. Nothing is looked up
+    /// where some relations lead on from the node, or nobody will read why it is dead.
+    pub fn mark(&mut self, node: &Position, set: Option<RelSet>, dropping: bool)
+        ensures { (p : Problem) (prefix : List Rel) → IsGuideOf p prefix self.old → IsGuideOf p prefix self.new }
+    {
+        if set.is_none() && !dropping {
+            let guess = self.guess(node);
+            self.hints.guess(guess);
+        }
+    }
+
+    // Where a dead node has a need without a point, if the table stands right above it.
+    fn guess(&self, node: &Position) -> Guess {
+        let Some(ladder) = &self.ladder else {
+            return Guess::Unknown;
+        };
+        let above = ladder.path().len();
+        if above + 1 != node.len() {
+            return Guess::Unknown;
+        }
+        match ladder.bare_region(node.at(above)) {
+            Some(part) => Guess::Region(part),
+            None => Guess::Elsewhere,
         }
     }
 

@@ -230,6 +230,7 @@ fn move_on<L: TreeLog>(
     ensures keeps { KeepsFrom problem.now (L.lines log.old) (L.lines log.new) asker.old asker.new walk.old walk.new }
     ensures log { LogGoes L.drops L.lines L.faults L.steady L.quiet result log.old log.new }
 {
+    guide.mark(&walk.path, set, log.is_dropping());
     tell(
         alloc,
         problem,
