@@ -6,27 +6,6 @@ use constraint_set::Problem;
 use lits_core::Bits;
 use std::alloc::{AllocError, Global};
 
-/// A second problem that is equal to this one.
-pub fn same_problem(alloc: Global, problem: &Problem) -> Result<Problem, AllocError>
-    ensures { IfOk result (λ p. p ≡ problem.now) }
-{
-    let flags = flags_of(alloc, problem)?;
-    problem.restricted(alloc, &flags)
-}
-
-// Which articulations are kept.
-fn flags_of(alloc: Global, problem: &Problem) -> Result<Vec<bool>, AllocError>
-    ensures value { IfOk result (λ flags. flags.items ≡ problem.now.kept) }
-    ensures counted { IfOk result (λ flags. length flags.items ≡ length problem.now.articulations) }
-{
-    problem.facts();
-    let mut flags = Vec::with_capacity(alloc, problem.articulation_count() as usize)?;
-    for index in 0..problem.articulation_count() {
-        flags.push(problem.is_kept(index))?;
-    }
-    Ok(flags)
-}
-
 /// Whether two problems of one shape are equal.
 pub fn is_same(one: &Problem, other: &Problem) -> bool
     requires { SameShape one.now other.now }

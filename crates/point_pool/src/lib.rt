@@ -13,7 +13,7 @@ mod strike;
 mod waiting;
 mod witness;
 
-pub use copies::{copy, front, same_problem};
+pub use copies::{copy, front};
 pub use cursor::Cursor;
 pub use needs::{count_needs, count_pairs, lies_in, need_of, number_of, word_of};
 pub use pool::Pool;

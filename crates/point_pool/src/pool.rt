@@ -10,7 +10,7 @@ ghost use Rattle.world_model.specs.Node.{pair_at};
 ghost use Rattle.world_model.specs.Problem.{pair_count};
 
 use crate::alike::common_len;
-use crate::copies::{is_same, same_problem};
+use crate::copies::is_same;
 use crate::cursor::Cursor;
 use crate::depths::unstrike;
 use crate::needs::count_needs;
@@ -76,7 +76,7 @@ impl Pool {
             return Ok(self);
         }
         let points = self.into_points();
-        Pool::new(alloc, same_problem(alloc, problem)?, points)
+        Pool::new(alloc, problem.copy()?, points)
     }
 
     // The points, which meet the rules of the problem's trees.

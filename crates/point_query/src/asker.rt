@@ -22,7 +22,7 @@ use constraint_set::Problem;
 use learn_solver::Literals;
 use lits_core::{Line, Lit, law_derived_clauses_follow};
 use point_encode::Need;
-use point_pool::{Pool, same_problem};
+use point_pool::Pool;
 use rcc5_core::{Position, RelSet};
 use std::alloc::{AllocError, Global};
 use std::marker::Model;
@@ -58,7 +58,7 @@ impl Asker {
     {
         let solver = solver_of(alloc, problem)?;
         let solver = Closer::new(alloc, solver, problem)?;
-        let shape = same_problem(alloc, problem)?;
+        let shape = problem.copy()?;
         Ok(Asker {
             shape,
             solver,
@@ -240,5 +240,5 @@ impl Asker {
 fn new_pool(alloc: Global, problem: &Problem) -> Result<Pool, AllocError>
     ensures { IfOk result (IsPoolAt problem.now) }
 {
-    Pool::new(alloc, same_problem(alloc, problem)?, Vec::new(alloc))
+    Pool::new(alloc, problem.copy()?, Vec::new(alloc))
 }

@@ -16,7 +16,7 @@ use constraint_set::Problem;
 use learn_solver::Solver;
 use lits_core::Bits;
 use point_encode::{Need, needs_of, selectors_of};
-use point_pool::{copy, same_problem};
+use point_pool::copy;
 use rcc5_core::Position;
 use std::alloc::{AllocError, Global};
 use std::marker::Model;
@@ -46,7 +46,7 @@ impl PlainAsker {
         ensures { IfOk result (IsNewAsker problem.now) }
     {
         let solver = solver_of(alloc, problem)?;
-        let shape = same_problem(alloc, problem)?;
+        let shape = problem.copy()?;
         Ok(PlainAsker {
             shape,
             solver,
