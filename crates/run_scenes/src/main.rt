@@ -2,7 +2,10 @@
 //! transcript as it came out. It comes out as it went in where the program does what the transcript says.
 #![tactic(auto)]
 
+mod feeding;
+mod last_watcher;
 mod own_watcher;
+mod stop_watcher;
 mod transcript;
 
 use std::{env, fs, io};

@@ -1,5 +1,7 @@
 //! Whole runs as transcripts: files, words, what is put, and how each run ends. A transcript is played again, and must come out as it is.
 
+use super::feeding::fed_lines;
+use super::last_watcher::LastWatcher;
 use super::own_watcher::OwnWatcher;
 use align_top::run;
 use outer_store::{MemorySink, MemoryStore};
@@ -30,12 +32,29 @@ fn new_store(alloc: Global, failing: u64, step: u64) -> Result<MemoryStore, Allo
     })
 }
 
+/// The watchers that a run is given.
+#[derive(Clone, Copy)]
+enum Watching {
+    /// One of each kind, as the program has them.
+    Program,
+    /// `one`, `stop`, which finds no memory at the third world, and `one` once more.
+    Own,
+    /// `last`, which keeps the last table, and `count`.
+    Last,
+}
+
 /// What has been played of a transcript, and the store over which it runs.
 ///
-/// A line `@ NAME` begins a file, whose lines follow. `$ WORDS` is a run, `? CODE` its exit code, and what
-/// it puts stands between. `& WORDS` is a run with watchers of its own: `one`, `stop`, which finds no memory at the third world, and
-/// `one` once more; `~ N` tells how many of these, and the scene, were there when one of them was first shown a world. `= NAME` shows what a name holds then. `% N M S` takes a new store, in which the file `p` alone is held again; its
-/// call N fails, and in the next run the sink's call M. No call fails where the number is 0. Where S is 1, a read copies one byte.
+/// A line `@ NAME` begins a file, whose lines follow. `$ WORDS` is a run, `? CODE` its exit code, and what it puts stands between.
+/// `& WORDS` is a run with watchers of its own: `one`, `stop`, which finds no memory at the third world, and `one` once more; `~ N` tells
+/// how many of these, and the scene, were there when one of them was first shown a world. `^ WORDS` is a run with a watcher of its own,
+/// `last`, which keeps the last table, and with `count`.
+///
+/// `+ TABLES` feeds tables of the problem in the file `p`, each by its letters, to `count` and to a `stop` that counts too, with no run
+/// around them; `fed N` tells how many both took, and what each of the two then reports stands behind its name.
+///
+/// `= NAME` shows what a name holds then. `% N M S` takes a new store, in which the file `p` alone is held again; its call N fails, and in
+/// the next run the sink's call M. No call fails where the number is 0. Where S is 1, a read copies one byte.
 #[derive(Drop)]
 struct Scene {
     alloc: Global,
@@ -81,17 +100,17 @@ impl Scene {
         Ok(())
     }
 
-    fn run(&mut self, text: &str, with_own: bool) -> Result<(), AllocError> {
+    fn run(&mut self, text: &str, watching: Watching) -> Result<(), AllocError> {
         let words = words_of(self.alloc, text)?;
         let mut sink = MemorySink::new(self.alloc, vec![in self.alloc; self.failing_put]?);
         let held = Rc::new(self.alloc, Cell::new(0))?;
-        let code = if with_own {
-            self.run_with_own(&words, &mut sink, &held)?
-        } else {
-            self.run_words(&words, &mut sink)?
+        let code = match watching {
+            Watching::Program => self.run_words(&words, &mut sink)?,
+            Watching::Own => self.run_with_own(&words, &mut sink, &held)?,
+            Watching::Last => self.run_with_last(&words, &mut sink)?,
         };
         self.put_bytes(sink.bytes())?;
-        if with_own {
+        if matches!(watching, Watching::Own) {
             let count = held.get();
             let shown = format!(in self.alloc; "~ {count}")?;
             self.put_line(shown.as_str())?;
@@ -134,6 +153,21 @@ impl Scene {
         Ok(run(self.alloc, words, &mut self.store, sink, watchers).code())
     }
 
+    /// Runs with a watcher that keeps the last table and one that counts.
+    fn run_with_last(&mut self, words: &[String], sink: &mut MemorySink) -> Result<u8, AllocError> {
+        let mut watchers: Vec<Box<dyn WorldWatcher>> = Vec::new(self.alloc);
+        watchers.push(Box::new(self.alloc, LastWatcher::new(self.alloc))?)?;
+        watchers.push(Box::new(self.alloc, CountWatcher::new(self.alloc))?)?;
+        Ok(run(self.alloc, words, &mut self.store, sink, watchers).code())
+    }
+
+    /// Feeds tables of the problem to watchers.
+    fn feed(&mut self, tables: &str) -> Result<(), AllocError> {
+        let text = self.store.bytes("p").unwrap_or(&[]);
+        let lines = fed_lines(self.alloc, text, tables)?;
+        self.put_bytes(&lines)
+    }
+
     /// Shows what a name holds.
     fn show(&mut self, name: &str) -> Result<(), AllocError> {
         let held = Vec::from_slice(self.alloc, self.store.bytes(name).unwrap_or(&[]))?;
@@ -161,8 +195,10 @@ impl Scene {
                 self.name = Some(String::from_str(self.alloc, rest)?);
                 Ok(())
             }
-            "$" => self.run(rest, false),
-            "&" => self.run(rest, true),
+            "$" => self.run(rest, Watching::Program),
+            "&" => self.run(rest, Watching::Own),
+            "^" => self.run(rest, Watching::Last),
+            "+" => self.feed(rest),
             "=" => self.show(rest),
             _ => self.renew(rest),
         }
@@ -184,7 +220,7 @@ pub fn played(alloc: Global, text: &str) -> Result<String, AllocError> {
     let mut scene = Scene::new(alloc);
     for line in text.lines() {
         match line.split_once(' ') {
-            Some((sign, rest)) if matches!(sign, "@" | "$" | "&" | "=" | "%") => {
+            Some((sign, rest)) if matches!(sign, "@" | "$" | "&" | "^" | "+" | "=" | "%") => {
                 scene.play_sign(line, sign, rest)?;
             }
             _ => scene.play_other(line)?,
