@@ -2,10 +2,12 @@
 #![tactic(auto)]
 
 mod help;
+mod line;
 mod usage;
 
 use align_top::{Status, UsageKind, fault_place, run, text_help, usage_help};
 use help::{certificate_help, rejection_help, token_help};
+use line::show_line;
 use outer_store::{FileStore, StdoutSink};
 use std::alloc::{AllocError, Global};
 use std::process::ExitCode;
@@ -143,14 +145,26 @@ fn explain_usage(
     explain_word(rt, kind, word, help.as_str())
 }
 
+// Tells what is wrong with a line of the problem's text, or with the text as a whole, and shows the line.
+fn explain_text(
+    rt: &HostRuntime,
+    alloc: Global,
+    words: &[String],
+    line: u32,
+    sentence: &str,
+) -> io::Result<()> {
+    let input = value_of(words, "in=");
+    let place = fault_place(alloc, input, line)?;
+    eprintln!(rt; "{place}{sentence}")?;
+    show_line(rt, input, line)
+}
+
 // Tells people, on standard error, what an ending means that is not good, and what to do about it.
-fn explain(rt: &impl Eprint, alloc: Global, words: &[String], status: &Status) -> io::Result<()> {
+fn explain(rt: &HostRuntime, alloc: Global, words: &[String], status: &Status) -> io::Result<()> {
     match status {
         Status::Usage(kind) => explain_usage(rt, alloc, words, *kind),
         Status::RefusedText { line, kind } => {
-            let place = fault_place(alloc, value_of(words, "in="), *line)?;
-            let sentence = text_help(*kind);
-            eprintln!(rt; "{place}{sentence}")
+            explain_text(rt, alloc, words, *line, text_help(*kind))
         }
         Status::ReadFault => explain_read(rt, words),
         Status::WriteFault => explain_write(rt, words),
