@@ -72,8 +72,6 @@ pub(crate) fn rejection_help(kind: RejectKind) -> &'static str {
             "this pair still allows a relation, so it does not rule the node out"
         }
         RejectKind::FamilyDoesNotMeet => "these sets break a rule or a statement of the problem",
-        RejectKind::FamilyHasOtherTable => {
-            "these sets show another world than this line is about"
-        }
+        RejectKind::FamilyHasOtherTable => "these sets show another world than this line names",
     }
 }

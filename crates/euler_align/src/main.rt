@@ -2,15 +2,17 @@
 #![tactic(auto)]
 
 mod help;
+mod line;
 mod usage;
 
 use align_top::{Status, UsageKind, fault_place, run, text_help, usage_help};
 use help::{certificate_help, rejection_help, token_help};
+use line::show_line;
 use outer_store::{FileStore, StdoutSink};
 use std::alloc::{AllocError, Global};
 use std::process::ExitCode;
 use std::{env, fs, io};
-use usage::wrong_word;
+use usage::{asks_for_help, numbers_taken, wrong_word};
 use world_watch::{
     CountWatcher, JsonWatcher, MergeWatcher, SeenWatcher, TallyWatcher, WorldWatcher,
 };
@@ -105,34 +107,64 @@ fn explain_write(rt: &impl Eprint, words: &[String]) -> io::Result<()> {
     )
 }
 
-// Tells what is wrong with the words, at which word, and what may stand there. It makes watchers of its own, for their names: no function
-// may make such values and hand them out.
+// Tells what the program is for, what its words are and where its manual is.
+fn explain_program(rt: &impl Eprint, help: &str) -> io::Result<()> {
+    eprint!(rt;
+        "euler_align reconciles two to eight classifications of the same things\n{help}the manual is `man euler_align`, where it is installed; in the repository docs/GUIDE.md shows how to use the program, and docs/FORMATS.md has every word and file\n"
+    )
+}
+
+// Tells what is wrong with the words, at which word, and what may stand there.
+fn explain_word(rt: &impl Eprint, kind: UsageKind, word: &str, help: &str) -> io::Result<()> {
+    if let Some(numbers) = numbers_taken(kind, word) {
+        return eprint!(rt; "{word}: {numbers}\n{help}");
+    }
+    let colon = if word.is_empty() { "" } else { ": " };
+    eprint!(rt; "{kind}{colon}{word}\n{help}")
+}
+
+// Tells what there is to tell of words that are no request. It makes watchers of its own, for their names: no function may make such
+// values and hand them out.
 fn explain_usage(
     rt: &impl Eprint,
     alloc: Global,
     words: &[String],
     kind: UsageKind,
 ) -> io::Result<()> {
+    let help = usage_help(alloc)?;
+    if asks_for_help(words) {
+        return explain_program(rt, help.as_str());
+    }
     let mut watchers: Vec<Box<dyn WorldWatcher>> = Vec::new(alloc);
     watchers.push(Box::new(alloc, CountWatcher::new(alloc))?)?;
     watchers.push(Box::new(alloc, TallyWatcher::new(alloc))?)?;
     watchers.push(Box::new(alloc, SeenWatcher::new(alloc))?)?;
     watchers.push(Box::new(alloc, MergeWatcher::new(alloc))?)?;
     watchers.push(Box::new(alloc, JsonWatcher::new(alloc))?)?;
-    let word = wrong_word(alloc, words, &watchers, kind);
-    let help = usage_help(alloc)?;
-    let colon = if word.is_empty() { "" } else { ": " };
-    eprint!(rt; "{kind}{colon}{word}\n{help}")
+    let word = wrong_word(alloc, words, &watchers, kind, help.as_str());
+    explain_word(rt, kind, word, help.as_str())
+}
+
+// Tells what is wrong with a line of the problem's text, or with the text as a whole, and shows the line.
+fn explain_text(
+    rt: &HostRuntime,
+    alloc: Global,
+    words: &[String],
+    line: u32,
+    sentence: &str,
+) -> io::Result<()> {
+    let input = value_of(words, "in=");
+    let place = fault_place(alloc, input, line)?;
+    eprintln!(rt; "{place}{sentence}")?;
+    show_line(rt, input, line)
 }
 
 // Tells people, on standard error, what an ending means that is not good, and what to do about it.
-fn explain(rt: &impl Eprint, alloc: Global, words: &[String], status: &Status) -> io::Result<()> {
+fn explain(rt: &HostRuntime, alloc: Global, words: &[String], status: &Status) -> io::Result<()> {
     match status {
         Status::Usage(kind) => explain_usage(rt, alloc, words, *kind),
         Status::RefusedText { line, kind } => {
-            let place = fault_place(alloc, value_of(words, "in="), *line)?;
-            let sentence = text_help(*kind);
-            eprintln!(rt; "{place}{sentence}")
+            explain_text(rt, alloc, words, *line, text_help(*kind))
         }
         Status::ReadFault => explain_read(rt, words),
         Status::WriteFault => explain_write(rt, words),

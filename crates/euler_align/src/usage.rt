@@ -1,8 +1,39 @@
-//! Which of the words is wrong, for people.
+//! Which of the words is wrong, and what may stand there, for people.
 
 use align_top::{UsageKind, WordsFault, read_words};
 use std::alloc::Global;
 use world_watch::WorldWatcher;
+
+fn is_help(word: &str) -> bool {
+    word == "--help" || word == "-h" || word == "help"
+}
+
+/// Whether the only word asks for help. It is no command: the run ends as it does with any other word that is none.
+pub(crate) fn asks_for_help(words: &[String]) -> bool {
+    match words.split_first() {
+        Some((word, further)) => further.is_empty() && is_help(word.as_str()),
+        None => false,
+    }
+}
+
+/// What numbers a key takes, where the fault is that a word gives it another one.
+pub(crate) fn numbers_taken(kind: UsageKind, word: &str) -> Option<&'static str> {
+    match kind {
+        UsageKind::BadNumber | UsageKind::ZeroBudget => Some(numbers_of(word)),
+        _ => None,
+    }
+}
+
+// What numbers the key of a word takes.
+fn numbers_of(word: &str) -> &'static str {
+    if word.starts_with("size=") {
+        "give an even number from 14 to 256, without a leading zero"
+    } else if word.starts_with("seed=") {
+        "give a number from 0 to 18446744073709551615, without a leading zero"
+    } else {
+        "give a number from 1 to 18446744073709551615, without a leading zero"
+    }
+}
 
 // Whether words have this first fault.
 fn has_fault(
@@ -32,37 +63,60 @@ fn first_wrong<'a>(
     ""
 }
 
-// The keys that a command must have, as its first word names it.
-fn required(words: &[String]) -> &'static [&'static str] {
-    match words.first() {
-        Some(word) if word.as_str() == "check" => &["in=", "cert="],
-        Some(word) if word.as_str() == "report" => &["in=", "kinds="],
-        Some(word) if word.as_str() == "trial" => &["seed=", "size="],
-        _ => &["in="],
+// The keys of a command, where a line of the list of commands is about it.
+fn keys_of<'a>(line: &'a str, command: &str) -> Option<&'a str> {
+    let (name, keys) = line.trim().split_once(' ')?;
+    if name == command { Some(keys) } else { None }
+}
+
+// What stands before the equals sign of a word.
+fn key_of(word: &str) -> &str {
+    match word.split_once('=') {
+        Some((key, _)) => key,
+        None => word,
     }
 }
 
-// The first of these keys that no word begins with.
-fn first_missing(words: &[String], keys: &[&'static str]) -> &'static str {
-    for key in keys {
-        if !words.iter().any(|word| word.as_str().starts_with(*key)) {
-            return *key;
+fn is_given(words: &[String], key: &str) -> bool {
+    words.iter().any(|word| key_of(word.as_str()) == key)
+}
+
+// The first of these keys that must be given and no word gives. Those in brackets may be left out.
+fn missing_among<'a>(keys: &'a str, words: &[String]) -> &'a str {
+    for key in keys.split_whitespace() {
+        if !key.starts_with('[') && !is_given(words, key_of(key)) {
+            return key;
         }
     }
     ""
 }
 
-/// What is wrong or missing among the words, where that is one word or key.
+// The first key that the command must have and no word gives, as the list of commands has it.
+fn first_missing<'a>(help: &'a str, words: &[String]) -> &'a str {
+    let Some(command) = words.first() else {
+        return "";
+    };
+    for line in help.lines() {
+        if let Some(keys) = keys_of(line, command.as_str()) {
+            return missing_among(keys, words);
+        }
+    }
+    ""
+}
+
+/// What is wrong or missing among the words, where that is one word or key. Which keys a command must have is read from the list of
+/// commands that people are shown.
 pub(crate) fn wrong_word<'a>(
     alloc: Global,
     words: &'a [String],
     watchers: &Vec<Box<dyn WorldWatcher>>,
     kind: UsageKind,
+    help: &'a str,
 ) -> &'a str {
     match kind {
         UsageKind::NoCommand => "",
-        UsageKind::MissingKey => first_missing(words, required(words)),
-        UsageKind::BudgetWithoutToken => "token=",
+        UsageKind::MissingKey => first_missing(help, words),
+        UsageKind::BudgetWithoutToken => "token=FILE",
         _ => first_wrong(alloc, words, watchers, kind),
     }
 }
