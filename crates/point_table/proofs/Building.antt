@@ -129,8 +129,6 @@ joined_implied p old new on row concept own are gains is follows x y h bits poin
   | inr now ↦ follows y now.2 bits point (are row concept (sym is ∙ now.0) bits point (ap (bit_of bits) (sym now.1) ∙ has))
 ]
 
-]
-
 -- what is forced of a pair, as rules of its concepts
 pub record PairRules (p : Problem) (pair : ℕ × ℕ) (regions : Regions) : Type 0 where
   pub left : same_word regions.left_only Empty ≡ true → (bits : List Bool) → IsTrue (is_point p bits) → bit_of bits pair.0 ≡ true → bit_of bits pair.1 ≡ true
