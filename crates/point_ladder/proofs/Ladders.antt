@@ -18,9 +18,6 @@ use Rattle.point_ladder.specs.Ladders.{Satisfies, AreMet, IsOwing, IsFrame, Pair
 use Rattle.point_ladder.proofs.Narrowing.{bits_at}
 use Rattle.point_ladder.proofs.Serving.{holds_all, table_point, served_by_parts, alive_here}
 
--- a row with all places below one more
-]
-
 -- what is owed for each number below one more
 pub below_more : (F : ℕ → Type 0) (n : ℕ) → (((k : ℕ) → k < n → F k) × F n) ↔ ((k : ℕ) → k < n + 1 → F k)
 below_more F n = (
