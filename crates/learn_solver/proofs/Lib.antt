@@ -3,6 +3,7 @@ mod Goings
 mod RecordLemmas
 mod TrailLemmas
 mod Cuts
+mod Alikeness
 mod Guidance
 mod Reasons
 mod StepLemmas

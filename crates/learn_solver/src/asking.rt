@@ -1,9 +1,10 @@
 //! A question is set beside the last one: the trail and what is known of the assumptions stay as far as the two agree.
-ghost use Rattle.std.specs.Prelude.{◌≡◌, ◌+◌, ◌<◌, ◌≤◌, ℕ, true, false, length, min, take, OnOk, IsTrue};
+ghost use Rattle.std.specs.Prelude.{◌≡◌, ◌+◌, ◌++◌, ◌<◌, ◌≤◌, ℕ, true, false, length, min, take, OnOk, IsTrue};
 ghost use Rattle.lits_core.specs.Literals.{variable_of};
 ghost use Rattle.watch_arena.specs.Places.{is_true};
 ghost use Rattle.watch_arena.specs.Trails.{AreInRange, places_up_to};
 
+use crate::alike::common_len;
 use crate::learner::Learner;
 use lits_core::Lit;
 use std::alloc::AllocError;
@@ -14,18 +15,16 @@ impl Learner {
     ghost use Rattle.learn_solver.specs.Learners.{seen, guide_of, IsSound, IsNext, Passes};
 
     // How many of the first assumptions are those that were asked last.
-    fn agreed(&self, assumptions: &[Lit]) -> usize
+    fn agreed(&self, assumptions: &[Lit], more: &[Lit]) -> usize
         ensures asked { result ≤ length self.now.asked.items }
-        ensures within { result ≤ length assumptions.now }
-        ensures same { take result self.now.asked.items ≡ take result assumptions.now }
+        ensures within { result ≤ length (assumptions.now ++ more.now) }
+        ensures same { take result self.now.asked.items ≡ take result (assumptions.now ++ more.now) }
     {
-        let most = assumptions.len().min(self.asked.len());
-        for number in 0..most {
-            if self.asked[number] != assumptions[number] {
-                return number;
-            }
+        let first = common_len(&self.asked, assumptions);
+        if first < assumptions.len() {
+            return first;
         }
-        most
+        first + common_len(&self.asked[first..], more)
     }
 
     // How many of the first levels begin with one of the first assumptions.
@@ -42,17 +41,24 @@ impl Learner {
     }
 
     // The assumptions that were asked last are these now, of which the first agree.
-    fn note_asked(&mut self, assumptions: &[Lit], agreed: usize) -> Result<(), AllocError>
+    fn note_asked(
+        &mut self,
+        assumptions: &[Lit],
+        more: &[Lit],
+        agreed: usize,
+    ) -> Result<(), AllocError>
         requires asked { agreed ≤ length self.old.asked.items }
-        requires within { agreed ≤ length assumptions.now }
-        requires same { take agreed self.old.asked.items ≡ take agreed assumptions.now }
+        requires within { agreed ≤ length (assumptions.now ++ more.now) }
+        requires same { take agreed self.old.asked.items ≡ take agreed (assumptions.now ++ more.now) }
         ensures same { self.new ≡ record self.old { asked = self.new.asked; passed = min self.old.passed agreed } }
-        ensures agreed { (n : ℕ) × (agreed ≤ n) × (n ≤ length assumptions.now) × (self.new.asked.items ≡ take n assumptions.now) }
-        ensures ok { OnOk result (self.new.asked.items ≡ assumptions.now) }
+        ensures agreed { (n : ℕ) × (agreed ≤ n) × (n ≤ length (assumptions.now ++ more.now)) × (self.new.asked.items ≡ take n (assumptions.now ++ more.now)) }
+        ensures ok { OnOk result (self.new.asked.items ≡ assumptions.now ++ more.now) }
     {
+        let first = agreed.min(assumptions.len());
         self.passed = self.passed.min(agreed);
         self.asked.truncate(agreed);
-        self.asked.extend_from_slice(&assumptions[agreed..])
+        self.asked.extend_from_slice(&assumptions[first..])?;
+        self.asked.extend_from_slice(&more[agreed - first..])
     }
 
     // Notes that the next level begins with the next assumption. False where memory is wanting.
@@ -115,17 +121,17 @@ impl Learner {
     }
 
     // Takes up a question where the last one left the trail. What the two agree on is compared, and not followed again.
-    pub(crate) fn ask(&mut self, assumptions: &[Lit]) -> Result<(), AllocError>
+    pub(crate) fn ask(&mut self, assumptions: &[Lit], more: &[Lit]) -> Result<(), AllocError>
         requires sound { IsSound self.old }
-        requires range { AreInRange assumptions.now self.old.trail.variables }
+        requires range { AreInRange (assumptions.now ++ more.now) self.old.trail.variables }
         ensures sound { IsSound self.new }
         ensures goes { GoesTo (seen self.old) (seen self.new) }
-        ensures ok { OnOk result (self.new.asked.items ≡ assumptions.now) }
+        ensures ok { OnOk result (self.new.asked.items ≡ assumptions.now ++ more.now) }
     {
-        let agreed = self.agreed(assumptions);
+        let agreed = self.agreed(assumptions, more);
         let level = self.level_of_first(agreed);
         self.lower(level);
-        let noted = self.note_asked(assumptions, agreed);
+        let noted = self.note_asked(assumptions, more, agreed);
         self.pass();
         noted
     }

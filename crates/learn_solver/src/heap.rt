@@ -22,23 +22,9 @@ pub(crate) struct Heap {
     step: u64,
 }
 
-// A number of a list; 0 past its end.
-fn read_activity(numbers: &[u64], at: usize) -> u64 {
-    if at < numbers.len() { numbers[at] } else { 0 }
-}
-
-// The place of a variable.
-fn read_place(places: &[usize], at: usize) -> usize {
-    if at < places.len() {
-        places[at]
-    } else {
-        NOWHERE
-    }
-}
-
 // The variable at a place of the heap.
 fn read_entry(entries: &[u32], at: usize) -> u32 {
-    if at < entries.len() { entries[at] } else { 0 }
+    entries.get(at).copied().unwrap_or(0)
 }
 
 impl Heap {
@@ -57,19 +43,18 @@ impl Heap {
     // The activity of the variable at a place.
     fn activity_at(&self, at: usize) -> u64 {
         let variable = read_entry(&self.entries, at) as usize;
-        read_activity(&self.activities, variable)
+        self.activities.get(variable).copied().unwrap_or(0)
     }
 
     // A variable stands at a place from here on.
     fn place(&mut self, at: usize, variable: u32)
         ensures { self.new.count ≡ self.old.count }
     {
-        if at < self.entries.len() {
-            self.entries[at] = variable;
+        if let Some(entry) = self.entries.get_mut(at) {
+            *entry = variable;
         }
-        let index = variable as usize;
-        if index < self.places.len() {
-            self.places[index] = at;
+        if let Some(place) = self.places.get_mut(variable as usize) {
+            *place = at;
         }
     }
 
@@ -105,11 +90,8 @@ impl Heap {
         }
         let left = 2 * at + 1;
         let right = left + 1;
-        if right < self.count && self.activity_at(right) > self.activity_at(left) {
-            Some(right)
-        } else {
-            Some(left)
-        }
+        let is_right = right < self.count && self.activity_at(right) > self.activity_at(left);
+        Some(if is_right { right } else { left })
     }
 
     // Moves a variable down until none below it is more active.
@@ -131,7 +113,8 @@ impl Heap {
 
     // Puts a variable in, unless it is there.
     pub(crate) fn push(&mut self, variable: u32) {
-        let place = read_place(&self.places, variable as usize);
+        let index = variable as usize;
+        let place = self.places.get(index).copied().unwrap_or(NOWHERE);
         let at = self.count;
         if place == NOWHERE && at < self.entries.len() {
             self.count = at + 1;
@@ -151,10 +134,7 @@ impl Heap {
         self.exchange(0, last);
         self.count = last;
         let variable = read_entry(&self.entries, last);
-        self.place(last, variable);
-        if (variable as usize) < self.places.len() {
-            self.places[variable as usize] = NOWHERE;
-        }
+        self.place(NOWHERE, variable);
         self.sift_down(0);
         Some(variable)
     }
@@ -162,28 +142,23 @@ impl Heap {
     // A variable becomes more active.
     fn bump(&mut self, variable: u32) {
         let index = variable as usize;
-        if index < self.activities.len() {
-            let activity = self.activities[index].saturating_add(self.step);
-            self.activities[index] = activity;
-            if activity > LIMIT {
+        if let Some(activity) = self.activities.get_mut(index) {
+            *activity = activity.saturating_add(self.step);
+            if *activity > LIMIT {
                 self.rescale();
             }
         }
-        let place = read_place(&self.places, index);
+        let place = self.places.get(index).copied().unwrap_or(NOWHERE);
         if place < self.count {
             self.sift_up(place);
         }
     }
 
-    // Each of some variables becomes more active.
+    // Each of some variables becomes more active, and what becomes active from here on counts more.
     pub(crate) fn bump_all(&mut self, variables: &[u32]) {
         for variable in variables {
             self.bump(*variable);
         }
-    }
-
-    // What becomes active from here on counts more.
-    pub(crate) fn decay(&mut self) {
         self.step = self.step.saturating_add(self.step / 16);
         if self.step > LIMIT {
             self.rescale();

@@ -169,8 +169,5 @@ impl Learner {
 fn next_id(id: u64) -> Result<u64, AllocError>
     ensures { IfOk result (λ next. next ≡ id + 1) }
 {
-    match id.checked_add(1) {
-        Some(next) => Ok(next),
-        None => Err(AllocError),
-    }
+    id.checked_add(1).ok_or(AllocError)
 }

@@ -1,6 +1,7 @@
 //! A solver of clauses that learns from conflicts.
 #![tactic(auto)]
 
+mod alike;
 mod asking;
 mod heap;
 mod learner;

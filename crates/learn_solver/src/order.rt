@@ -62,20 +62,18 @@ impl Order {
         ensures { self.new ≡ self.old }
     {
         self.heap.bump_all(variables);
-        self.heap.decay();
     }
 
     // A literal is true no more.
     pub(crate) fn free(&mut self, lit: Lit)
         ensures { self.new ≡ self.old }
     {
-        let variable = lit.variable();
-        let index = variable as usize;
+        let index = lit.variable() as usize;
         if index < self.values.len() {
             self.values[index] = !lit.is_negative();
         }
         if index < self.noted.len() && self.noted[index] {
-            self.heap.push(variable);
+            self.heap.push(lit.variable());
         }
     }
 
@@ -98,13 +96,8 @@ fn literal(variable: u32, values: &[bool]) -> Lit
     requires { variable < 2 ^ 31 }
     ensures { variable_of result ≡ variable }
 {
-    let index = variable as usize;
-    let negative = if index < values.len() {
-        !values[index]
-    } else {
-        true
-    };
-    Lit::new(variable, negative)
+    let positive = values.get(variable as usize).copied().unwrap_or(false);
+    Lit::new(variable, !positive)
 }
 
 // Whether a variable can be decided.
@@ -112,10 +105,7 @@ fn is_free(variable: u32, trail: &Trail, count: usize) -> bool
     requires { count ≡ trail.now.variables }
     ensures { IsTrue result → (variable < 2 ^ 31) × (variable < trail.now.variables) × (place_of trail.now.places variable ≡ None) }
 {
-    if variable >= LITERALS || variable as usize >= count {
-        return false;
-    }
-    trail.value(variable).is_none()
+    variable < LITERALS && (variable as usize) < count && trail.value(variable).is_none()
 }
 
 // The most active variable that can be decided. Those before it leave the heap.
@@ -138,11 +128,8 @@ fn unassigned(noted: &[bool], trail: &Trail) -> Option<u32>
     ensures { MatchOption result (AreAssigned noted.now trail.now.places) (λ v. (v < 2 ^ 31) × (v < trail.now.variables) × (place_of trail.now.places v ≡ None)) }
 {
     for (at, is_noted) in noted.iter().enumerate() {
-        if *is_noted {
-            let variable = at as u32;
-            if trail.value(variable).is_none() {
-                return Some(variable);
-            }
+        if *is_noted && trail.value(at as u32).is_none() {
+            return Some(at as u32);
         }
     }
     None

@@ -58,10 +58,7 @@ impl Learner {
         self.facts();
         let mut top = 0;
         for place in 0..self.trail.arena().len_of(at) {
-            let level = self.level_of(self.lit_of(at, place));
-            if level > top {
-                top = level;
-            }
+            top = top.max(self.level_of(self.lit_of(at, place)));
         }
         top
     }
@@ -97,12 +94,7 @@ impl Learner {
         requires { variable_of lit < self.now.trail.variables }
         ensures { IsTrue result → (stands.now ≡ Some lit) ⊎ IsTrue (is_decided self.now.trail.places (negation_of lit)) }
     {
-        if let Some(other) = stands {
-            if *other == lit {
-                return true;
-            }
-        }
-        self.is_assumed(lit.negate())
+        *stands == Some(lit) || self.is_assumed(lit.negate())
     }
 
     // Whether each literal of a clause is the negation of an assumed one, or the one that is let stand.
@@ -195,10 +187,7 @@ impl Learner {
         ensures given { number < self.now.given → result ≡ false }
         ensures derived { self.now.given ≤ number → result ≡ not (is_reason self.now.trail.places at) }
     {
-        if number < self.given {
-            return false;
-        }
-        !self.is_reason(at)
+        number >= self.given && !self.is_reason(at)
     }
 
     // How many derived clauses are the reason of no literal.

@@ -1,5 +1,5 @@
 //! The search for bits.
-ghost use Rattle.std.specs.Prelude.{◌≡◌, ◌≢◌, ◌<◌, ℕ, false, Some, None, length, IfOk, OnOk, IsTrue, MatchOption, Contains};
+ghost use Rattle.std.specs.Prelude.{◌≡◌, ◌≢◌, ◌++◌, ◌<◌, ℕ, false, Some, None, length, IfOk, OnOk, IsTrue, MatchOption, Contains};
 ghost use Rattle.lits_core.specs.Literals.{variable_of, negation_of};
 ghost use Rattle.clause_arena.specs.Records.{record_at};
 ghost use Rattle.watch_arena.specs.Places.{place_of, is_true, is_false, reason_of};
@@ -232,15 +232,15 @@ impl Learner {
     }
 
     // Searches for bits until there are some, or a clause shows that there are none.
-    pub(crate) fn solve(&mut self, assumptions: &[Lit]) -> Result<Answer, AllocError>
+    pub(crate) fn solve(&mut self, assumptions: &[Lit], more: &[Lit]) -> Result<Answer, AllocError>
         requires sound { IsSound self.old }
-        requires range { AreInRange assumptions.now self.old.trail.variables }
-        requires consistent { AreConsistent assumptions.now }
+        requires range { AreInRange (assumptions.now ++ more.now) self.old.trail.variables }
+        requires consistent { AreConsistent (assumptions.now ++ more.now) }
         ensures sound { IsSound self.new }
         ensures goes { GoesTo (seen self.old) (seen self.new) }
-        ensures answer { IfOk result (IsAnswer (seen self.new) assumptions.now) }
+        ensures answer { IfOk result (IsAnswer (seen self.new) (assumptions.now ++ more.now)) }
     {
-        self.ask(assumptions)?;
+        self.ask(assumptions, more)?;
         loop {
             if let Some(answer) = self.step()? {
                 return Ok(answer);

@@ -104,10 +104,5 @@ impl Learner {
 fn has(lits: &[Lit], lit: Lit) -> bool
     ensures { result ≡ has_lit lits.now lit }
 {
-    for other in lits {
-        if *other == lit {
-            return true;
-        }
-    }
-    false
+    lits.iter().any(|other| *other == lit)
 }

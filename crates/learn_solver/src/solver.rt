@@ -1,5 +1,5 @@
 //! The solver, as its users see it.
-ghost use Rattle.std.specs.Prelude.{◌≡◌, ◌≢◌, ◌+◌, [], None, length, IfOk, OnOk, OnErr, IfSome, IfNone, MatchOption, MatchResult, ⊤};
+ghost use Rattle.std.specs.Prelude.{◌≡◌, ◌≢◌, ◌+◌, ◌++◌, [], None, length, IfOk, OnOk, OnErr, IfSome, IfNone, MatchOption, MatchResult, ⊤};
 ghost use Rattle.lits_core.specs.Derivation.{State, first_state, live_clause, hints_fault, SameLits};
 ghost use Rattle.watch_arena.specs.Trails.{AreInRange};
 ghost use Rattle.learn_solver.specs.Solving.{SolverState, GoesTo, IsSolver, AddsGiven, IsTidied, AreConsistent, IsModel, IsRefutation};
@@ -66,13 +66,14 @@ impl Solver {
     /// Bits that meet the given clauses and the assumptions, or the clause that shows that there are none.
     ///
     /// Assumptions may repeat. The trail is kept between calls as far as the assumptions agree, so give those that stay first.
-    pub fn solve(&mut self, assumptions: &[Lit]) -> Result<Answer, AllocError>
-        requires range { AreInRange assumptions.now self.old.variables }
-        requires consistent { AreConsistent assumptions.now }
+    /// `more` stands behind the assumptions, so a caller that adds a few need not copy them.
+    pub fn solve(&mut self, assumptions: &[Lit], more: &[Lit]) -> Result<Answer, AllocError>
+        requires range { AreInRange (assumptions.now ++ more.now) self.old.variables }
+        requires consistent { AreConsistent (assumptions.now ++ more.now) }
         ensures kept { GoesTo self.old self.new }
-        ensures answer { IfOk result (IsAnswer self.new assumptions.now) }
+        ensures answer { IfOk result (IsAnswer self.new (assumptions.now ++ more.now)) }
     {
-        self.learner.solve(assumptions)
+        self.learner.solve(assumptions, more)
     }
 
     /// Adds a clause that live clauses show, with its line, and answers its id. None comes where the hints do not show it, and

@@ -83,9 +83,9 @@ fn asked(solver: &mut Solver, lits: &[Lit]) -> Result<Answer, AllocError>
     requires consistent { AreConsistent lits.now }
     ensures { solver.new.variables ≡ solver.old.variables }
 {
-    match solver.solve(lits) {
+    match solver.solve(lits, &[]) {
         Ok(answer) => Ok(answer),
-        Err(_) => solver.solve(lits),
+        Err(_) => solver.solve(lits, &[]),
     }
 }
 

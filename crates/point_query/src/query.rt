@@ -38,8 +38,8 @@ pub(crate) fn query(
     needs_are_literals();
     law_derived_clauses_follow();
     law_literals_are_sets();
-    let assumed = with_need(alloc, problem, selectors, need)?;
-    match solver.solve(&assumed)? {
+    let more = lits_of(alloc, problem, need)?;
+    match solver.solve(selectors, &more)? {
         Answer::Bits(bits) => {
             let point = front(alloc, &bits, problem.concept_count() as usize)?;
             Ok(Found::Point(point))
@@ -48,21 +48,16 @@ pub(crate) fn query(
     }
 }
 
-// Literals, and then those of a need.
-fn with_need(
-    alloc: Global,
-    problem: &Problem,
-    lits: &[Lit],
-    need: Need,
-) -> Result<Vec<Lit>, AllocError>
+// The literals of a need.
+fn lits_of(alloc: Global, problem: &Problem, need: Need) -> Result<Vec<Lit>, AllocError>
     requires { IsInRange problem.now need }
-    ensures { IfOk result (λ all. all.items ≡ lits.now ++ need_lits (need_seen problem.now need)) }
+    ensures { IfOk result (λ lits. lits.items ≡ need_lits (need_seen problem.now need)) }
 {
-    let mut all = Vec::from_slice(alloc, lits)?;
+    let mut lits = Vec::new(alloc);
     let [first, second] = need_lits(problem, need);
-    push_there(&mut all, first)?;
-    push_there(&mut all, second)?;
-    Ok(all)
+    push_there(&mut lits, first)?;
+    push_there(&mut lits, second)?;
+    Ok(lits)
 }
 
 // Adds a literal, if there is one.

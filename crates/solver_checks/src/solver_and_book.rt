@@ -120,7 +120,7 @@ pub(crate) fn solve(solver: &mut Solver, numbers: [i32; 3]) -> Result<Answer, Al
     ensures { solver.new.variables ≡ 22 }
 {
     let [a, b, c] = numbers;
-    solver.solve(&[variable(a), variable(b), variable(c)])
+    solver.solve(&[variable(a), variable(b), variable(c)], &[])
 }
 
 /// Whether bits say that a variable holds, given by its number.
@@ -261,7 +261,7 @@ fn an_answer_stands_after_forgetting(rt: HostRuntime) -> Result<(), Fail> {
 /// Whether a solver refutes its clauses, by more than one line, and a book accepts the lines and then has the clause with no
 /// literals.
 fn is_refuted(solver: &mut Solver, book: &mut Book) -> Result<bool, AllocError> {
-    match solver.solve(&[])? {
+    match solver.solve(&[], &[])? {
         Answer::Refuted(id) => Ok(
             solver.lines().len() > 1
                 && accept_all(book, solver.lines()).is_ok()

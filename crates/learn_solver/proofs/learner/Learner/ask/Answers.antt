@@ -1,4 +1,4 @@
-use Rattle.std.proofs.Common.{◌≡◌, ◌∙◌, ◌<◌, ◌≤◌, ℕ, List, min, take, get_or, length, ap, sym, subst, arith, length-take}
+use Rattle.std.proofs.Common.{◌≡◌, ◌∙◌, ◌++◌, ◌<◌, ◌≤◌, ℕ, List, min, take, get_or, length, ap, sym, subst, arith, length-take}
 use Rattle.std.proofs.lemmas.List.{get_or-take}
 use Rattle.learn_solver.specs.declared.learner.Learner.{Learner}
 use Rattle.learn_solver.specs.Guides.{Guide, IsMarked, passed_by}
@@ -38,7 +38,7 @@ pass-requires-clause-marked c =
     let asked = ap (λ (l : Learner). l.asked.items) lowers.same in
     subst (λ (l : Learner). IsMarked (guide_of l)) (sym c.note_asked-noted.ensures.same)
     (IsMarked-asked (guide_of c.lower.new.self) c.note_asked-noted.new.self.asked.items c.agreed-agreed.result marked (omega arith)
-    (λ k lt. same-first c.args.self.now.asked.items c.args.assumptions.now c.note_asked-noted.new.self.asked.items c.agreed-agreed.result n k c.agreed-agreed.ensures.same is more lt ∙ ap (λ (xs : List ℕ). get_or xs k 0) (sym asked))
+    (λ k lt. same-first c.args.self.now.asked.items (c.args.assumptions.now ++ c.args.more.now) c.note_asked-noted.new.self.asked.items c.agreed-agreed.result n k c.agreed-agreed.ensures.same is more lt ∙ ap (λ (xs : List ℕ). get_or xs k 0) (sym asked))
     (first-lowered c.args.self.now c.lower.new.self c.level_of_first-level.result c.agreed-agreed.result lowers c.level_of_first-level.ensures.first))
 
 -- clauses, variables and lines stay

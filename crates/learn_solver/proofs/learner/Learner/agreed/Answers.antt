@@ -1,0 +1,11 @@
+use Rattle.std.proofs.Common.{◌≡◌, ◌-◌, ℕ, List, length, take, drop, subst, arith}
+use Rattle.learn_solver.proofs.Alikeness.{alike_both}
+use Rattle.learn_solver.proofs.learner.Learner.agreed.Goals as goal
+
+pub returns-clause-same : goal.returns-clause-same
+returns-clause-same c =
+    let first = c.common_len-first.result in
+    let more = c.common_len.result in
+    alike_both first more c.args.self.now.asked.items c.args.assumptions.now c.args.more.now (omega (arith, c.common_len-first.ensures.other))
+    (subst (λ (asked : List ℕ). take first asked ≡ take first c.args.assumptions.now) c.deref.ensures.value c.common_len-first.ensures.same)
+    (subst (λ (asked : List ℕ). take more (take (length asked - first) (drop first asked)) ≡ take more c.args.more.now) c.deref-2.ensures.value c.common_len.ensures.same)
