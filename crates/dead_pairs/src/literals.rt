@@ -3,7 +3,7 @@ ghost use Rattle.std.specs.Prelude.{◌<◌};
 ghost use Rattle.lits_core.specs.Literals.{variable_of};
 ghost use Rattle.world_model.specs.Problem.{concept_count};
 
-use constraint_set::Problem;
+use constraint_set::{MAX_CONCEPTS, Problem};
 use lits_core::Lit;
 
 /// The number of the need of the points that make two literals true, if there is one.
@@ -35,8 +35,8 @@ fn region_of(problem: &Problem, left: Lit, right: Lit) -> Option<u64>
 
 /// The literals that say that a point is in a region of a pair.
 pub(crate) fn lits_of(left: u32, right: u32, part: u32) -> [Lit; 2]
-    requires left { left < 1024 }
-    requires right { right < 1024 }
+    requires left { left < MAX_CONCEPTS }
+    requires right { right < MAX_CONCEPTS }
 {
     [Lit::new(left, part == 2), Lit::new(right, part == 0)]
 }
