@@ -10,6 +10,6 @@ returns-then-closes c =
     let p = c.args.problem.now in
     let need = need_seen p c.in-Some.need in
     let named : need_with p c.args.number ≡ Some need = sym c.need_of.ensures.value ∙ ap (option_map (need_seen p)) c.in-Some.is in
-    let both = closed_alone c.clauses_are_points.ensures c.needs_are_literals.ensures c.law_literals_are_sets.ensures p c.args.lone c.args.asker.now need c.args.number c.args.clause c.facts.ensures c.requires.within
+    let both = closed_alone c.clauses_are_points.ensures c.needs_are_literals.ensures c.law_literals_are_sets.ensures p c.args.lone c.args.asker.now need c.args.number c.args.clause c.facts.ensures.built c.requires.within
     c.facts-2.ensures c.requires.shape named (sym c.is_forced.ensures ∙ c.if-not-is_forced.false) (c.closes.ensures c.if-closes.true) in
     record { closed = both.0; from_one = omega (arith, c.if-clause-lt1.false); dead = both.1 }
