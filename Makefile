@@ -5,11 +5,10 @@ PROGRAM = crates/euler_align/out/euler_align
 
 .PHONY: all check pages tools install uninstall
 
-# Builds, and runs a small example. From nothing it takes tens of minutes, since all is proved; crates are proved side by side.
+# Builds, and runs a small example. From nothing it takes tens of minutes, since all is proved.
 all:
 	@command -v rt >/dev/null || { echo "make: rt is not on the path; it comes with the kit that README.md names" >&2; exit 1; }
-	rt ci euler_align
-	cd crates/euler_align && out/euler_align align in=data/p.txt
+	cd crates/euler_align && rt run -- align in=data/p.txt
 	@echo "built: $(PROGRAM); make install PREFIX=.. puts it into PREFIX/bin"
 
 # The gate: every proof, wrong body, test and program.
