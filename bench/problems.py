@@ -9,6 +9,8 @@ sums A B              flat, where each child of the second root but the last is 
 split A B             flat, with {equals disjoint} or {includes overlaps} between the first children
 roots N M             N and M concepts without parents; each of the first lies in or apart from one of the second
 planted SEED SIZE     generated, with an equals first and a disjoint last on one pair of a fixed block
+doubtful SIZE K       two trees of SIZE/2 concepts, K children to a concept, each concept equal to the one in its place in the other tree, but
+                      for each third, which may overlap it too
 repeated SIZE COUNT   flat, SIZE/2 concepts a side, with COUNT statements, each pair's equals again and again, and a disjoint last"""
 import sys
 
@@ -115,6 +117,15 @@ def planted(seed, size):
     return lines + [f"[1.b{block} disjoint 2.b{block}]"]
 
 
+def doubtful(size, children):
+    half = size // 2
+    rows = []
+    for parent, first in enumerate(range(1, half, children)):
+        rows.append("(" + " ".join(f"c{k}" for k in [parent, *range(first, min(first + children, half))]) + ")")
+    said = [f"[1.c{k} {'equals' if k % 3 else '{equals overlaps}'} 2.c{k}]" for k in range(half)]
+    return ["taxonomy 1", *rows, "taxonomy 2", *rows, "articulation", *said]
+
+
 def repeated(size, count):
     half = size // 2 - 1
     lines = two_roots(half, half)
@@ -123,7 +134,7 @@ def repeated(size, count):
 
 
 FAMILIES = {"generated": generated, "flat": two_roots, "loose": loose, "chain": chain, "sums": sums, "split": split, "roots": roots, "planted": planted,
-            "repeated": repeated}
+            "doubtful": doubtful, "repeated": repeated}
 
 if __name__ == "__main__":
     kind, one, other = sys.argv[1], int(sys.argv[2]), int(sys.argv[3])

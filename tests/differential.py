@@ -16,7 +16,7 @@ import collections
 import json
 import os
 import random
-import subprocess
+import signal
 import sys
 import tempfile
 
@@ -37,8 +37,10 @@ class Runner:
 
     def __init__(self, program, folder):
         self.program = os.path.abspath(program)
-        self.folder = folder
+        self.folder = os.path.join(folder, "run")
+        self.output = os.path.join(folder, "output")
         self.runs = 0
+        os.mkdir(self.folder)
         self.answers = collections.Counter()  # last lines that are compared, without their numbers
 
     def hold(self, name, data):
@@ -59,11 +61,18 @@ class Runner:
             pass
 
     def run(self, words):
+        """The exit code and the text of a run. It is started without the pipes and threads of subprocess, since there are very many."""
         self.runs += 1
-        done = subprocess.run(
-            [self.program] + words, cwd=self.folder, stdout=subprocess.PIPE, stderr=subprocess.DEVNULL, timeout=60
-        )
-        return done.returncode, done.stdout.decode("utf-8", "replace")
+        os.chdir(self.folder)
+        to = os.O_WRONLY | os.O_CREAT | os.O_TRUNC
+        outputs = [(os.POSIX_SPAWN_OPEN, 1, self.output, to, 0o600), (os.POSIX_SPAWN_OPEN, 2, "/dev/null", os.O_WRONLY, 0)]
+        child = os.posix_spawn(self.program, [self.program] + words, os.environ, file_actions=outputs)
+        signal.signal(signal.SIGALRM, lambda *_: os.kill(child, signal.SIGKILL))
+        signal.alarm(60)
+        _, status = os.waitpid(child, 0)
+        signal.alarm(0)
+        with open(self.output, "rb") as f:
+            return os.waitstatus_to_exitcode(status), f.read().decode("utf-8", "replace")
 
     def same(self, words, code, text):
         got = self.run(words)

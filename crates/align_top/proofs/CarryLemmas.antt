@@ -1,6 +1,6 @@
 -- How an order is carried out, by its parts.
 use Rattle.std.proofs.Common.{◌≡◌, ℕ, Bool, true, false, List, [], ◌∷◌, ◌++◌, Option, None, Some, Result, Ok, Err, length, refl, sym, ap, subst, ◌∙◌, inl, inr, ⊎_elim, arith}
-use Rattle.std.specs.Prelude.{◌==◌, ◌&&◌, if◌then◌else◌, flat_map, option_map, IfSome, IsTrue, is_some, All, Contains, IfOk}
+use Rattle.std.specs.Prelude.{◌==◌, ◌&&◌, if◌then◌else◌, flat_map, option_map, IfSome, IsTrue, is_some, Contains, IfOk}
 use Rattle.std.specs.Option.{option_to_list}
 use Rattle.std.proofs.lemmas.List.Elements.{All-nil, All-cons}
 use Rattle.std.proofs.lemmas.Bool.{eqb-true}
@@ -21,7 +21,8 @@ use Rattle.run_ends.proofs.EndLemmas.{none_written}
 use Rattle.align_top.specs.declared.Order.{Order}
 use Rattle.resume_token.specs.Token.{token_text}
 use Rattle.claims_run.specs.Answering.{file_under}
-use Rattle.align_top.specs.Output.{last_line, count_of, listing_text, listing_status, token_under, IsCertOf, written_names}
+use Rattle.world_watch.specs.Held.{count_of}
+use Rattle.align_top.specs.Output.{last_line, listing_text, listing_status, token_under, IsCertOf, written_names}
 use Rattle.align_top.specs.Logged.{IsCertLeft, IsListedWith}
 use Rattle.align_top.specs.Putting.{IsPutPartly}
 use Rattle.align_top.specs.Steps.{status_at, AreApart, IsCutEnded, IsEnded, order_answers}

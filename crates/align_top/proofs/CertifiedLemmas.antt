@@ -1,5 +1,5 @@
 -- A listing whose certificate a store holds.
-use Rattle.std.proofs.Common.{◌≡◌, ℕ, Bool, true, false, List, [], ◌∷◌, ◌++◌, Option, None, Some, IfSome, IfOk, OnErr, Result, Ok, Err, refl, sym, ap, subst, ◌∙◌, inl, inr, ⊎_elim}
+use Rattle.std.proofs.Common.{◌≡◌, ℕ, Bool, false, List, [], ◌∷◌, ◌++◌, Option, None, Some, IfSome, IfOk, OnErr, Result, Ok, Err, refl, sym, ap, subst, ◌∙◌, inl, inr, ⊎_elim}
 use Rattle.std.specs.Prelude.{◌⊎◌, Contains}
 use Rattle.std.specs.Result.{IsErrAnd}
 use Rattle.outer_store.specs.Contents.{Contents, OthersKept, emptied}
@@ -12,9 +12,8 @@ use Rattle.world_model.specs.Problem.{Problem}
 use Rattle.constraint_set.specs.Facts.{IsBuilt}
 use Rattle.world_model.specs.Listing.{IsListing}
 use Rattle.world_model.proofs.OrderListings.{one_listing_law}
-use Rattle.cert_text.specs.declared.line.CertLine.{CertLine}
 use Rattle.cert_text.specs.declared.line.CertLine.TheVariants.{End}
-use Rattle.cert_text.specs.Logs.{Told, lines_in, lines_held}
+use Rattle.cert_text.specs.Logs.{Told, lines_held}
 use Rattle.std.specs.Borrow.{Bor}
 use Rattle.cert_text.specs.declared.store_log.StoreLog.{StoreLog}
 use Rattle.cert_text.specs.StoreLogs.{log_store, log_name, is_refused, OnlyWritten}
@@ -28,6 +27,7 @@ use Rattle.align_top.specs.Putting.{IsOrder, IsPutToCut, IsPutPartly}
 use Rattle.align_top.specs.Logged.{IsToldWhole, IsListedIn, IsCertLeft, IsListedWith}
 use Rattle.align_top.proofs.WrittenLemmas.{is_first}
 use Rattle.cert_check.proofs.WrittenLemmas.{written_is_accepted_law}
+use Rattle.claims_run.proofs.CertifiedLemmas.{told_bytes}
 
 kept_but_one : (name : List ℕ) (old new : Contents) → OthersKept name old new → AreKeptBut (name ∷ []) old new
 kept_but_one name old new others other apart = others other (λ e. apart (subst (Contains (name ∷ [])) (sym e) (is_first name [])))
@@ -63,12 +63,6 @@ pub create_refused : (T : Type 0) (e : StoreFault) (r : Result Listed StoreFault
 create_refused T e (Ok x) order name store store' sink is cause others part = absurd is
 create_refused T e (Err f) order name store store' sink is cause others part =
     subst (λ f. IsListedWith order (Some name) (Err f) store store' sink sink) (sym is) (create_refused_by T e order name store store' sink cause others part)
-
--- what a name holds whose lines are told
-told_bytes : (refused : Bool) (held : Option (List ℕ)) (lines : List CertLine) → lines_held refused held ≡ Some lines → (bytes : List ℕ) × (held ≡ Some bytes) × (lines_in bytes ≡ Some lines)
-told_bytes true held lines e = absurd (cc)
-told_bytes false None lines e = absurd (cc)
-told_bytes false (Some bytes) lines e = (bytes, refl, e)
 
 accepted_same : (p : Problem) (from : List Rel) (to : Option (List Rel)) (these those : List (List Rel)) (bytes : List ℕ) → IsListing p from to these → IsListing p from to those
     → cert_answer p bytes ≡ Accepts (Listing from to these) → cert_answer p bytes ≡ Accepts (Listing from to those)

@@ -9,7 +9,8 @@ use Rattle.world_model.specs.Laws.{is_not_above_end}
 use Rattle.world_model.specs.Node.{IsCut}
 use Rattle.world_model.proofs.OrderListings.{listing, listings_join_law}
 use Rattle.align_top.specs.Resuming.{Part, IsChain}
-use Rattle.align_top.proofs.CutLemmas.{nothing_there, itself, later}
+use Rattle.trial_run.proofs.FoundLemmas.{nothing_there}
+use Rattle.align_top.proofs.CutLemmas.{itself, later}
 
 -- what a chain lists, and that it ends not before its start
 record Chained (p : Problem) (from : List Rel) (end : Option (List Rel)) (parts : List Part) : Type 0 where

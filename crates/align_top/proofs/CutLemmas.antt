@@ -5,7 +5,7 @@ use Rattle.std.proofs.lemmas.Bool.{true≢false, not-true, not_from_false}
 use Rattle.rcc5_core.specs.declared.Rel.{Rel}
 use Rattle.world_model.specs.Problem.{Problem, is_problem}
 use Rattle.world_model.specs.Family.{IsPossibleWorld}
-use Rattle.world_model.specs.Listing.{is_below, is_before_end, is_between, IsListing}
+use Rattle.world_model.specs.Listing.{is_below, is_before_end, IsListing}
 use Rattle.world_model.specs.Laws.{is_not_above_end}
 use Rattle.world_model.specs.Node.{IsNode, IsNodeFrom, IsNodeList, IsReached, IsSpent, IsCut}
 use Rattle.world_model.specs.Trial.{nodes_between, worlds_between}
@@ -16,16 +16,10 @@ use Rattle.world_model.proofs.OrderListings.{listed, listing, noded, node_list, 
 use Rattle.world_model.proofs.PointPositions.{prefix_is_node}
 use Rattle.world_model.proofs.TrialNodes.{nodes_between_exactly}
 use Rattle.world_model.proofs.TrialLaws.{trial_is_right_law}
-use Rattle.world_search.specs.Searching.{StandsBetween, Passes, FellBy}
+use Rattle.world_search.specs.Searching.{Passes, FellBy}
 use Rattle.align_top.specs.declared.Order.{Order}
 use Rattle.align_top.specs.Putting.{AreUpTo, LastsTo}
-
--- nothing stands from a place on and below it
-pub nothing_there : (W : List Rel → Type 0) (q : List Rel) → IsExactly (Between W q (Some q)) []
-nothing_there W q = record { ascending = refl; sound = λ t i. elim i [ ]; complete = λ t w. absurd (never t w.1) }
-  where
-    never : (t : List Rel) → IsTrue (is_between q (Some q) t) → ⊥
-    never t h = let parts = between_parts q (Some q) t h in true≢false (sym parts.1 ∙ parts.0)
+use Rattle.trial_run.proofs.FoundLemmas.{nothing_there, not_above}
 
 -- no position is above itself
 pub itself : (m : List Rel) → IsTrue (not (is_below m m))
@@ -40,11 +34,6 @@ up_to_start order = record {
 
 pub lasts_start : (order : Order) → LastsTo order (Some order.start)
 lasts_start order m from less spent = true≢false (sym less ∙ not-true (is_below m order.start) from.1)
-
--- a later place
-not_above : (p : Problem) (one : List Rel) (other : Option (List Rel)) (nodes worlds : List (List Rel)) → StandsBetween p one other nodes worlds → IsTrue (is_not_above_end one other)
-not_above p one None nodes worlds between = refl
-not_above p one (Some end) nodes worlds between = between.onward end (not_from_false (is_below end end) (below_itself end))
 
 pub later : (start at : List Rel) (other : Option (List Rel)) → IsTrue (not (is_below at start)) → IsTrue (is_not_above_end at other) → IsTrue (is_not_above_end start other)
 later start at None low high = refl

@@ -1,11 +1,10 @@
 -- Names of watchers that words may ask for.
-use Rattle.std.proofs.Common.{◌≡◌, ◌≢◌, ℕ, zero, suc, ◌+◌, ◌<◌, Bool, true, false, cond, ◌||◌, ◌&&◌, List, [], ◌∷◌, length, map, None, Some, refl, sym, ap, ◌∙◌, subst, arith}
-use Rattle.std.specs.Prelude.{All, AllPairs, Contains, bytes_eq, slice_index_or, not}
-use Rattle.std.specs.List.{list_all, list_any}
+use Rattle.std.proofs.Common.{◌≡◌, ◌≢◌, ℕ, suc, Bool, true, false, cond, ◌||◌, ◌&&◌, List, [], ◌∷◌, map, None, Some, refl, sym, subst, arith}
+use Rattle.std.specs.Prelude.{All, AllPairs, Contains, bytes_eq, not}
+use Rattle.std.specs.List.{list_all}
 use Rattle.std.proofs.lemmas.List.Elements.{All-nil, All-cons}
 use Rattle.std.proofs.lemmas.List.Kept.{AllPairs-cons}
 use Rattle.cert_text.proofs.ReadLemmas.{is_word}
-use Rattle.command_line.specs.declared.UsageKind.{UsageKind}
 use Rattle.command_line.specs.declared.UsageKind.TheVariants.{UnknownKind, KindTwice}
 use Rattle.command_line.specs.Words.{is_among, has_twice, names_fault}
 use Rattle.report_run.specs.Reporting.{Watched, AreKinds}

@@ -14,11 +14,12 @@ use Rattle.world_model.specs.Trial.{worlds_between, cut_by_trial}
 use Rattle.world_model.proofs.OrderListings.{listings_join_law, one_listing_law}
 use Rattle.world_model.proofs.OrderPositions.{below_itself}
 use Rattle.world_model.proofs.TrialLaws.{trial_is_right_law}
-use Rattle.world_search.specs.Searching.{SearchState, StandsBetween, Passes, FellBy, Came, IsNext, last_place}
+use Rattle.world_search.specs.Searching.{SearchState, StandsBetween, Passes, FellBy, Came, IsNext}
 use Rattle.world_search.specs.Steps.{StandsBehind}
 use Rattle.align_top.specs.declared.Order.{Order}
 use Rattle.run_ends.specs.Ends.{world_line}
-use Rattle.align_top.specs.Output.{last_line, count_of, listing_text}
+use Rattle.world_watch.specs.Held.{count_of}
+use Rattle.align_top.specs.Output.{last_line, listing_text}
 use Rattle.align_top.specs.Putting.{AreUpTo, LastsTo, worlds_from, IsPutTo, IsPutToCut, IsPutPartly, StandsAt, IsStop}
 use Rattle.align_top.proofs.CutLemmas.{up_to_start, lasts_start, up_to_more, lasts_on, lasts_behind, lasts_still, cut_none, cut_here, limit_reached, limit_unreached, fell_twice, fell_nothing, none_passed, no_world_passed}
 
@@ -273,8 +274,3 @@ if_refused (Ok x) fact h = tt
 if_refused (Err e) fact h = h
 
 pub ruleset world_rules = (put_nothing, put_one_more, put_no_more, put_cut, put_end_met, put_stopped, came_fewer)
-
--- a search without an end ends where all is passed
-pub at_no_end : (one other : SearchState) (before left : Option ℕ) (worlds : List (List Rel)) → one.to ≡ None → Came one other before left worlds
-    → other.at ≡ last_place other.from other.to → other.at ≡ None
-at_no_end one other before left worlds none came at = at ∙ ap (last_place other.from) (came.to ∙ none)

@@ -21,7 +21,8 @@ use Rattle.run_ends.specs.Ends.{world_line}
 use Rattle.run_ends.specs.Runs.{SinkState}
 use Rattle.align_top.specs.declared.listing.Listed.{Listed}
 use Rattle.align_top.specs.declared.Order.{Order}
-use Rattle.align_top.specs.Output.{last_line, count_of}
+use Rattle.world_watch.specs.Held.{count_of}
+use Rattle.align_top.specs.Output.{last_line}
 use Rattle.align_top.specs.Putting.{IsPutToCut, IsPutPartly}
 use Rattle.align_top.specs.Logged.{IsKeptIn, IsToldTo, IsToldWhole, LogMoves, IsListedIn}
 

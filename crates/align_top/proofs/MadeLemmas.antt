@@ -1,10 +1,10 @@
 -- What holds of each request that words make.
-use Rattle.std.proofs.Common.{◌≡◌, ℕ, Bool, true, false, List, [], ◌∷◌, map, Option, None, Some, Result, Ok, Err, refl, subst, inl, inr, ⊎_elim}
-use Rattle.std.specs.Prelude.{not, ◌||◌, ◌&&◌}
+use Rattle.std.proofs.Common.{◌≡◌, ℕ, Bool, true, false, List, [], ◌∷◌, map, None, Result, Ok, refl, subst, inl, inr, ⊎_elim}
+use Rattle.std.specs.Prelude.{not, ◌||◌}
 use Rattle.command_line.specs.declared.Command.{Command}
 use Rattle.command_line.specs.declared.Command.TheVariants as command
 use Rattle.command_line.specs.declared.Key.{Key}
-use Rattle.command_line.specs.declared.Key.TheVariants.{In, Cert, Nodes, Worlds, Token, Resume, Kinds, Seed, Size}
+use Rattle.command_line.specs.declared.Key.TheVariants.{In, Cert, Token, Resume, Kinds, Seed, Size}
 use Rattle.command_line.specs.declared.Operand.{Operand}
 use Rattle.command_line.specs.declared.Request.{Request}
 use Rattle.command_line.specs.declared.Request.TheVariants.{Align, Check, Mir, Conflict, Report, Trial}

@@ -1,5 +1,5 @@
 -- The place right behind a table, and what stands between it and others.
-use Rattle.std.proofs.Common.{◌≡◌, ◌≤◌, Bool, true, false, not, inl, inr, List, [], ◌∷◌, ◌++◌, Option, None, Some, length, length-append, append-nil, refl, sym, ap, subst, ◌∙◌, arith, IsTrue}
+use Rattle.std.proofs.Common.{◌≡◌, ◌≤◌, Bool, true, false, not, inl, inr, List, [], ◌∷◌, ◌++◌, Option, None, Some, length, length-append, append-nil, refl, sym, ap, ◌∙◌, arith, IsTrue}
 use Rattle.std.proofs.lemmas.Bool.{true≢false, not-true, not_from_false}
 use Rattle.rcc5_core.specs.declared.Rel.{Rel}
 use Rattle.rcc5_core.specs.declared.Rel.TheVariants.{Equals, Includes, IncludedIn, Overlaps, Disjoint}
@@ -13,14 +13,15 @@ use Rattle.world_model.proofs.Members.{here, there}
 use Rattle.world_model.proofs.OrderPositions.{below_itself, below_apart, below_cases, below_upto, below_longer, below_branch, first_or_rest}
 use Rattle.world_model.proofs.OrderLists.{IsExactly, Between, between_parts, between_from}
 use Rattle.world_model.proofs.OrderListings.{listed, listing, node_list, listings_join_law, one_listing_law}
-use Rattle.world_model.proofs.PointPositions.{world_is_full, prefix_is_node}
+use Rattle.world_model.proofs.PointPositions.{world_is_full}
 use Rattle.world_model.proofs.TrialLaws.{trial_is_right_law}
 use Rattle.world_search.specs.Walking.{IsBehind, IsLeastNode, HasNoNode}
 use Rattle.world_search.specs.Searching.{StandsBetween}
 use Rattle.table_walk.specs.Ahead.{Lists, ListsBetween}
-use Rattle.table_walk.proofs.Least.{same_rank}
+use Rattle.world_model.proofs.Relations.{same_rank}
 use Rattle.table_walk.proofs.Between.{none_listed, one_listed}
 use Rattle.align_top.specs.Putting.{worlds_from}
+use Rattle.world_search.proofs.Passing.{world_is_node}
 
 -- the place right behind a table: the first position that begins with it and is longer
 abbrev pub right_behind : List Rel → List Rel
@@ -87,10 +88,6 @@ node_past p t x full node upto rest = elim (below_cases (t ++ rest) x) [
     no_longer : {G : Type 0} (more : List Rel) → x ≡ t ++ more → G
     no_longer [] same = absurd (true≢false (sym above ∙ ap (is_below t) (same ∙ append-nil t) ∙ below_itself t))
     no_longer (r ∷ more) same = let few = node_upto p x node in absurd (omega (arith, few, full, ap length same, length-append t (r ∷ more)))
-
--- a world is a node
-pub world_is_node : (p : Problem) (t : List Rel) → IsPossibleWorld p t → IsNode p t
-world_is_node p t world = prefix_is_node p t [] (subst (IsPossibleWorld p) (sym (append-nil t)) world)
 
 -- nothing stands between the place right behind a world and the least node behind all that begin with it
 nothing_behind : (p : Problem) (t : List Rel) (cut : Option (List Rel)) → IsPossibleWorld p t → ((m : List Rel) → IsTrue (not (is_before_end m cut)) → IsTrue (not (is_below m (right_behind t)))) →

@@ -1,17 +1,15 @@
 -- What holds of each request that words make.
-use Rattle.std.proofs.Common.{◌≡◌, ℕ, Bool, true, false, List, [], ◌∷◌, Option, None, Some, Result, Ok, Err, IfSome, IfNone, refl, ap, subst, ◌∙◌}
+use Rattle.std.proofs.Common.{◌≡◌, ℕ, Bool, true, false, List, [], ◌∷◌, Option, None, Some, IfSome, IfNone, refl, ap, subst, ◌∙◌}
 use Rattle.std.specs.Prelude.{not, ◌||◌, ◌&&◌, cond, find, option_map, option_and_then, unwrap_or, bytes_eq}
 use Rattle.std.specs.List.{list_any}
 use Rattle.std.proofs.lemmas.Bool.{eq-eqb}
 use Rattle.command_line.specs.declared.Command.{Command}
 use Rattle.command_line.specs.declared.Command.TheVariants as command
 use Rattle.command_line.specs.declared.Key.{Key}
-use Rattle.command_line.specs.declared.Key.TheVariants.{In, Cert, Nodes, Worlds, Token, Resume}
+use Rattle.command_line.specs.declared.Key.TheVariants.{In, Nodes, Worlds, Token}
 use Rattle.command_line.specs.declared.Operand.{Operand}
-use Rattle.command_line.specs.declared.Request.{Request}
-use Rattle.command_line.specs.declared.UsageKind.{UsageKind}
-use Rattle.command_line.specs.Words.{row_of, number_of, command_named, operands_of, same_key, is_given, value_of, limit_of, is_lacking, lacks_token, is_same_value, share_value, has_same_name, request_for, request_of}
-use Rattle.align_top.specs.Steps.{AreApart, IsMade}
+use Rattle.command_line.specs.Words.{row_of, number_of, same_key, is_given, value_of, limit_of, is_lacking, lacks_token, is_same_value}
+use Rattle.align_top.specs.Steps.{AreApart}
 
 -- what is found is there, and what is there is found
 find_none : (f : Operand → Bool) (operands : List Operand) → find f operands ≡ None → list_any f operands ≡ false

@@ -8,7 +8,7 @@ use Rattle.report_run.specs.Reporting.{Watched, watched}
 use Rattle.run_ends.specs.declared.Status.{Status}
 use Rattle.run_ends.specs.declared.Status.TheVariants as status
 use Rattle.run_ends.specs.Ends.{end_line, IsLastPut}
-use Rattle.run_ends.specs.Runs.{StoreState, SinkState, IsQuiet, IsCarriedOut, IsRunOf}
+use Rattle.run_ends.specs.Runs.{StoreState, SinkState, IsCarriedOut, IsRunOf}
 use Rattle.run_ends.proofs.EndLemmas.{run_early, carried_as}
 use Rattle.align_top.specs.declared.Asking.{Asking}
 use Rattle.align_top.specs.declared.Order.{Order}

@@ -1,19 +1,17 @@
 -- The files of a listing, written one after another, and which names are kept.
-use Rattle.std.proofs.Common.{◌≡◌, ◌≢◌, ℕ, zero, suc, ◌<◌, slice_index_or, List, [], ◌∷◌, ◌++◌, map, Option, None, Some, IfSome, Result, Ok, Err, IsTrue, refl, sym, ap, subst, ◌∙◌, inl, inr, ⊎_elim, arith}
+use Rattle.std.proofs.Common.{◌≡◌, ℕ, zero, suc, ◌<◌, slice_index_or, List, [], ◌∷◌, ◌++◌, map, Option, None, Some, IfSome, IsTrue, refl, sym, ap, subst, ◌∙◌, arith}
 use Rattle.std.specs.Prelude.{Contains, All, is_some, option_map}
 use Rattle.std.specs.Option.{option_to_list}
 use Rattle.std.proofs.lemmas.List.{map-append}
 use Rattle.std.proofs.lemmas.List.Elements.{Contains-append_left, Contains-append_right, All-nil, All-cons, All-append}
 use Rattle.outer_store.specs.Contents.{Contents}
-use Rattle.outer_store.specs.Faults.{Counts, IfFailed}
-use Rattle.outer_store.specs.declared.fault.StoreFault.{StoreFault}
-use Rattle.outer_store.specs.declared.fault.StoreFault.TheVariants.{Failed, NoMemory}
+use Rattle.outer_store.specs.Faults.{Counts}
 use Rattle.rcc5_core.specs.declared.Rel.{Rel}
 use Rattle.world_model.specs.Problem.{Problem}
 use Rattle.resume_token.specs.Token.{token_text}
-use Rattle.run_ends.specs.Runs.{StoreState, SinkState, File, HasFailed, AreKeptBut, IsHeld, AreWritten, IsQuiet, IsWriteCause}
+use Rattle.run_ends.specs.Runs.{File, HasFailed, AreKeptBut, IsHeld, AreWritten}
 use Rattle.claims_run.specs.Answering.{file_under}
-use Rattle.align_top.specs.Output.{token_under, written_names}
+use Rattle.align_top.specs.Output.{token_under}
 use Rattle.align_top.specs.Steps.{AreApart}
 
 -- no name stands in an empty list, and one alone in a list of one

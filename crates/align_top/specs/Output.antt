@@ -1,5 +1,5 @@
 -- What a run answers, by its words.
-use Rattle.std.specs.Prelude.{◌≡◌, ◌≤◌, ℕ, ◌-◌, ◌^◌, min, List, [], ◌∷◌, ◌++◌, length, flat_map, map, Option, Some, None, IfSome, option_map, Result, Ok, Err, codes, decimal}
+use Rattle.std.specs.Prelude.{◌≡◌, ◌≤◌, ℕ, ◌^◌, List, [], ◌∷◌, ◌++◌, length, flat_map, map, Option, Some, None, IfSome, option_map, Result, Ok, Err, codes, decimal}
 use Rattle.std.specs.Option.{option_to_list}
 use Rattle.outer_store.specs.Contents.{Contents}
 use Rattle.rcc5_core.specs.declared.Rel.{Rel}
@@ -14,6 +14,7 @@ use Rattle.command_line.specs.declared.UsageKind.{UsageKind}
 use Rattle.command_line.specs.declared.Request.{Request}
 use Rattle.command_line.specs.declared.Request.TheVariants.{Align, Check, Mir, Conflict, Report, Trial}
 use Rattle.command_line.specs.Words.{request_of}
+use Rattle.world_watch.specs.Held.{count_of}
 use Rattle.run_ends.specs.declared.Status.{Status}
 use Rattle.run_ends.specs.declared.Status.TheVariants.{Done, RefusedText, Usage, Cut, NoWorld, RefusedToken}
 use Rattle.run_ends.specs.Ends.{line_of, world_line, complete_line, end_line}
@@ -36,10 +37,6 @@ cut_line count = line_of (codes "cut " ++ decimal count)
 abbrev pub last_line : Option (List Rel) → ℕ → List ℕ
 last_line None count = complete_line count
 last_line (Some cut) count = cut_line count
-
--- how many worlds there are, up to the last value of a u64
-abbrev pub count_of : List (List Rel) → ℕ
-count_of worlds = min (length worlds) (2 ^ 64 - 1)
 
 -- the text of a listing: a line for each world, and how many they are
 abbrev pub listing_text : Option (List Rel) → List (List Rel) → List ℕ

@@ -14,7 +14,8 @@ use Rattle.align_top.specs.declared.listing.Met.{Met}
 use Rattle.align_top.specs.declared.listing.Met.TheVariants as met
 use Rattle.align_top.specs.declared.Order.{Order}
 use Rattle.run_ends.specs.Ends.{world_line}
-use Rattle.align_top.specs.Output.{count_of, listing_text}
+use Rattle.world_watch.specs.Held.{count_of}
+use Rattle.align_top.specs.Output.{listing_text}
 
 -- just these nodes and these worlds stand from the start on and below a place, which is not before the start
 pub record AreUpTo (order : Order) (at : Option (List Rel)) (nodes worlds : List (List Rel)) : Type 0 where

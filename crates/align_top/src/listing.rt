@@ -52,7 +52,7 @@ fn put_world<W: Sink>(alloc: Global, out: &mut W, world: &Position) -> Result<()
 }
 
 // What a search without an end meets next, where nothing is logged.
-#[tactic(auto, using(crate::proofs::ListingLemmas::at_no_end))]
+#[tactic(auto, using(trial_run::proofs::FoundLemmas::at_no_end))]
 fn next_unlogged(
     order: &Order,
     asker: &mut Asker,
@@ -85,7 +85,7 @@ fn store_fault(fault: StepFault) -> StoreFault
 }
 
 // The same, and the log is told of each node that is passed.
-#[tactic(auto, using(crate::proofs::ListingLemmas::at_no_end))]
+#[tactic(auto, using(trial_run::proofs::FoundLemmas::at_no_end))]
 fn next_logged<L: TreeLog>(
     order: &Order,
     asker: &mut Asker,

@@ -123,6 +123,8 @@ pub fn has_single(row: &[u64]) -> bool
 }
 
 /// Whether two rows have a place in common that two sets have in one of some cells.
+// Most callers know the cells, and the loop is much shorter for them.
+#[inline(always)]
 pub fn meets(one: &[u64], other: &[u64], left: &[u64], right: &[u64], cells: Cells) -> bool
     ensures { IsTrue result ↔ SomePlace (meets_at one.now other.now left.now right.now cells) }
 {

@@ -6,7 +6,7 @@ use Rattle.rcc5_core.specs.RelationSet.{has, only}
 use Rattle.world_model.specs.Problem.{Problem, narrowed}
 use Rattle.world_model.specs.Family.{Family, meets, set_of}
 use Rattle.world_model.proofs.PointPositions.{has-only, relation_in}
-use Rattle.cert_rules.proofs.Relations.{one_rel, only_has}
+use Rattle.world_model.proofs.Relations.{one_rel, only_has}
 use Rattle.cert_check.specs.Claiming.{AreMet}
 use Rattle.cert_rules.proofs.Narrowing.{shown_is_met, met_is_shown}
 

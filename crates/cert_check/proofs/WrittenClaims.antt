@@ -18,13 +18,9 @@ use Rattle.cert_rules.specs.Listings.{Going, Ended, Rejected, unless, proof_faul
 use Rattle.cert_rules.specs.ClaimLists.{subject_fault, subject_tree, Claim, Block, ClaimStand, holds_fault, stray_kind, claim_steps, claim_start}
 use Rattle.cert_rules.specs.ClaimWriting.{one_more, open_at}
 use Rattle.cert_rules.specs.Files.{ClaimList, settle, answer_of}
-use Rattle.cert_rules.proofs.ClaimWriting.{claims_put_keep_up_law}
+use Rattle.cert_rules.proofs.ClaimWriting.{claims_put_keep_up_law, stand_of}
 use Rattle.cert_check.specs.Laws.{WrittenClaimsAreAccepted}
 use Rattle.cert_check.proofs.WholeLemmas.{claims_ended, claims_rejected}
-
--- a stand by its parts
-abbrev stand_of : State → Option Block → List Claim → ClaimStand
-stand_of proof block claims = record { proof = proof; block = block; claims = claims }
 
 -- where a line stands, by whether a tree is open
 abbrev mode_of : Option Block → Mode

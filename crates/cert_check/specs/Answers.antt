@@ -1,5 +1,6 @@
--- What a check answers, by what there was to read.
-use Rattle.std.specs.Prelude.{◌≡◌, [], Option, Some, None, option_map, Result, Ok, Err, IfSome, ⊤}
+-- What a check answers, by what there was to read, and what it leaves of a source.
+use Rattle.std.specs.Prelude.{◌≡◌, ℕ, ◌≤◌, [], Option, Some, None, option_map, Result, Ok, Err, IfSome, ⊤}
+use Rattle.outer_store.specs.Faults.{Rose}
 use Rattle.world_model.specs.Problem.{Problem}
 use Rattle.cert_text.specs.declared.line.CertLine.{CertLine}
 use Rattle.cert_text.specs.Ends.{Faulty}
@@ -35,6 +36,13 @@ IfReadFault (Err (Text line kind)) failed other = other
 IfReadFault (Err (Rejected line kind)) failed other = other
 IfReadFault (Err ReadFault) failed other = failed
 IfReadFault (Err NoMemory) failed other = other
+
+-- what a call leaves of a source: a failed read only where the count of faults rose, and at any other answer no count that moved
+pub record SourceGoes {S T : Type 0} (faults : S → ℕ) (steady quiet : S → S → Type 0) (result : Result T CheckFault) (old new : S) : Type 0 where
+  pub fault : IfReadFault result (Rose (faults old) (faults new)) (faults new ≡ faults old)
+  pub later : faults old ≤ faults new
+  pub comes : steady old new
+  pub still : IfReadFault result ⊤ (quiet old new)
 
 -- the next line was read: the first of those that there were to read, or none where the text is whole, or it has a fault
 abbrev pub IsNextLine : Result (Option CertLine) CheckFault → Option Reading → Option Reading → Type 0

@@ -1,17 +1,18 @@
 -- How the lines of a list of claims are taken.
-use Rattle.std.specs.Prelude.{◌≡◌, ℕ, ◌+◌, Bool, true, false, Option, Some, option_map, Result, Ok, Err, IfSome, ⊤, List, Contains, IsTrue}
+use Rattle.std.specs.Prelude.{◌≡◌, ℕ, ◌+◌, Bool, true, false, Option, Some, option_map, Result, Ok, Err, IfSome, ⊤, List, Contains, IsTrue, ◌⊎◌}
 use Rattle.world_model.specs.Problem.{Problem}
 use Rattle.world_model.specs.Family.{Family, meets}
 use Rattle.cert_text.specs.declared.line.CertLine.{CertLine}
 use Rattle.cert_text.specs.declared.line.CertLine.TheVariants.{Branch, NoPoint, NoRelation}
 use Rattle.cert_rules.specs.Listings.{Going, Ended, Rejected}
-use Rattle.cert_rules.specs.ClaimLists.{ClaimStand, Block, claim_step, subject_tree}
+use Rattle.cert_rules.specs.ClaimLists.{ClaimStand, Block, claim_step, subject_problem, subject_tree}
 use Rattle.cert_check.specs.declared.fault.Stop.{Stop}
 use Rattle.cert_check.specs.declared.fault.Stop.TheVariants as stop
 use Rattle.cert_check.specs.declared.listing.Turn.{Turn}
 use Rattle.cert_check.specs.declared.listing.Turn.TheVariants as turn
 use Rattle.cert_check.specs.declared.claims.OpenTree.{OpenTree}
 use Rattle.cert_check.specs.declared.claims.Claims.{Claims}
+use Rattle.cert_tree.specs.Levels.{bare_tree}
 use Rattle.cert_tree.specs.Walks.{at_of, IsWalk}
 
 -- an open tree as the rules have it
@@ -25,10 +26,10 @@ claim_stand claims = record { proof = claims.book; block = option_map block_of c
 abbrev pub with_block : Claims → OpenTree → ClaimStand
 with_block claims tree = record { proof = claims.book; block = Some (block_of tree); claims = claims.claims.items }
 
--- an open tree is that of its subject
+-- an open tree is that of its subject, or branches on no pair yet, and then no path in it leads below the root
 pub record IsBlock (p : Problem) (block : OpenTree) : Type 0 where
   pub walk : IsWalk block.walk
-  pub tree : block.walk.tree ≡ subject_tree p block.subject
+  pub tree : (block.walk.tree ≡ subject_tree p block.subject) ⊎ (block.walk.tree ≡ bare_tree (subject_problem p block.subject))
 
 abbrev pub IsOpen : Problem → Option OpenTree → Type 0
 IsOpen p block = IfSome block (IsBlock p)

@@ -1,11 +1,10 @@
 //! A certificate, checked from its first line to the end of its text.
 
-ghost use Rattle.std.specs.Prelude.{◌≡◌, ◌≤◌, ◌+◌, ◌^◌, ◌<◌, Option, None, Some, Err, option_map, IfOk, OnOk, IfSome, ⊤};
-ghost use Rattle.outer_store.specs.Faults.{Rose};
+ghost use Rattle.std.specs.Prelude.{◌≡◌, ◌≤◌, ◌+◌, ◌^◌, ◌<◌, Option, None, Some, Err, option_map, IfOk, OnOk, IfSome};
 ghost use Rattle.cert_reader.specs.Reading.{Reading, reading, with_first};
 ghost use Rattle.cert_reader.specs.Reader.{to_read};
 ghost use Rattle.cert_rules.specs.Laws.{VerdictIsSo};
-ghost use Rattle.cert_check.specs.Answers.{verdict_of, IsAnswerOf, IsNextLine, IfReadFault, Tells};
+ghost use Rattle.cert_check.specs.Answers.{verdict_of, IsAnswerOf, IsNextLine, SourceGoes, Tells};
 ghost use Rattle.cert_check.specs.Whole.{IsReady, TellsFrom, AreFew, IsTurn, IsEnd, verdict_from, ended_answer, fault_at};
 ghost use Rattle.cert_check.specs.declared.fault.CheckFault.TheVariants.{Text, ReadFault};
 ghost use Rattle.cert_reader.specs.declared.fault.CertTextKind.TheVariants.{TooLong};
@@ -34,10 +33,7 @@ pub fn check<R: Source>(
 ) -> Result<Accepted, CheckFault>
     ensures answer { IfSome (R.left source.old) (λ bytes. IsAnswerOf problem.now (reading bytes) result) }
     ensures so { IfSome (R.left source.old) (λ _. IfOk result (λ said. VerdictIsSo problem.now (verdict_of said))) }
-    ensures cause { IfReadFault result (Rose (R.faults source.old) (R.faults source.new)) (R.faults source.new ≡ R.faults source.old) }
-    ensures later { R.faults source.old ≤ R.faults source.new }
-    ensures steady { R.steady source.old source.new }
-    ensures quiet { IfReadFault result ⊤ (R.quiet source.old source.new) }
+    ensures source { SourceGoes R.faults R.steady R.quiet result source.old source.new }
 {
     problem.facts();
     accepted_is_so::<CertTextKind>();
@@ -54,10 +50,7 @@ fn check_lines<R: Source>(
     requires fresh { reader.old.refusal ≡ None }
     requires few { AreFew 0 (to_read reader.old (R.left source.old)) }
     ensures answer { IfSome (to_read reader.old (R.left source.old)) (λ read. IsAnswerOf problem.now read result) }
-    ensures cause { IfReadFault result (Rose (R.faults source.old) (R.faults source.new)) (R.faults source.new ≡ R.faults source.old) }
-    ensures later { R.faults source.old ≤ R.faults source.new }
-    ensures steady { R.steady source.old source.new }
-    ensures quiet { IfReadFault result ⊤ (R.quiet source.old source.new) }
+    ensures source { SourceGoes R.faults R.steady R.quiet result source.old source.new }
 {
     match next_line(reader, source) {
         Ok(Some(first)) => check_behind(alloc, problem, first, reader, source),
@@ -77,10 +70,7 @@ fn check_behind<R: Source>(
     requires fresh { reader.old.refusal ≡ None }
     requires few { AreFew 1 (to_read reader.old (R.left source.old)) }
     ensures answer { IfSome (to_read reader.old (R.left source.old)) (λ read. IsAnswerOf problem.now (with_first first read) result) }
-    ensures cause { IfReadFault result (Rose (R.faults source.old) (R.faults source.new)) (R.faults source.new ≡ R.faults source.old) }
-    ensures later { R.faults source.old ≤ R.faults source.new }
-    ensures steady { R.steady source.old source.new }
-    ensures quiet { IfReadFault result ⊤ (R.quiet source.old source.new) }
+    ensures source { SourceGoes R.faults R.steady R.quiet result source.old source.new }
 {
     match Checker::new(alloc, problem, first) {
         Ok(checker) => check_rest(checker, reader, source),
@@ -98,10 +88,7 @@ fn check_rest<R: Source>(
     requires fresh { reader.old.refusal ≡ None }
     requires few { AreFew 1 (to_read reader.old (R.left source.old)) }
     ensures answer { TellsFrom checker 1 (to_read reader.old (R.left source.old)) result }
-    ensures cause { IfReadFault result (Rose (R.faults source.old) (R.faults source.new)) (R.faults source.new ≡ R.faults source.old) }
-    ensures later { R.faults source.old ≤ R.faults source.new }
-    ensures steady { R.steady source.old source.new }
-    ensures quiet { IfReadFault result ⊤ (R.quiet source.old source.new) }
+    ensures source { SourceGoes R.faults R.steady R.quiet result source.old source.new }
 {
     let mut checker = checker;
     for read in 1..LIMIT + 1 {
@@ -128,10 +115,7 @@ fn take_next<R: Source>(
     ensures ready { OnOk result (IsReady checker.new) }
     ensures fresh { OnOk result (reader.new.refusal ≡ None) }
     ensures few { OnOk result (AreFew read (to_read reader.old (R.left source.old)) → AreFew (read + 1) (to_read reader.new (R.left source.new))) }
-    ensures cause { IfReadFault result (Rose (R.faults source.old) (R.faults source.new)) (R.faults source.new ≡ R.faults source.old) }
-    ensures later { R.faults source.old ≤ R.faults source.new }
-    ensures steady { R.steady source.old source.new }
-    ensures quiet { IfReadFault result ⊤ (R.quiet source.old source.new) }
+    ensures source { SourceGoes R.faults R.steady R.quiet result source.old source.new }
 {
     match next_line(reader, source) {
         Ok(Some(line)) => take(checker, read, line),
@@ -167,10 +151,7 @@ fn finish<R: Source>(
     requires fresh { reader.old.refusal ≡ None }
     requires few { AreFew 1 (to_read reader.old (R.left source.old)) }
     ensures answer { IfSome (to_read reader.old (R.left source.old)) (λ read. Tells (ended_answer (verdict_from checker to) read.ends) result) }
-    ensures cause { IfReadFault result (Rose (R.faults source.old) (R.faults source.new)) (R.faults source.new ≡ R.faults source.old) }
-    ensures later { R.faults source.old ≤ R.faults source.new }
-    ensures steady { R.steady source.old source.new }
-    ensures quiet { IfReadFault result ⊤ (R.quiet source.old source.new) }
+    ensures source { SourceGoes R.faults R.steady R.quiet result source.old source.new }
 {
     match end_reading(reader, source) {
         Ok(()) => Ok(checker.accepted(to)),
@@ -182,10 +163,7 @@ fn end_reading<R: Source>(reader: &mut CertReader, source: &mut R) -> Result<(),
     requires fresh { reader.old.refusal ≡ None }
     requires few { AreFew 1 (to_read reader.old (R.left source.old)) }
     ensures answer { IsEnd (to_read reader.old (R.left source.old)) result }
-    ensures cause { IfReadFault result (Rose (R.faults source.old) (R.faults source.new)) (R.faults source.new ≡ R.faults source.old) }
-    ensures later { R.faults source.old ≤ R.faults source.new }
-    ensures steady { R.steady source.old source.new }
-    ensures quiet { IfReadFault result ⊤ (R.quiet source.old source.new) }
+    ensures source { SourceGoes R.faults R.steady R.quiet result source.old source.new }
 {
     for _read in 1..LIMIT + 1 {
         match next_line(reader, source) {
@@ -205,10 +183,7 @@ fn next_line<R: Source>(
     requires { reader.old.refusal ≡ None }
     ensures answer { IsNextLine result (to_read reader.old (R.left source.old)) (to_read reader.new (R.left source.new)) }
     ensures fresh { OnOk result (reader.new.refusal ≡ None) }
-    ensures cause { IfReadFault result (Rose (R.faults source.old) (R.faults source.new)) (R.faults source.new ≡ R.faults source.old) }
-    ensures later { R.faults source.old ≤ R.faults source.new }
-    ensures steady { R.steady source.old source.new }
-    ensures quiet { IfReadFault result ⊤ (R.quiet source.old source.new) }
+    ensures source { SourceGoes R.faults R.steady R.quiet result source.old source.new }
 {
     match reader.next(source) {
         Ok(Some(line)) => Ok(Some(line)),

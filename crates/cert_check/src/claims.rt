@@ -1,6 +1,6 @@
 //! A list of claims, line by line.
 
-ghost use Rattle.std.specs.Prelude.{◌≡◌, ◌<◌, [], IfOk, OnOk, OnErr, None, Some, false, Contains, IsTrue};
+ghost use Rattle.std.specs.Prelude.{◌≡◌, ◌<◌, [], IfOk, OnOk, OnErr, None, Some, true, false, Contains, IsTrue};
 ghost use Rattle.rcc5_core.specs.RelationSet.{only};
 ghost use Rattle.world_model.specs.Problem.{Problem, pair_count, narrowed};
 ghost use Rattle.world_model.specs.Family.{meets};
@@ -241,7 +241,7 @@ impl Claims {
         Ok(Turn::Further)
     }
 
-    /// The tree of a subject, with its root expected.
+    /// The tree of a subject, with its root expected, and without the pairs on which it branches.
     fn block_at(&self, subject: Subject) -> Result<OpenTree, AllocError>
         requires { subject_fault self.now.problem subject ≡ None }
         ensures tree { IfOk result (λ block. IsBlock self.now.problem block) }
@@ -249,8 +249,7 @@ impl Claims {
         ensures at { IfOk result (λ block. at_of block.walk ≡ Some []) }
     {
         let problem = self.problem_of(&subject)?;
-        let tree = Tree::new(self.alloc, problem, false, Position::new(self.alloc))?;
-        let walk = Walk::new(self.alloc, tree);
+        let walk = Walk::new(self.alloc, Tree::root(self.alloc, problem));
         Ok(OpenTree { subject, walk })
     }
 
@@ -304,13 +303,30 @@ impl Claims {
         ensures same { self.new ≡ record self.old { block = self.new.block } }
     {
         let branches = is_branch(&line);
+        let mut block = self.for_line(block, branches)?;
         if let Some(kind) = block.walk.tree_fault(&self.book, line) {
             return Err(Stop::Rejected(kind));
         }
-        let mut block = block;
         block.walk.advance(branches)?;
         self.block = Some(block);
         Ok(Turn::Further)
+    }
+
+    /// The tree for a line: where the root branches, it is made anew with the pairs on which it branches.
+    fn for_line(&self, block: OpenTree, branches: bool) -> Result<OpenTree, AllocError>
+        requires { IsBlock self.now.problem block }
+        ensures block { IfOk result (λ new. IsBlock self.now.problem new) }
+        ensures same { IfOk result (λ new. block_of new ≡ block_of block) }
+        ensures whole { IfOk result (λ new. branches ≡ true → new.walk.tree ≡ subject_tree self.now.problem new.subject) }
+    {
+        if !branches || !block.walk.path.is_empty() {
+            return Ok(block);
+        }
+        let OpenTree { subject, mut walk } = block;
+        let problem = walk.tree.into_subject();
+        let tree = Tree::new(self.alloc, problem, false, Position::new(self.alloc))?;
+        walk.tree = tree;
+        Ok(OpenTree { subject, walk })
     }
 
     fn take_other(&mut self, block: OpenTree, line: CertLine) -> Result<Turn, Stop>

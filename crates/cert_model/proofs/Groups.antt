@@ -25,6 +25,7 @@ use Rattle.cert_model.specs.Forced.{region_number}
 use Rattle.cert_model.specs.Laws.{Obeys}
 use Rattle.cert_model.proofs.Bits.{so_true, not_true, any_so, three_true, Agrees, front_agrees, any_same}
 use Rattle.cert_model.proofs.Structure.{valid_parts, within_from, within_to, apart_from, apart_to, covered_from, covered_to}
+use Rattle.world_model.proofs.PointRules.{same_bool_from}
 
 -- whether the selector of a region keeps the point out of it
 abbrev keeps_out : List Bool → ℕ → ℕ × ℕ → Region → Bool
@@ -88,12 +89,6 @@ pairs_to bits first (q ∷ ps) each =
     ap (λ n. keeps_out bits n (get_or ps k (0, 0)) region) f ∙ each (suc k) (omega arith) region) in
     list_all-append (clause_true bits) (pair_clauses first q) (pairs_clauses (first + 3) ps)
     ∙ and_from (meets_all bits (pair_clauses first q)) (meets_all bits (pairs_clauses (first + 3) ps)) (pair_true bits first q ∙ now) later
-
--- the clauses of a sum
-same_bool_from : (a b : Bool) → (a ≡ true → b ≡ true) → (b ≡ true → a ≡ true) → same_bool a b ≡ true
-same_bool_from true b to back = rw (to refl) refl
-same_bool_from false true to back = back refl
-same_bool_from false false to back = refl
 
 abbrev part_clause : ℕ → ℕ → ℕ → List ℕ
 part_clause selector whole part = is_not selector ∷ is_not part ∷ is_so whole ∷ []

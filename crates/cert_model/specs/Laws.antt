@@ -1,5 +1,5 @@
 -- What the given clauses say of points, and what selectors and needs say of a prefix.
-use Rattle.std.specs.Prelude.{◌≡◌, ◌≢◌, ◌+◌, ◌*◌, ◌<◌, ◌≤◌, ◌↔◌, ℕ, Bool, List, take, length, Some, IsTrue, Contains}
+use Rattle.std.specs.Prelude.{◌≡◌, ◌+◌, ◌*◌, ◌<◌, ◌↔◌, ℕ, Bool, List, take, length, Some, IsTrue, Contains}
 use Rattle.std.specs.List.{list_all}
 use Rattle.rcc5_core.specs.declared.Rel.{Rel}
 use Rattle.rcc5_core.specs.declared.Region.{Region}

@@ -27,7 +27,7 @@ steps_append p status [] b = refl
 steps_append p status (line ∷ a) b = steps_append p (claim_step p status line) a b
 
 -- a stand by its parts
-abbrev stand_of : State → Option Block → List Claim → ClaimStand
+abbrev pub stand_of : State → Option Block → List Claim → ClaimStand
 stand_of proof block claims = record { proof = proof; block = block; claims = claims }
 
 -- a derivation line, whether a tree is open or none

@@ -1,5 +1,4 @@
 pub mod LiveClauses
-pub mod Relations
 pub mod Nexts
 pub mod Leaves
 pub mod Exact
@@ -7,7 +6,6 @@ pub mod Sound
 pub mod SoundClaims
 pub mod Refuting
 pub mod Headers
-pub mod Nodes
 pub mod NextNodes
 pub mod Visits
 pub mod Writing
@@ -19,3 +17,4 @@ pub mod OnTheWay
 pub mod Told
 pub mod NodeProblems
 pub mod Narrowing
+pub mod NodeLines

@@ -1,5 +1,5 @@
 -- What two states with the same clauses have under an id.
-use Rattle.std.proofs.Common.{◌≡◌, ℕ, zero, suc, ◌-◌, eqb, List, [], ◌∷◌, Option, Some, None, sym, ap, ◌∙◌, inl, inr}
+use Rattle.std.proofs.Common.{ℕ, zero, suc, ◌-◌, eqb, List, [], ◌∷◌, Option, Some, None, sym, ap, ◌∙◌, inl, inr}
 use Rattle.std.specs.Prelude.{slice_get}
 use Rattle.std.proofs.lemmas.Bool.{cases_Bool}
 use Rattle.lits_core.specs.Derivation.{State, or_else, given_clause, derived_clause, live_clause, SameLits, SameGiven, SameDerived, SameState}

@@ -1,5 +1,5 @@
 -- A family meets a problem with a pair narrowed to a relation exactly where it meets the problem and has the relation there.
-use Rattle.std.proofs.Common.{◌≡◌, ℕ, [], ◌∷◌, ◌++◌, true, false, inl, inr, refl, sym, ap, ◌∙◌, IsTrue, ◌&&◌, ◌==◌, filter_map}
+use Rattle.std.proofs.Common.{◌≡◌, ℕ, [], ◌∷◌, ◌++◌, true, inl, inr, refl, sym, ap, ◌∙◌, IsTrue, filter_map}
 use Rattle.std.proofs.lemmas.Bool.{and_from}
 use Rattle.rcc5_core.specs.declared.Rel.{Rel}
 use Rattle.rcc5_core.specs.RelationSet.{has, only}
@@ -8,7 +8,7 @@ use Rattle.world_model.specs.Family.{Family, holds, meets}
 use Rattle.world_model.proofs.Members.{here, all_at, all_from, In-left, In-right, from_append}
 use Rattle.world_model.proofs.PointRules.{met_parts, met_whole}
 use Rattle.world_model.proofs.PointPositions.{has-only, relation_in}
-use Rattle.cert_rules.proofs.Relations.{one_rel, only_has}
+use Rattle.world_model.proofs.Relations.{one_rel, only_has}
 
 -- a family that shows a relation of a pair meets the problem with the pair narrowed to it
 pub shown_is_met : (p : Problem) (pair : ℕ × ℕ) (rel : Rel) (f : Family) → IsTrue (meets p f) → relation_in f pair ≡ rel → IsTrue (meets (narrowed p pair (only rel)) f)

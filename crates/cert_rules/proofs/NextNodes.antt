@@ -13,10 +13,10 @@ use Rattle.world_model.proofs.OrderPositions.{below_itself, below_cases, below_a
 use Rattle.cert_rules.specs.Order.{is_shown, least_from, from_below, single, or_later, onward}
 use Rattle.cert_rules.specs.Listings.{listing_next}
 use Rattle.cert_rules.specs.ShownNodes.{IsShownNode, IsNextNode, Branches, IsPrefix, ExpectedIsNext}
-use Rattle.cert_rules.proofs.Relations.{itself, one_rel, next_is_in}
+use Rattle.world_model.proofs.Relations.{itself, one_rel, next_is_in}
 use Rattle.cert_rules.proofs.Nexts.{Along, Begins, IsPassed, IsLeastFrom, least_from_is, next_covers, next_after, next_shown, shown_from_order, not_below_rest}
 use Rattle.cert_rules.proofs.Refuting.{rest_of}
-use Rattle.cert_rules.proofs.Nodes.{IsChild, node_within, child_within, child_is_node}
+use Rattle.world_model.proofs.Nodes.{IsChild, node_within, child_within, child_is_node}
 
 -- the next position is a prefix of the last one with another relation, which the pair there allows; or the last one, where it branches, with a first one
 pub record Stems (q : Problem) (levels : List (ℕ × ℕ)) (branches : Bool) (m n : List Rel) : Type 0 where

@@ -10,7 +10,7 @@ use Rattle.rcc5_core.specs.RelationSet.{has, next_of}
 use Rattle.world_model.specs.Listing.{is_below, is_before_end}
 use Rattle.world_model.proofs.OrderPositions.{below_apart, below_branch, first_or_rest}
 use Rattle.cert_rules.specs.Order.{is_shown, least_from, from_below, single, or_later, onward}
-use Rattle.cert_rules.proofs.Relations.{same_rank, one_rel, itself, first_is_in, first_is_least, next_is_in, next_is_least, none_is_next, some_has_first_of}
+use Rattle.world_model.proofs.Relations.{same_rank, one_rel, itself, first_is_in, first_is_least, next_is_in, next_is_least, none_is_next, some_has_first_of}
 
 -- a position takes its relations from the sets in turn
 abbrev pub Along : List RelSet → List Rel → Type 0

@@ -10,7 +10,7 @@ use Rattle.world_model.proofs.OrderPositions.{below_itself, below_chain, below_a
 use Rattle.cert_rules.specs.Order.{is_shown}
 use Rattle.cert_rules.specs.ShownNodes.{IsShownNode, IsNextNode, IsPrefix, IsFirstOf, WalkedIsNext}
 use Rattle.cert_rules.proofs.Nexts.{below_nothing, shown_from_order}
-use Rattle.cert_rules.proofs.Nodes.{prefix_is_node}
+use Rattle.world_model.proofs.Nodes.{prefix_is_node}
 use Rattle.cert_rules.proofs.NextNodes.{prefix_shown, prefix_or_not_below}
 
 -- what comes after one that is not below the start is not below it either

@@ -19,7 +19,7 @@ use Rattle.cert_rules.specs.Order.{is_shown, onward}
 use Rattle.cert_rules.specs.Trees.{Tree, sets_of, names, is_branch, node_fault, tree_fault, end_fault}
 use Rattle.cert_rules.specs.Listings.{Status, Going, Ended, Rejected, unless, proof_fault, Stand, Listed, Role, ForProof, ForEnd, ForTree, role_of, with_world, after_proof, after_node, take_by, step, steps}
 use Rattle.cert_rules.specs.Laws.{is_leaf}
-use Rattle.cert_rules.proofs.Relations.{one_rel, itself}
+use Rattle.world_model.proofs.Relations.{one_rel, itself}
 use Rattle.cert_rules.proofs.Nexts.{Along, Begins, IsPassed, next_covers}
 use Rattle.cert_rules.proofs.Sound.{IsTableOf, begins_itself, begins_same, fails, ends_there, world_is_table, table_length}
 

@@ -30,7 +30,7 @@ use Rattle.cert_rules.specs.Order.{is_shown, onward}
 use Rattle.cert_rules.specs.Trees.{Tree, node_problem, sets_of, table_along, same_position, names, family_fault, table_fault, world_fault, fault_or, node_fault, tree_fault, end_fault}
 use Rattle.cert_rules.specs.Listings.{Status, Going, Ended, Rejected, unless, as_kind, proof_fault, Stand, Listed, Role, ForProof, ForEnd, ForTree, role_of, with_world, after_proof, after_node, take_by, step, steps}
 use Rattle.cert_rules.specs.Laws.{is_leaf}
-use Rattle.cert_rules.proofs.Relations.{one_rel}
+use Rattle.world_model.proofs.Relations.{one_rel}
 use Rattle.cert_rules.proofs.Nexts.{Along, Begins, next_covers, next_after, next_shown, shown_from_order, order_from_shown}
 use Rattle.cert_rules.proofs.Leaves.{built_at, met_at_node, pair_leaf, point_leaf}
 use Rattle.cert_rules.proofs.Exact.{none_between, one_between}
@@ -109,7 +109,7 @@ past_world tree given m worlds is shown old w =
     (λ b begins. let same = begins_same m t begins (full ∙ sym (table_length tree t v)) in true≢false (sym (subst (λ t. is_below m t ≡ true) (sym same) above) ∙ below_itself m)))
 
 -- a node whose problem is dead rules out the tables that begin with it
-dead_below : (tree : Tree) (m : List Rel) → (IsAlive (node_problem tree m) → ⊥) → (t : List Rel) → IsTableOf tree t → Begins m t → ⊥
+pub dead_below : (tree : Tree) (m : List Rel) → (IsAlive (node_problem tree m) → ⊥) → (t : List Rel) → IsTableOf tree t → Begins m t → ⊥
 dead_below tree m dead t w begins =
     dead (met_is_alive (node_problem tree m) (w.0, met_at_node tree.subject tree.levels m w.0 w.1 (subst (Begins m) (sym w.2) begins)))
 

@@ -20,7 +20,7 @@ use Rattle.cert_rules.proofs.Nexts.{below_nothing}
 use Rattle.cert_rules.proofs.Exact.{one_between}
 use Rattle.cert_rules.proofs.Sound.{IsSound, leaf_is_dead, table_length, tree_sound, proof_sound, ends_there}
 use Rattle.cert_rules.proofs.Refuting.{tree_parts, branch_is_short, world_is_its_table}
-use Rattle.cert_rules.proofs.Nodes.{node_within}
+use Rattle.world_model.proofs.Nodes.{node_within}
 use Rattle.cert_rules.proofs.NextNodes.{covers, next_is_next}
 
 -- what is so where a listing stands: the expected node is a shown node, and those before it were seen

@@ -33,7 +33,7 @@ use Rattle.cert_rules.specs.Trees.{Tree, same_position, names, is_branch, is_for
 use Rattle.cert_rules.specs.Listings.{Status, Going, Ended, unless, as_kind, Stand, Listed, ForTree, role_of, after_proof, after_node, take_by, step, steps, listing_tree, listing_next, start, same_switches, header_fault, listing_status}
 use Rattle.cert_rules.specs.ShownNodes.{AllBranchesAlive}
 use Rattle.cert_rules.specs.Writing.{KeepsUp, IsClosedNeed, IsWorldBy, IsSoAt, TellsOf, with_waiting, PutKeepsUp}
-use Rattle.cert_rules.proofs.Relations.{itself}
+use Rattle.world_model.proofs.Relations.{itself}
 
 -- lines, and then more
 pub steps_append : (tree : Tree) (status : Status Stand Listed) (a b : List CertLine) → steps tree status (a ++ b) ≡ steps tree (steps tree status a) b

@@ -11,7 +11,7 @@ use Rattle.proof_text.specs.Words.{words_of}
 use Rattle.proof_text.specs.Lines.{◌>>=◌, id_in, item_at}
 use Rattle.proof_text.specs.Laws.{has_byte}
 use Rattle.proof_text.proofs.WordLemmas.{words_of-joined, joined-clean}
-use Rattle.proof_text.proofs.LineLemmas.{AreClean, clean_line, derive_of-words, forget_of-words}
+use Rattle.proof_text.proofs.LineLemmas.{AreClean, clean_line, derive_of-words, forget_of-words, each}
 use Rattle.cert_text.specs.declared.line.CertLine.{CertLine}
 use Rattle.cert_text.specs.declared.line.CertLine.TheVariants.{Certificate, Claims, Proof, Branch, NoPoint, NoRelation, World, Holds, Fails, End, Quit, Done}
 use Rattle.cert_text.specs.declared.line.Subject.{Subject}
@@ -52,10 +52,6 @@ unfolding node_of
 node_of-words depth last rest h =
     ap (λ read. read >>= λ depth. taken last_at depth.1 >>= λ last. Ok ((depth.0, last.0), last.1)) (taken-word (item_at small_in) depth (decimal depth) (last_word last ∷ rest) (small-word depth h))
     ∙ ap (λ read. read >>= λ last. Ok ((depth, last.0), last.1)) (taken-word last_at last (last_word last) rest (last_read-word last))
-
-each : {X : Type 0} {P Q : X → Type 0} → ((x : X) → P x → Q x) → (xs : List X) → AllByRecursion P xs → AllByRecursion Q xs
-each f [] h = tt
-each f (x ∷ xs) h = (f x h.0, each f xs h.1)
 
 small_sets : (sets : List (List ℕ)) → All (λ set. All (λ x. x < 2 ^ 32) set) sets → AllByRecursion AreSmall sets
 small_sets sets h = each (λ set. recursion_from_All (λ x. x < 2 ^ 32) set) sets (recursion_from_All (λ set. All (λ x. x < 2 ^ 32) set) sets h)

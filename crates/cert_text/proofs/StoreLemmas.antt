@@ -10,7 +10,7 @@ use Rattle.proof_text.specs.Words.{words_of, parted}
 use Rattle.proof_text.proofs.WordLemmas.{words_of-next, joined-parted}
 use Rattle.cert_text.specs.declared.line.CertLine.{CertLine}
 use Rattle.cert_text.specs.Lines.{cert_line_of, cert_text, IsCertLine}
-use Rattle.cert_text.specs.Logs.{Told, IsToldWith, none_behind, lines_of_words, lines_in, lines_text, lines_held}
+use Rattle.cert_text.specs.Logs.{Told, IsToldWith, lines_of_words, lines_in, lines_text, lines_held}
 use Rattle.cert_text.proofs.LineLemmas.{cert_line_of-text, cert_text-no_lf}
 use Rattle.cert_text.proofs.OneTextLemmas.{cert_line_of-read}
 

@@ -13,7 +13,7 @@ use Rattle.world_model.specs.Laws.{PairsStandOnce}
 use Rattle.cert_rules.specs.Trees.{Tree, sets_of}
 use Rattle.cert_rules.specs.FromTheEnd.{set_at}
 use Rattle.cert_rules.proofs.NodeProblems.{children_narrow_law}
-use Rattle.cert_tree.specs.Levels.{AreLevels, narrowed_set}
+use Rattle.cert_tree.specs.Levels.{AreLevels, depth_of, narrowed_set}
 
 -- a problem narrowed along a path
 abbrev pub along : Problem → List (ℕ × ℕ) → List Rel → Problem
@@ -66,24 +66,28 @@ mapped_got f (y ∷ xs) (suc d) x e = mapped_got f xs d x e
 
 -- a level at which a pair stands is the one that is known of it
 known : PairsStandOnce → (q : Problem) (list : List ℕ) (depths : List (Option ℕ)) (k : ℕ) → AreLevels q list depths → k < pair_count q →
-    (d : ℕ) (other : ℕ × ℕ) → slice_get (map (pair_at q) list) d ≡ Some other → other ≡ pair_at q k → slice_get depths k ≡ Some (Some d)
+    (d : ℕ) (other : ℕ × ℕ) → slice_get (map (pair_at q) list) d ≡ Some other → other ≡ pair_at q k → depth_of depths k ≡ Some d
 known law q list depths k are within d other at same =
     let got = got_mapped (pair_at q) list d other at in
     let kept = are.depths_are.kept got.0 d got.1 in
-    let inside : got.0 < pair_count q = omega (arith, slice_get_within depths got.0 (Some d) kept, are.counted) in
-    subst (λ j. slice_get depths j ≡ Some (Some d)) (law.once q got.0 k inside within (got.2 ∙ same)) kept
+    let inside : got.0 < pair_count q = omega (arith, slice_get_within depths got.0 (Some d) kept, are.within) in
+    subst (λ j. depth_of depths j ≡ Some d) (law.once q got.0 k inside within (got.2 ∙ same)) (ap (option_and_then (λ depth. depth)) kept)
+
+found_at : (depth : Option (Option ℕ)) (d : ℕ) → option_and_then (λ depth. depth) depth ≡ Some d → depth ≡ Some (Some d)
+found_at None d e = cc
+found_at (Some depth) d e = ap Some e
 
 -- what a node allows a pair, by the pair's depth
 pub allowed_by_depth : PairsStandOnce → (q : Problem) (list : List ℕ) (depths : List (Option ℕ)) (m : List Rel) (k : ℕ) (depth : Option ℕ) → AreLevels q list depths → k < pair_count q →
-    slice_get depths k ≡ Some depth →
+    depth_of depths k ≡ depth →
     narrowed_set (allowed q (pair_at q k)) (option_and_then (slice_get m) depth) ≡ allowed (along q (map (pair_at q) list) m) (pair_at q k)
 allowed_by_depth law q list depths m k None are within at =
     sym (untouched q (map (pair_at q) list) m (pair_at q k) (λ d other short got same.
-    let is : slice_get depths k ≡ Some (Some d) = known law q list depths k are within d other got same in let no : None ≡ Some d = cc in absurd cc))
+    let no : None ≡ Some d = sym at ∙ known law q list depths k are within d other got same in absurd cc))
 allowed_by_depth law q list depths m k (Some d) are within at = by (slice_get m d) refl
   where
     only_there : (e : ℕ) (other : ℕ × ℕ) → slice_get (map (pair_at q) list) e ≡ Some other → other ≡ pair_at q k → e ≡ d
-    only_there e other got same = let is : slice_get depths k ≡ Some (Some e) = known law q list depths k are within e other got same in cc
+    only_there e other got same = let is : Some e ≡ Some d = sym (known law q list depths k are within e other got same) ∙ at in cc
 
     by : (rel : Option Rel) → slice_get m d ≡ rel → narrowed_set (allowed q (pair_at q k)) rel ≡ allowed (along q (map (pair_at q) list) m) (pair_at q k)
     by None none = sym (untouched q (map (pair_at q) list) m (pair_at q k) (λ e other short got same.
@@ -91,7 +95,7 @@ allowed_by_depth law q list depths m k (Some d) are within at = by (slice_get m 
         let some : slice_get m e ≡ Some (get_or m e Equals) = slice_get-get_or m e Equals short in
         let no : None ≡ Some (get_or m e Equals) = sym none ∙ ap (slice_get m) (sym here) ∙ some in
         absurd cc))
-    by (Some rel) some = sym (touched q (map (pair_at q) list) m (pair_at q k) d rel (mapped_got (pair_at q) list d k (are.depths_are.found k d at)) some
+    by (Some rel) some = sym (touched q (map (pair_at q) list) m (pair_at q k) d rel (mapped_got (pair_at q) list d k (are.depths_are.found k d (found_at (slice_get depths k) d at))) some
         (λ e other short differ got same. differ (only_there e other got same)))
 
 -- a tree by its parts
@@ -103,7 +107,7 @@ depth_within q list from tree d is short = let counted = ap (λ t. length t.leve
 
 pub level_within : (q : Problem) (list : List ℕ) (depths : List (Option ℕ)) (d k : ℕ) → AreLevels q list depths → d < length list → k ≡ get_or list d k → k < pair_count q
 level_within q list depths d k are within read =
-    let kept = are.depths_are.kept k d (slice_get_read list (length list) d k refl within read) in omega (arith, slice_get_within depths k (Some d) kept, are.counted)
+    let kept = are.depths_are.kept k d (slice_get_read list (length list) d k refl within read) in omega (arith, slice_get_within depths k (Some d) kept, are.within)
 
 -- the pair and the set of a depth
 pub level_pair : (q : Problem) (list : List ℕ) (d k : ℕ) → d < length list → k ≡ get_or list d k → slice_get (map (pair_at q) list) d ≡ Some (pair_at q k)

@@ -1,20 +1,19 @@
 -- A path goes on.
 use Rattle.std.proofs.Common.{◌≡◌, ℕ, ◌<◌, ◌≤◌, ◌+◌, zero, suc, Bool, true, false, List, [], ◌∷◌, ◌++◌, length, drop, Option, Some, None, refl, sym, ap, ◌∙◌, arith, inl, inr}
-use Rattle.std.specs.Prelude.{slice_get, if◌then◌else◌}
+use Rattle.std.specs.Prelude.{slice_get, if◌then◌else◌, is_some, IfSome}
 use Rattle.std.proofs.lemmas.Bool.{ne_eqb}
 use Rattle.rcc5_core.specs.declared.Rel.{Rel}
 use Rattle.rcc5_core.specs.declared.RelSet.{RelSet}
 use Rattle.rcc5_core.specs.Relation.{rank_of}
 use Rattle.rcc5_core.specs.RelationSet.{next_of}
 use Rattle.cert_rules.specs.Order.{is_shown, least_from, from_below, onward, or_later}
-use Rattle.std.specs.Prelude.{is_some, IfSome}
 use Rattle.std.proofs.lemmas.List.{length-map}
 use Rattle.world_model.specs.Alive.{allowed}
 use Rattle.cert_rules.specs.Trees.{Tree, same_last, sets_of}
 use Rattle.cert_rules.specs.FromTheEnd.{from_after, found_or, set_at}
 use Rattle.cert_rules.proofs.FromTheEnd.{found_from_the_end_law}
 use Rattle.cert_rules.proofs.Nexts.{shown_below, shown_above, shown_first, next_shown}
-use Rattle.cert_rules.proofs.Relations.{next_is_in}
+use Rattle.world_model.proofs.Relations.{next_is_in}
 use Rattle.cert_tree.specs.Walks.{IsPath, IsBeside, least_with}
 
 -- nothing comes below a full path

@@ -7,7 +7,7 @@ ghost use Rattle.world_model.specs.Alive.{allowed};
 ghost use Rattle.world_model.specs.Node.{pair_at};
 ghost use Rattle.cert_rules.specs.Trees.{sets_of, node_problem};
 ghost use Rattle.cert_rules.specs.FromTheEnd.{set_at};
-ghost use Rattle.cert_tree.specs.Levels.{tree_over, narrowed_set};
+ghost use Rattle.cert_tree.specs.Levels.{tree_over, bare_tree, narrowed_set};
 
 use crate::levels::Levels;
 use constraint_set::Problem;
@@ -53,6 +53,24 @@ impl Tree {
             levels,
             from,
         })
+    }
+
+    /// A tree that branches on no pair. It looks at none.
+    pub fn root(alloc: Global, subject: Problem) -> Tree
+        ensures { result ≡ bare_tree subject }
+    {
+        Tree {
+            subject,
+            levels: Levels::none(alloc),
+            from: Position::new(alloc),
+        }
+    }
+
+    /// The problem.
+    pub fn into_subject(self) -> Problem
+        ensures { result ≡ self.subject }
+    {
+        self.subject
     }
 
     /// The start.
@@ -102,7 +120,7 @@ impl Tree {
         ensures { narrowed_set (allowed self.now.subject (pair_at self.now.subject pair)) result ≡ allowed (node_problem self.now path.now) (pair_at self.now.subject pair) }
     {
         pairs_stand_once();
-        match self.levels.depths[pair as usize] {
+        match self.levels.depth_of(pair) {
             Some(depth) => rel_at(path, depth),
             None => None,
         }

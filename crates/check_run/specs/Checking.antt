@@ -1,5 +1,5 @@
 -- What the command that checks a certificate answers.
-use Rattle.std.specs.Prelude.{◌≡◌, ℕ, List, [], ◌∷◌, ◌++◌, length, flat_map, Option, None, IfSome, Result, Ok, Err, codes, decimal, Bool, if◌then◌else◌}
+use Rattle.std.specs.Prelude.{◌≡◌, ℕ, List, [], ◌∷◌, ◌++◌, length, flat_map, Option, IfSome, Result, Ok, Err, codes, decimal, Bool, if◌then◌else◌}
 use Rattle.std.specs.List.{join_with_byte}
 use Rattle.outer_store.specs.Contents.{Contents}
 use Rattle.world_model.specs.declared.Switches.{Switches}

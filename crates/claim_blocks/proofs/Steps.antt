@@ -2,7 +2,6 @@
 use Rattle.std.proofs.Common.{◌≡◌, false, List, [], ◌∷◌, ◌++◌, map, Option, Some, None, Result, Ok, Err, OnOk, OnErr, refl, sym, ap, ◌∙◌, subst, append_assoc, append-nil, inl, inr}
 use Rattle.std.specs.Prelude.{◌⊎◌}
 use Rattle.std.specs.Result.{IsErrAnd}
-use Rattle.std.proofs.lemmas.Bool.{true≢false}
 use Rattle.lits_core.specs.declared.Line.{Line}
 use Rattle.lits_core.specs.Derivation.{State}
 use Rattle.world_model.specs.Problem.{Problem}
@@ -11,22 +10,17 @@ use Rattle.cert_text.specs.declared.line.CertLine.{CertLine}
 use Rattle.cert_text.specs.declared.line.CertLine.TheVariants.{Proof}
 use Rattle.cert_text.specs.Logs.{Told, IsToldWith}
 use Rattle.cert_rules.specs.Trees.{is_branch}
-use Rattle.cert_rules.specs.Listings.{Status, Going, Ended, Rejected}
+use Rattle.cert_rules.specs.Listings.{Status, Going}
 use Rattle.cert_rules.specs.ClaimLists.{Claim, Block, ClaimStand, claim_start, claim_step}
 use Rattle.cert_rules.specs.ClaimWriting.{ClaimsKeepUp}
 use Rattle.cert_rules.proofs.ClaimWriting.{claims_put_keep_up_law}
 use Rattle.search_log.specs.declared.fault.StepFault.{StepFault}
 use Rattle.search_log.specs.Logging.{AddsLines, AreToldWith, AllTold, NoneTold, IsFlushed, IsSameButLines}
-use Rattle.split_search.specs.Claiming.{IsClaimBranchAlive, AllClaimBranchesAlive, ClaimsBegin, ToldClaims}
+use Rattle.split_search.specs.Claiming.{AllClaimBranchesAlive, ClaimsBegin, ToldClaims}
 use Rattle.claim_blocks.specs.Blocks.{AreClaimsTold}
 use Rattle.claim_blocks.specs.Steps.{LineLeads, LeadsTo, LeadsSomewhere, LeadsIf}
 use Rattle.claim_blocks.proofs.Joins.{told_then}
-
--- the branches of lines, with one more line that is none
-leaf_alive : (p : Problem) (status : Status ClaimStand (List Claim)) (line : CertLine) → is_branch line ≡ false → IsClaimBranchAlive p status line
-leaf_alive p (Going n s) line leaf = λ yes. absurd (true≢false (sym yes ∙ leaf))
-leaf_alive p (Ended claims) line leaf = tt
-leaf_alive p (Rejected number kind) line leaf = tt
+use Rattle.split_search.proofs.Told.{leaf_alive}
 
 alive_more : (p : Problem) (status : Status ClaimStand (List Claim)) (lines : List CertLine) (line : CertLine) → is_branch line ≡ false → AllClaimBranchesAlive p status lines →
     AllClaimBranchesAlive p status (lines ++ line ∷ [])

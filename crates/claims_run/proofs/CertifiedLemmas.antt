@@ -60,7 +60,7 @@ create_refused T e (Err f) p asked name store store' is cause others =
     (record { right = tt; left = tt; kept = kept_but_one name store.held store'.held others; cause = refused_cause T e name store store' cause })
 
 -- what a name holds whose lines are told
-told_bytes : (refused : Bool) (held : Option (List ℕ)) (lines : List CertLine) → lines_held refused held ≡ Some lines → (bytes : List ℕ) × (held ≡ Some bytes) × (lines_in bytes ≡ Some lines)
+pub told_bytes : (refused : Bool) (held : Option (List ℕ)) (lines : List CertLine) → lines_held refused held ≡ Some lines → (bytes : List ℕ) × (held ≡ Some bytes) × (lines_in bytes ≡ Some lines)
 told_bytes true held lines e = absurd (cc)
 told_bytes false None lines e = absurd (cc)
 told_bytes false (Some bytes) lines e = (bytes, refl, e)

@@ -1,12 +1,11 @@
 -- How a question ends, by its parts.
-use Rattle.std.proofs.Common.{◌≡◌, ℕ, Bool, true, false, List, [], ◌∷◌, Option, None, Some, IfSome, Result, Ok, Err, refl, sym, ap, subst, ◌∙◌, inl, inr, arith}
-use Rattle.std.specs.Prelude.{IfOk, OnErr, is_some, IsTrue, All, Contains, ⊤}
+use Rattle.std.proofs.Common.{◌≡◌, ℕ, true, false, List, [], Option, None, Some, IfSome, Result, Ok, Err, refl, sym, ap, subst, ◌∙◌, inl, inr, arith}
+use Rattle.std.specs.Prelude.{is_some, IsTrue, ⊤}
 use Rattle.std.specs.Result.{IsErrAnd}
 use Rattle.std.specs.Option.{option_to_list}
 use Rattle.std.proofs.lemmas.List.Elements.{All-nil, All-cons}
-use Rattle.outer_store.specs.Bytes.{GrownInPart, added}
+use Rattle.outer_store.specs.Bytes.{added}
 use Rattle.outer_store.specs.Contents.{Contents}
-use Rattle.outer_store.specs.Faults.{Rose, IfFailed}
 use Rattle.outer_store.specs.declared.fault.StoreFault.{StoreFault}
 use Rattle.outer_store.specs.declared.fault.StoreFault.TheVariants.{Failed, NoMemory}
 use Rattle.outer_store.proofs.BytesLemmas.{GrownInPart-kept}
@@ -17,13 +16,13 @@ use Rattle.run_ends.specs.declared.Status.{Status}
 use Rattle.run_ends.specs.declared.Status.TheVariants as status
 use Rattle.run_ends.specs.Ends.{end_line}
 use Rattle.run_ends.specs.Reads.{problem_in, ComesOf, IsWithout}
-use Rattle.run_ends.specs.Runs.{StoreState, SinkState, LeavesPiece, File, HasFailed, AreKeptBut, IsHeld, AreWritten, IsQuiet, Answered, ending_of, IsEarlyEnd, IsByCause, IsCarriedOut}
+use Rattle.run_ends.specs.Runs.{StoreState, SinkState, LeavesPiece, AreKeptBut, IsHeld, AreWritten, Answered, ending_of, IsEarlyEnd, IsCarriedOut}
 use Rattle.run_ends.proofs.EndLemmas.{carried_as}
 use Rattle.run_ends.proofs.TextLemmas.{says_problem, without_text}
 use Rattle.claims_run.specs.declared.question.Question.{Question}
 use Rattle.claims_run.specs.declared.question.Answer.{Answer}
 use Rattle.claims_run.specs.declared.question.Answer.TheVariants.{Possible, Consistent, Conflict}
-use Rattle.claims_run.specs.Answering.{IsRight, answer_text, answer_status, IsClaimed, IsCertOf, file_under, IsSettled, IsAnswerBy, IsClaimsAnswer, claims_names}
+use Rattle.claims_run.specs.Answering.{answer_text, answer_status, IsClaimed, IsCertOf, file_under, IsSettled, IsAnswerBy, IsClaimsAnswer, claims_names}
 use Rattle.claims_run.specs.Certifying.{IsCertLeft, IsSettledWith}
 
 -- a run that has no problem

@@ -10,8 +10,8 @@ use Rattle.std.proofs.lemmas.Bool.{cases_Bool, cases_lt, cond-true, cond-false, 
 use Rattle.std.proofs.lemmas.Str.{IsUtf8-nil, IsUtf8-from_is_utf8, IsUtf8-take, IsUtf8-drop, IsUtf8-past_char, IsCharBoundary-before_ascii, IsCharBoundary-after_ascii}
 use Rattle.std.proofs.lemmas.List.{append_assoc, length-append, length_push, get_or_at, take_at, take_all, drop_at, take-append-drop}
 use Rattle.std.proofs.lemmas.List.Sums.{split_at_first, passes_at_first}
-use Rattle.cleantax_text.specs.Tokens.{is_line_end, is_hash, lines_of, mark, without_mark, without_return, bare}
-use Rattle.cleantax_text.proofs.LineLemmas.{lines_first, lines_last}
+use Rattle.text_words.specs.Tokens.{is_line_end, is_hash, lines_of, mark, without_mark, without_return, bare}
+use Rattle.text_words.proofs.LineLemmas.{lines_first, lines_last}
 
 valid_front : (bs : List ℕ) (m : ℕ) → IsUtf8 (take (valid_len_up_to bs m) bs)
 valid_front bs zero = IsUtf8-nil

@@ -16,9 +16,9 @@ use Rattle.world_model.specs.declared.Articulation.TheVariants.{Pair, Sum}
 use Rattle.world_model.specs.declared.Switches.{Switches}
 use Rattle.constraint_set.specs.Build.{size_of}
 use Rattle.constraint_set.specs.Facts.{all_different, is_said}
-use Rattle.constraint_set.proofs.Laying.{Placed, placed}
+use Rattle.constraint_set.proofs.Laying.{Placed, placed, base, forest_at, name_at}
 use Rattle.cleantax_text.specs.declared.TextKind.TheVariants.{BadName, EmptyBraces, UnknownRelation, UnknownConcept, SameTaxonomy, ArticulationOutside, PartTwice, TooManyArticulations}
-use Rattle.cleantax_text.specs.Words.{reference_of, references_of, set_of_words}
+use Rattle.text_words.specs.Words.{reference_of, references_of, set_of_words}
 use Rattle.constraint_set.specs.Readers.{name_of}
 use Rattle.cleantax_text.specs.Canonical.{concept_text, spaced, word_of, set_text}
 use Rattle.cleantax_text.specs.Pieces.{line_of}
@@ -27,7 +27,7 @@ use Rattle.cleantax_text.proofs.NamedLemmas.{is_word_byte, IsConceptName, IsTaxo
 use Rattle.cleantax_text.proofs.ScanLemmas.{IsPrinted, printed_append, printed_low, printed_name, IsWord, Reads, reads_nothing, reads_more, reads_line}
 use Rattle.cleantax_text.proofs.RegrowLemmas.{own_position}
 use Rattle.cleantax_text.proofs.RowsBackLemmas.{taxonomy_is_name}
-use Rattle.cleantax_text.proofs.LaidLemmas.{base, forest_at, name_at, whole, counted, owner_is}
+use Rattle.cleantax_text.proofs.LaidLemmas.{whole, counted, owner_is}
 use Rattle.cleantax_text.proofs.EntryLineLemmas.{words_of_set, some_rels, pair_line, pair_read, printed_pair, sum_line, sum_read, printed_sum, reference_read}
 
 -- an entry without faults

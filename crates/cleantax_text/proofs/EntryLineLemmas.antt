@@ -10,8 +10,8 @@ use Rattle.rcc5_core.specs.declared.Rel.TheVariants.{Equals, Includes, IncludedI
 use Rattle.rcc5_core.specs.declared.RelSet.{RelSet}
 use Rattle.rcc5_core.specs.Relation.{all_rels}
 use Rattle.rcc5_core.specs.RelationSet.{has, adding, no_rels, is_empty_set}
-use Rattle.cleantax_text.specs.Tokens.{Token, Bracket, Word, tokens_after}
-use Rattle.cleantax_text.specs.Words.{is_dot, is_name, is_taxonomy_name, reference_of, relation_of_word, set_of_words}
+use Rattle.text_words.specs.Tokens.{Token, Bracket, Word, tokens_after}
+use Rattle.text_words.specs.Words.{is_dot, is_name, is_taxonomy_name, reference_of, relation_of_word, set_of_words}
 use Rattle.cleantax_text.specs.Forms.{PairEntry, SumEntry, form_of, words_to, sum_form, right_form, braces_form, entry_form, bracket_form}
 use Rattle.cleantax_text.specs.Canonical.{spaced, word_of, words_text, set_text}
 use Rattle.cleantax_text.proofs.ScanLemmas.{IsPrinted, printed_append, printed_low, printed_spaced, IsWord, EndsWord, scan_word, scan_spaced, spaced_ends, words_before}

@@ -3,9 +3,10 @@ use Rattle.std.proofs.Common.{◌≡◌, ◌==◌, ℕ, Bool, true, false, List,
 use Rattle.std.specs.Prelude.{option_map, if◌then◌else◌, bytes_eq, codes, ◌||◌}
 use Rattle.std.specs.Borrow.{Bor}
 use Rattle.std.proofs.lemmas.List.{append-nil}
-use Rattle.cleantax_text.specs.Tokens.{Token, Bracket, Word}
+use Rattle.text_words.specs.Tokens.{Token, Bracket, Word}
 use Rattle.cleantax_text.specs.Forms.{Form, ArticulationLine, NoForm, words_to, taxonomy_form, row_form, sum_form, braces_form, right_form, entry_form, bracket_form, form_of}
-use Rattle.cleantax_text.specs.Views.{at_bracket, onto_run, words_meant, IsWell}
+use Rattle.text_words.specs.Views.{words_meant}
+use Rattle.cleantax_text.specs.Views.{at_bracket, onto_run, IsWell}
 
 abbrev Found : Type 0
 Found = Option (List (List ℕ) × ℕ × List Token)

@@ -26,15 +26,16 @@ use Rattle.constraint_set.specs.Build.{size_of, owners_from, problem_of}
 use Rattle.constraint_set.specs.Facts.{is_said, all_different, all_fit, IsAsRead}
 use Rattle.world_model.specs.declared.Switches.{Switches}
 use Rattle.cleantax_text.specs.declared.TextKind.{TextKind}
-use Rattle.cleantax_text.specs.Words.{is_name, is_taxonomy_name, reference_of, references_of, relation_of_word, set_of_words}
+use Rattle.text_words.specs.Words.{is_name, is_taxonomy_name, reference_of, references_of, relation_of_word, set_of_words}
 use Rattle.cleantax_text.specs.Forms.{Form, Blank, TaxonomyLine, ArticulationLine, RowLine, PairEntry, SumEntry, NoForm, form_of}
 use Rattle.cleantax_text.specs.Reading.{Reading, InArticulations, nothing_read, fail_if, need, in_taxonomy, in_articulations, with_taxonomy, concepts_before, last_number, last_forest, with_forest, after_row, concept_number, concept_numbers, pair_of, with_articulation, after_pair, after_sum, after_form, after_line}
-use Rattle.cleantax_text.specs.Tokens.{tokens_of}
+use Rattle.text_words.specs.Tokens.{tokens_of}
 use Rattle.cleantax_text.specs.Views.{IsWell}
 use Rattle.cleantax_text.specs.Kept.{of_owners, IsKept}
 use Rattle.cleantax_text.proofs.FormLemmas.{well_form}
 use Rattle.cleantax_text.proofs.SizeLemmas.{grows_row}
 use Rattle.cleantax_text.proofs.OwnerLemmas.{owners_from-append, owners_grown, last_apart, articulations_more, IsFound, number_found, all2, all3}
+use Rattle.rcc5_core.proofs.Sets.{or_true}
 
 -- what comes before an answer that is no fault
 pub fail_if-Ok : {X : Type 0} (test : Bool) (kind : TextKind) (rest : Result X TextKind) (x : X) → fail_if test kind rest ≡ Ok x → (test ≡ false) × (rest ≡ Ok x)
@@ -164,10 +165,6 @@ pair_fits r a b i j s f g e = elim (cases_lt i j) [
       ap (λ t. is_articulation (of_owners (owners_from 0 r.forests)) (if t then Pair i j s else Pair j i (converses s))) (le-ltb i j le)
       ∙ all3 _ _ _ (lt-ltb j i lt) (lt-ltb i _ f.within) (ap not back)
 ]
-
-or_true : (b : Bool) → (b || true) ≡ true
-or_true true = refl
-or_true false = refl
 
 some_rel : (s : RelSet) (rel : Rel) → has s rel ≡ true → is_empty_set s ≡ false
 some_rel s Equals e = rw e refl

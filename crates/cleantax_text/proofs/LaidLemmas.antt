@@ -3,9 +3,9 @@ use Rattle.std.proofs.Common.{◌≡◌, ◌≢◌, ◌+◌, ◌-◌, ◌<◌, �
 use Rattle.std.specs.Prelude.{sum_by, codes, bytes_eq, flat_map, if◌then◌else◌}
 use Rattle.std.specs.List.{list_any, range_with_len}
 use Rattle.std.proofs.lemmas.Bool.{eq-eqb, ne_eqb, false_from_ne_true}
-use Rattle.std.proofs.lemmas.List.{append-nil, length-map, length-take-le, get_or-take, get_or-map, get_or_append_left, get_or-append-add, get_or_default, take_more, take_all}
+use Rattle.std.proofs.lemmas.List.{append-nil, length-map, length-take-le, get_or-take, get_or-map, get_or_default, take_more, take_all}
 use Rattle.std.proofs.lemmas.List.Folds.{list_any_none}
-use Rattle.std.proofs.lemmas.List.Sums.{sum_by-cons, sum_by_more_le}
+use Rattle.std.proofs.lemmas.List.Sums.{sum_by_more_le}
 use Rattle.std.proofs.lemmas.Grind.{flat_map-append}
 use Rattle.std.proofs.lemmas.Slice.Eq.{bytes_eq-Decides}
 use Rattle.taxon_tree.specs.Trees.{Trees, no_trees, children_of as forest_children, IsForest}
@@ -14,7 +14,7 @@ use Rattle.world_model.specs.declared.Articulation.{Articulation}
 use Rattle.world_model.specs.declared.Switches.{Switches}
 use Rattle.constraint_set.specs.Build.{size_of, children_from, problem_of}
 use Rattle.constraint_set.proofs.Lists.{range_split}
-use Rattle.constraint_set.proofs.Laying.{Placed, placed}
+use Rattle.constraint_set.proofs.Laying.{Placed, placed, name_at, base, forest_at, base_suc, first_at, later_at, up_all}
 use Rattle.constraint_set.specs.Readers.{name_of}
 use Rattle.cleantax_text.specs.Canonical.{spaced, taxonomy_text}
 use Rattle.cleantax_text.specs.Pieces.{heading, family, headings, families, taxonomies_text}
@@ -63,36 +63,6 @@ block_pieces f g a n rest all is below here above =
     let e : 0 + a + i ≡ a + i = omega arith in
     let h : i ≡ 0 + i = omega arith in
     ap f e ∙ here i lt ∙ ap g h)
-
--- how many concepts come before a forest
-abbrev pub base : List Trees → ℕ → ℕ
-base fs k = sum_by size_of (take k fs)
-
-abbrev pub forest_at : List Trees → ℕ → Trees
-forest_at fs k = get_or fs k no_trees
-
-base_suc : (f : Trees) (fs : List Trees) (k : ℕ) → base (f ∷ fs) (suc k) ≡ size_of f + base fs k
-base_suc f fs k = sum_by-cons size_of f (take k fs)
-
-first_at : {X : Type 0} (xs ys : List X) (n i : ℕ) (d : X) → length xs ≡ n → i < n → get_or (xs ++ ys) (0 + i) d ≡ get_or xs i d
-first_at xs ys n i d len h = let e : 0 + i ≡ i = omega arith in ap (λ j. get_or (xs ++ ys) j d) e ∙ get_or_append_left xs ys d i (omega (arith, len))
-
-later_at : {X : Type 0} (xs ys : List X) (n m i : ℕ) (d : X) → length xs ≡ n → get_or (xs ++ ys) (n + m + i) d ≡ get_or ys (m + i) d
-later_at xs ys n m i d len =
-    let e : n + m + i ≡ length xs + (m + i) = omega (arith, len) in
-    ap (λ j. get_or (xs ++ ys) j d) e ∙ get_or-append-add xs ys (m + i) d
-
-pub name_at : (fs : List Trees) (k i : ℕ) → k < length fs → i < size_of (forest_at fs k) → get_or (flat_map (λ (f : Trees). f.names) fs) (base fs k + i) [] ≡ get_or (forest_at fs k).names i []
-name_at [] k i h within = absurd (omega arith)
-name_at (f ∷ fs) zero i h within = first_at f.names (flat_map (λ (f : Trees). f.names) fs) (size_of f) i [] refl within
-name_at (f ∷ fs) (suc k) i h within =
-    ap (λ b. get_or (f.names ++ flat_map (λ (f : Trees). f.names) fs) (b + i) []) (base_suc f fs k)
-    ∙ later_at f.names (flat_map (λ (f : Trees). f.names) fs) (size_of f) (base fs k) i [] refl
-    ∙ name_at fs k i (omega arith) within
-
--- numbers moved up by so many
-abbrev up_all : ℕ → List ℕ → List ℕ
-up_all b = map (λ c. b + c)
 
 children_at : (b : ℕ) (fs : List Trees) (k i : ℕ) → All IsForest fs → k < length fs → i < size_of (forest_at fs k) →
     get_or (children_from b fs) (base fs k + i) [] ≡ up_all (b + base fs k) (forest_children (forest_at fs k) i)

@@ -1,7 +1,4 @@
-pub mod LineLemmas
-pub mod TokenLemmas
 pub mod FormLemmas
-pub mod WordLemmas
 pub mod SizeLemmas
 pub mod OwnerLemmas
 pub mod KeptLemmas

@@ -3,27 +3,25 @@ use Rattle.std.proofs.Common.{◌≡◌, ◌≢◌, ◌+◌, ◌-◌, ◌<◌, �
 use Rattle.std.specs.Prelude.{option_map, if◌then◌else◌, nat_le, bytes_eq, codes, ◌&&◌}
 use Rattle.std.specs.List.{list_all, list_any, AllByRecursion, position_or_len, before_first}
 use Rattle.std.proofs.lemmas.Bool.{and_parts, and_from, or_cases, eqb-true, true≢false}
-use Rattle.std.proofs.lemmas.List.{append-nil}
+use Rattle.std.proofs.lemmas.List.{append-nil, get_or-take, length-take}
 use Rattle.std.proofs.lemmas.List.Sums.{list_all-from_AllPass, prefix_len_passes}
 use Rattle.std.proofs.lemmas.List.Folds.{list_all-append, list_any_at}
 use Rattle.std.proofs.lemmas.List.Elements.{All-nil, All-push, All-set, All-get_or}
 use Rattle.std.proofs.lemmas.List.Quantifiers.{all_pairs_push}
-use Rattle.std.proofs.lemmas.List.{get_or-take, length-take}
 use Rattle.std.proofs.lemmas.Slice.Eq.{bytes_eq-Decides}
 use Rattle.taxon_tree.specs.Trees.{Trees, no_trees}
 use Rattle.taxon_tree.specs.Row.{with_name, with_link, place_of, add_child, add_children, add_row}
-use Rattle.taxon_tree.proofs.RowLemmas.{with_name-Ok, with_link-Ok}
+use Rattle.taxon_tree.proofs.RowLemmas.{with_name-Ok, with_link-Ok, and_then-Ok}
 use Rattle.world_model.specs.declared.Articulation.{Articulation}
 use Rattle.world_model.specs.declared.Articulation.TheVariants.{Sum}
 use Rattle.cleantax_text.specs.declared.TextKind.{TextKind}
-use Rattle.cleantax_text.specs.Tokens.{Token, Bracket, Word, ended, is_hash, is_blank, is_bracket, without_return, bare, tokens_after, tokens_of}
-use Rattle.cleantax_text.specs.Words.{is_name, is_taxonomy_name, reference_of, references_of, set_of_words}
+use Rattle.text_words.specs.Tokens.{Token, Bracket, Word, ended, is_hash, is_blank, is_bracket, without_return, bare, tokens_after, tokens_of}
+use Rattle.text_words.specs.Words.{is_name, is_taxonomy_name, reference_of, references_of, set_of_words}
 use Rattle.cleantax_text.specs.Forms.{Form, Blank, TaxonomyLine, ArticulationLine, RowLine, PairEntry, SumEntry, NoForm, words_to, taxonomy_form, row_form, sum_form, braces_form, right_form, entry_form, bracket_form, form_of}
-use Rattle.cleantax_text.specs.Views.{ends_word}
+use Rattle.text_words.specs.Views.{ends_word}
 use Rattle.cleantax_text.specs.Kept.{IsKept}
 use Rattle.constraint_set.specs.Facts.{all_different}
 use Rattle.cleantax_text.specs.Reading.{Reading, InArticulations, nothing_read, fail_if, in_taxonomy, in_articulations, concept_number, concept_numbers, with_taxonomy, concepts_before, last_number, last_forest, with_forest, with_articulation, pair_of, after_row, after_pair, after_sum, after_form, after_line, after_lines, and_then}
-use Rattle.cleantax_text.proofs.SizeLemmas.{and_then-Ok}
 use Rattle.cleantax_text.proofs.KeptLemmas.{fail_if-Ok, need-Ok, with_forest-Ok, not_true, kept_line, kept_nothing}
 use Rattle.cleantax_text.proofs.CutLemmas.{before_cut, after_cut, bare_utf8}
 

@@ -10,7 +10,7 @@ use Rattle.world_model.specs.declared.Switches.{Switches}
 use Rattle.constraint_set.specs.Build.{problem_of}
 use Rattle.cleantax_text.specs.declared.TextKind.{TextKind}
 use Rattle.cleantax_text.specs.declared.TextKind.TheVariants.{NotUtf8, TooLong, TaxonomyCount}
-use Rattle.cleantax_text.specs.Tokens.{is_line_end, without_mark, lines_of}
+use Rattle.text_words.specs.Tokens.{is_line_end, without_mark, lines_of}
 use Rattle.cleantax_text.specs.Canonical.{canonical_text}
 use Rattle.cleantax_text.specs.Pieces.{taxonomies_text, line_of}
 use Rattle.cleantax_text.specs.Reading.{Place, InArticulations, Reading, nothing_read, after_lines, at_end, text_result, IsProblemText}
@@ -29,13 +29,13 @@ record Gave (switches : Switches) (p : Problem) : Type 0 where
   is : p ≡ problem_of reading.ids reading.forests reading.articulations switches
 
 -- too few taxonomies; too many bytes; bytes that are not UTF-8
-abbrev unless_few : Bool → Problem → Result Problem (ℕ × TextKind)
+abbrev pub unless_few : Bool → Problem → Result Problem (ℕ × TextKind)
 unless_few few p = if few then Err (0, TaxonomyCount) else Ok p
 
-abbrev unless_long : Bool → Result Problem (ℕ × TextKind) → Result Problem (ℕ × TextKind)
+abbrev pub unless_long : Bool → Result Problem (ℕ × TextKind) → Result Problem (ℕ × TextKind)
 unless_long long rest = if long then Err (0, TooLong) else rest
 
-abbrev unless_invalid : List ℕ → Bool → Result Problem (ℕ × TextKind) → Result Problem (ℕ × TextKind)
+abbrev pub unless_invalid : List ℕ → Bool → Result Problem (ℕ × TextKind) → Result Problem (ℕ × TextKind)
 unless_invalid bytes invalid rest = if invalid then Err (count_by is_line_end (take (utf8_valid_len bytes) bytes) + 1, NotUtf8) else rest
 
 gave_at_end : (switches : Switches) (p : Problem) (made : Result Reading (ℕ × TextKind)) → ((r : Reading) → made ≡ Ok r → IsGiven r) → at_end switches made ≡ Ok p → Gave switches p

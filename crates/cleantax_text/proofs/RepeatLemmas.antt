@@ -7,8 +7,9 @@ use Rattle.std.proofs.lemmas.List.{take_more, take-append-drop}
 use Rattle.std.proofs.Math.Seq.{drop-cons}
 use Rattle.constraint_set.specs.Facts.{all_different}
 use Rattle.cleantax_text.specs.Reading.{Reading, concept_number, concept_numbers}
-use Rattle.cleantax_text.specs.declared.words.Reference.{Reference}
-use Rattle.cleantax_text.specs.Views.{reference_meant, references_meant, onto_numbers}
+use Rattle.text_words.specs.declared.words.Reference.{Reference}
+use Rattle.text_words.specs.Views.{reference_meant, references_meant}
+use Rattle.cleantax_text.specs.Views.{onto_numbers}
 
 -- a number that is new at the end
 list_any_last : (p : ℕ → Bool) (xs : List ℕ) (x : ℕ) → list_any p xs ≡ false → p x ≡ false → list_any p (xs ++ x ∷ []) ≡ false

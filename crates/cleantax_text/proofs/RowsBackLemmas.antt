@@ -9,8 +9,8 @@ use Rattle.taxon_tree.specs.Trees.{Trees, no_trees, name_of, children_of, IsFore
 use Rattle.taxon_tree.specs.Row.{add_row}
 use Rattle.constraint_set.specs.Build.{size_of}
 use Rattle.cleantax_text.specs.declared.TextKind.TheVariants.{BadName, TaxonomyTwice, TaxonomyCount}
-use Rattle.cleantax_text.specs.Tokens.{Bracket, Word, tokens_after}
-use Rattle.cleantax_text.specs.Words.{is_name, is_taxonomy_name}
+use Rattle.text_words.specs.Tokens.{Bracket, Word, tokens_after}
+use Rattle.text_words.specs.Words.{is_name, is_taxonomy_name}
 use Rattle.cleantax_text.specs.Forms.{RowLine, form_of, row_form}
 use Rattle.cleantax_text.specs.Canonical.{spaced}
 use Rattle.cleantax_text.specs.Reading.{InTaxonomy, Reading, fail_if, with_taxonomy, concepts_before, last_number, last_forest, with_forest, after_form}

@@ -10,10 +10,10 @@ use Rattle.std.proofs.lemmas.List.Sums.{AllPass-from_list_all}
 use Rattle.std.proofs.lemmas.Str.{IsUtf8-nil, IsUtf8-append, IsUtf8-from_ascii}
 use Rattle.std.proofs.lemmas.Str.Ascii.{IsAscii-from_all}
 use Rattle.std.proofs.lemmas.List.Elements.{All-weaker}
-use Rattle.cleantax_text.specs.Tokens.{Bracket, Word, is_line_end, is_hash, is_blank, is_bracket, lines_of, without_return, bare, tokens_after}
-use Rattle.cleantax_text.specs.Words.{is_name_byte, is_name}
+use Rattle.text_words.specs.Tokens.{Bracket, Word, is_line_end, is_hash, is_blank, is_bracket, lines_of, without_return, bare, tokens_after}
+use Rattle.text_words.specs.Words.{is_name_byte, is_name}
 use Rattle.cleantax_text.specs.Forms.{form_of, words_to}
-use Rattle.cleantax_text.specs.Views.{ends_word}
+use Rattle.text_words.specs.Views.{ends_word}
 use Rattle.cleantax_text.specs.Canonical.{spaced}
 use Rattle.cleantax_text.specs.Reading.{Reading, after_form, after_lines, and_then}
 use Rattle.cleantax_text.proofs.NamedLemmas.{is_plain, is_word_byte, IsClean}

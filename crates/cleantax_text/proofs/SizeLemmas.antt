@@ -1,10 +1,9 @@
 -- How many concepts a row leaves.
-use Rattle.std.proofs.Common.{◌≡◌, ◌+◌, ◌≤◌, ℕ, List, [], ◌∷◌, length, Result, Ok, Err, refl, ap, ◌∙◌, arith, inl, inr, subst}
+use Rattle.std.proofs.Common.{◌≡◌, ◌+◌, ◌≤◌, ℕ, List, [], ◌∷◌, length, Ok, ap, ◌∙◌, arith, inl, inr, subst}
 use Rattle.std.proofs.lemmas.List.{length_push}
 use Rattle.taxon_tree.specs.Trees.{Trees}
-use Rattle.taxon_tree.specs.Row.{and_then, with_name, with_link, place_of, add_child, add_children, add_row}
-use Rattle.taxon_tree.specs.declared.ForestFault.{ForestFault}
-use Rattle.taxon_tree.proofs.RowLemmas.{with_name-Ok, with_link-Ok}
+use Rattle.taxon_tree.specs.Row.{with_name, with_link, place_of, add_child, add_children, add_row}
+use Rattle.taxon_tree.proofs.RowLemmas.{with_name-Ok, with_link-Ok, and_then-Ok}
 
 -- g has the concepts of f and more, and no more than the limit
 pub record Grows (limit : ℕ) (f g : Trees) : Type 0 where
@@ -22,10 +21,6 @@ grows_name limit f name g h e = elim (with_name-Ok limit f name g e) [
 
 same_link : (parent : ℕ) (f : Trees) (c : ℕ) (g : Trees) → with_link parent f c ≡ Ok g → length g.names ≡ length f.names
 same_link parent f c g e = let links = with_link-Ok parent f c g e in ap (λ t. length t.names) links.is
-
-pub and_then-Ok : (r : Result Trees ForestFault) (next : Trees → Result Trees ForestFault) (g : Trees) → and_then r next ≡ Ok g → (f : Trees) × (r ≡ Ok f) × (next f ≡ Ok g)
-and_then-Ok (Ok f) next g e = (f, refl, e)
-and_then-Ok (Err k) next g e = absurd (cc)
 
 grows_child : (limit parent : ℕ) (f : Trees) (name : List ℕ) (g : Trees) → length f.names ≤ limit → add_child limit parent f name ≡ Ok g → Grows limit f g
 grows_child limit parent f name g h e =

@@ -7,7 +7,7 @@ use Rattle.std.specs.Str.Lossy.{utf8_valid_len}
 use Rattle.world_model.specs.declared.Switches.{Switches}
 use Rattle.constraint_set.specs.Build.{problem_of}
 use Rattle.cleantax_text.specs.declared.TextKind.{TextKind}
-use Rattle.cleantax_text.specs.Tokens.{lines_of, without_mark}
+use Rattle.text_words.specs.Tokens.{lines_of, without_mark}
 use Rattle.cleantax_text.specs.Reading.{Reading, nothing_read, after_line, after_lines, and_then, at_end, text_result}
 use Rattle.cleantax_text.specs.Whole.{with_two, text_reading, built, lines_left}
 

@@ -5,7 +5,7 @@ use Rattle.cleantax_text.specs.declared.TextKind.TheVariants.{BadLine, UnknownRe
 use Rattle.taxon_tree.specs.Row.{with_name, with_link}
 use Rattle.taxon_tree.specs.Ancestry.{is_ancestor, decided}
 use Rattle.cleantax_text.specs.declared.TextKind.{TextKind}
-use Rattle.cleantax_text.specs.Tokens.{lines_of}
+use Rattle.text_words.specs.Tokens.{lines_of}
 use Rattle.cleantax_text.specs.Reading.{at_end, after_lines, nothing_read}
 
 -- all three switches on

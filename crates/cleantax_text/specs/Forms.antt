@@ -1,6 +1,6 @@
 -- The forms of lines.
 use Rattle.std.specs.Prelude.{ℕ, ◌==◌, ◌||◌, List, [], ◌∷◌, ◌++◌, Option, Some, None, option_map, if◌then◌else◌, bytes_eq, codes}
-use Rattle.cleantax_text.specs.Tokens.{Token, Bracket, Word}
+use Rattle.text_words.specs.Tokens.{Token, Bracket, Word}
 
 -- what a line is
 pub data Form : Type 0 where

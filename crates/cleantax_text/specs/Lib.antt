@@ -1,5 +1,3 @@
-pub mod Tokens
-pub mod Words
 pub mod Forms
 pub mod Reading
 pub mod Canonical

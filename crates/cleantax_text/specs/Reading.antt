@@ -16,8 +16,8 @@ use Rattle.constraint_set.specs.Build.{size_of, problem_of}
 use Rattle.constraint_set.specs.Facts.{all_different}
 use Rattle.cleantax_text.specs.declared.TextKind.{TextKind}
 use Rattle.cleantax_text.specs.declared.TextKind.TheVariants.{NotUtf8, BadLine, BadName, UnknownRelation, EmptyBraces, RowOutsideTaxonomy, ArticulationOutside, TaxonomyTwice, TaxonomyCount, UnknownConcept, SameTaxonomy, TwoParents, ChildTwice, Cycle, TooManyConcepts, TooManyArticulations, TooLong, NoMemory, PartTwice}
-use Rattle.cleantax_text.specs.Tokens.{without_mark, is_line_end, lines_of, tokens_of}
-use Rattle.cleantax_text.specs.Words.{is_name, is_taxonomy_name, reference_of, references_of, set_of_words}
+use Rattle.text_words.specs.Tokens.{without_mark, is_line_end, lines_of, tokens_of}
+use Rattle.text_words.specs.Words.{is_name, is_taxonomy_name, reference_of, references_of, set_of_words}
 use Rattle.cleantax_text.specs.Forms.{Form, Blank, TaxonomyLine, ArticulationLine, RowLine, PairEntry, SumEntry, NoForm, form_of}
 
 -- where in a text one is: before all taxonomies, in a taxonomy, or among articulations

@@ -7,7 +7,7 @@ use Rattle.world_model.specs.declared.Switches.{Switches}
 use Rattle.constraint_set.specs.Build.{problem_of}
 use Rattle.cleantax_text.specs.declared.TextKind.{TextKind}
 use Rattle.cleantax_text.specs.declared.TextKind.TheVariants.{NotUtf8, TooLong, TaxonomyCount}
-use Rattle.cleantax_text.specs.Tokens.{is_line_end, lines_of, without_mark}
+use Rattle.text_words.specs.Tokens.{is_line_end, lines_of, without_mark}
 use Rattle.cleantax_text.specs.Reading.{Reading, nothing_read, after_lines}
 
 -- a text that isn't too long

@@ -1,13 +1,12 @@
 //! The form of a line, by its tokens.
 ghost use Rattle.std.specs.Prelude.{◌≡◌, [], ◌∷◌, ℕ, List, map, IfOk, option_map};
-ghost use Rattle.cleantax_text.specs.Tokens.{Word, tokens_after, tokens_of};
+ghost use Rattle.text_words.specs.Tokens.{Word, tokens_after, tokens_of};
 ghost use Rattle.cleantax_text.specs.Forms.{words_to, taxonomy_form, row_form, sum_form, right_form, braces_form, entry_form, bracket_form, form_of};
-ghost use Rattle.cleantax_text.specs.Views.{form_meant, IsWell, run_meant, words_meant, at_bracket};
+ghost use Rattle.text_words.specs.Views.{words_meant};
+ghost use Rattle.cleantax_text.specs.Views.{form_meant, IsWell, run_meant, at_bracket};
 
-use crate::lines::bare;
-use crate::tokens::{Token, next_token};
-use crate::words::is_same;
 use std::alloc::{AllocError, Global};
+use text_words::{Token, bare, is_same, next_token};
 
 /// What a line is, with its words.
 #[derive(Drop)]

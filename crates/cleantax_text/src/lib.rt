@@ -8,13 +8,10 @@ ghost use Rattle.cleantax_text.specs.ReadsBack.{PrintingReadsBack};
 ghost use Rattle.cleantax_text.specs.declared.TextKind.TheVariants.{NoMemory};
 
 mod forms;
-mod lines;
 mod naming;
 mod print;
 mod reader;
 mod text;
-mod tokens;
-mod words;
 
 pub use crate::print::{articulation_text, concept_text, print_problem};
 pub use crate::text::MAX_TEXT_LEN;

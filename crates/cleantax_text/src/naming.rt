@@ -2,15 +2,15 @@
 ghost use Rattle.std.specs.Prelude.{◌≡◌, ◌<◌, length, map, position, bytes_eq, IfOk, IfSome};
 ghost use Rattle.std.specs.List.{list_any, list_all};
 ghost use Rattle.constraint_set.specs.Facts.{all_different};
-ghost use Rattle.cleantax_text.specs.Words.{is_name};
-ghost use Rattle.cleantax_text.specs.Views.{words_meant, references_meant};
+ghost use Rattle.text_words.specs.Words.{is_name};
+ghost use Rattle.text_words.specs.Views.{words_meant, references_meant};
 
-use crate::words::{Reference, is_name, is_same};
 use indexmap::IndexSet;
 use std::alloc::{AllocError, Global};
+use text_words::{Reference, is_name, is_same};
 
 /// Whether all words are names.
-#[tactic(auto, using(crate::proofs::WordLemmas::list_all_words))]
+#[tactic(auto, using(text_words::proofs::WordLemmas::list_all_words))]
 pub(crate) fn are_names(words: &[&[u8]]) -> bool
     ensures { result ≡ list_all is_name (words_meant words.now) }
 {

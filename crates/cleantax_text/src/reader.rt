@@ -8,19 +8,18 @@ ghost use Rattle.constraint_set.specs.Build.{size_of};
 ghost use Rattle.taxon_tree.specs.Trees.{no_trees, number_of};
 ghost use Rattle.cleantax_text.specs.Forms.{TaxonomyLine};
 ghost use Rattle.cleantax_text.specs.Reading.{nothing_read, in_taxonomy, in_articulations, with_taxonomy, concepts_before, concept_number, kind_of, with_forest, after_row, concept_numbers, pair_of, with_articulation, after_pair, after_sum, after_form, after_line};
-ghost use Rattle.cleantax_text.specs.Views.{words_meant, reference_meant, references_meant, form_meant, IsWell};
+ghost use Rattle.text_words.specs.Views.{words_meant, reference_meant, references_meant};
+ghost use Rattle.cleantax_text.specs.Views.{form_meant, IsWell};
 ghost use Rattle.cleantax_text.specs.Kept.{meant, IsKept, row_of, with_one_more, among_articulations};
 
 use crate::TextKind;
 use crate::forms::{Form, form_of};
 use crate::naming::{are_different, are_names, copies, is_among, is_taxonomy_among, place_of};
-use crate::words::{
-    Reference, is_same, is_taxonomy_name, reference_of, references_of, set_of_words,
-};
 use constraint_set::{MAX_ARTICULATIONS, MAX_CONCEPTS, MAX_TAXONOMIES};
 use rcc5_core::RelSet;
 use std::alloc::{AllocError, Global};
 use taxon_tree::{Forest, ForestFault};
+use text_words::{Reference, is_same, is_taxonomy_name, reference_of, references_of, set_of_words};
 use world_model::{Articulation, Parts};
 
 /// Where in a text one is.

@@ -4,17 +4,17 @@ ghost use Rattle.std.specs.Str.Lossy.{utf8_valid_len};
 ghost use Rattle.cleantax_text.specs.declared.TextKind.TheVariants.{NoMemory};
 ghost use Rattle.constraint_set.specs.Build.{problem_of};
 ghost use Rattle.constraint_set.specs.Facts.{IsAsRead};
-ghost use Rattle.cleantax_text.specs.Tokens.{is_line_end, lines_of, without_mark};
+ghost use Rattle.text_words.specs.Tokens.{is_line_end, lines_of, without_mark};
 ghost use Rattle.cleantax_text.specs.Reading.{nothing_read, after_line, after_lines, IsProblemText, HasFirstFault};
 ghost use Rattle.cleantax_text.specs.Kept.{meant, IsKept};
 ghost use Rattle.cleantax_text.specs.Whole.{text_reading, marked_reading};
 
-use crate::lines::first_line;
 use crate::reader::Reader;
 use crate::{TextFault, TextKind};
 use constraint_set::Problem;
 use std::alloc::{AllocError, Global};
 use std::str;
+use text_words::first_line;
 use world_model::Switches;
 
 /// A text has no more bytes than these.
@@ -37,7 +37,7 @@ fn line_ends(bytes: &[u8]) -> usize
     bytes.iter().filter(|b| **b == b'\n').count()
 }
 
-#[tactic(auto, using(crate::proofs::LineLemmas::cut_rules))]
+#[tactic(auto, using(text_words::proofs::LineLemmas::cut_rules))]
 fn without_mark(bytes: &[u8]) -> &[u8]
     ensures { result.now ≡ without_mark bytes.now }
 {

@@ -5,7 +5,7 @@ use Rattle.std.specs.List.{position_or_len, before_first, after_first}
 use Rattle.std.proofs.lemmas.List.{drop_more}
 use Rattle.std.specs.declared.string.String.{String}
 use Rattle.std.specs.declared.alloc.Global.{Global}
-use Rattle.cleantax_text.proofs.WordLemmas.{any_placed, none_placed}
+use Rattle.text_words.proofs.WordLemmas.{any_placed, none_placed}
 use Rattle.command_line.specs.declared.Key.{Key}
 use Rattle.command_line.specs.declared.Operand.{Operand}
 use Rattle.command_line.specs.declared.UsageKind.{UsageKind}

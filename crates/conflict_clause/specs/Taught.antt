@@ -49,7 +49,11 @@ pub record IsLearnt (t : TrailState) (lits hints : List ℕ) (back : ℕ) : Type
   pub up_to : (lit : ℕ) → Contains others lit → level_in t.places lit ≤ back
   pub below : back < t.level
 
--- a taught clause each of whose literals is the negation of an assumed one, or the one literal that is let stand
+-- each literal of a clause is the negation of an assumed one, or the one literal that is let stand
+abbrev pub AreClosed : List Place → Option ℕ → List ℕ → Type 0
+AreClosed places stands lits = (lit : ℕ) → Contains lits lit → (stands ≡ Some lit) ⊎ IsTrue (is_decided places (negation_of lit))
+
+-- a taught clause of such literals
 pub record IsClosing (t : TrailState) (stands : Option ℕ) (lits hints : List ℕ) : Type 0 where
   pub taught : IsTaught t lits hints
-  pub closed : (lit : ℕ) → Contains lits lit → (stands ≡ Some lit) ⊎ IsTrue (is_decided t.places (negation_of lit))
+  pub closed : AreClosed t.places stands lits

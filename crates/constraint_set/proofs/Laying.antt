@@ -19,15 +19,15 @@ forest_at fs k = get_or fs k no_trees
 abbrev pub base : List Trees → ℕ → ℕ
 base fs k = all_of (take k fs)
 
-first_at : {X : Type 0} (xs ys : List X) (n i : ℕ) (d : X) → length xs ≡ n → i < n → get_or (xs ++ ys) (0 + i) d ≡ get_or xs i d
+pub first_at : {X : Type 0} (xs ys : List X) (n i : ℕ) (d : X) → length xs ≡ n → i < n → get_or (xs ++ ys) (0 + i) d ≡ get_or xs i d
 first_at xs ys n i d len h = let e : 0 + i ≡ i = omega arith in ap (λ j. get_or (xs ++ ys) j d) e ∙ get_or_append_left xs ys d i (omega (arith, len))
 
-later_at : {X : Type 0} (xs ys : List X) (n m i : ℕ) (d : X) → length xs ≡ n → get_or (xs ++ ys) (n + m + i) d ≡ get_or ys (m + i) d
+pub later_at : {X : Type 0} (xs ys : List X) (n m i : ℕ) (d : X) → length xs ≡ n → get_or (xs ++ ys) (n + m + i) d ≡ get_or ys (m + i) d
 later_at xs ys n m i d len =
     let e : n + m + i ≡ length xs + (m + i) = omega (arith, len) in
     ap (λ j. get_or (xs ++ ys) j d) e ∙ get_or-append-add xs ys (m + i) d
 
-base_suc : (f : Trees) (fs : List Trees) (k : ℕ) → base (f ∷ fs) (suc k) ≡ size_of f + base fs k
+pub base_suc : (f : Trees) (fs : List Trees) (k : ℕ) → base (f ∷ fs) (suc k) ≡ size_of f + base fs k
 base_suc f fs k = sum_by-cons size_of f (take k fs)
 
 rest_hold : (f : Trees) (fs : List Trees) → All IsForest (f ∷ fs) → All IsForest fs
@@ -46,7 +46,7 @@ owner_at w (f ∷ fs) (suc k) i h within =
     ∙ later_at (replicate n w) (owners_from (w + 1) fs) n (base fs k) i 0 (length-replicate n w)
     ∙ owner_at (w + 1) fs k i (omega arith) within ∙ e
 
-name_at : (fs : List Trees) (k i : ℕ) → k < length fs → i < size_of (forest_at fs k) → get_or (flat_map (λ (f : Trees). f.names) fs) (base fs k + i) [] ≡ get_or (forest_at fs k).names i []
+pub name_at : (fs : List Trees) (k i : ℕ) → k < length fs → i < size_of (forest_at fs k) → get_or (flat_map (λ (f : Trees). f.names) fs) (base fs k + i) [] ≡ get_or (forest_at fs k).names i []
 name_at [] k i h within = absurd (omega arith)
 name_at (f ∷ fs) zero i h within = first_at f.names (flat_map (λ (f : Trees). f.names) fs) (size_of f) i [] refl within
 name_at (f ∷ fs) (suc k) i h within =
@@ -58,7 +58,7 @@ name_at (f ∷ fs) (suc k) i h within =
 abbrev up_one : ℕ → Option ℕ → Option ℕ
 up_one b = option_map (λ c. b + c)
 
-abbrev up_all : ℕ → List ℕ → List ℕ
+abbrev pub up_all : ℕ → List ℕ → List ℕ
 up_all b = map (λ c. b + c)
 
 parent_at : (b : ℕ) (fs : List Trees) (k i : ℕ) → All IsForest fs → k < length fs → i < size_of (forest_at fs k) →

@@ -5,3 +5,4 @@ pub mod Gathering
 pub mod Laying
 pub mod Keeping
 pub mod Sums
+pub mod PointTests

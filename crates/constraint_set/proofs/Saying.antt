@@ -1,54 +1,20 @@
 -- What statements say of pairs, one after another.
-use Rattle.std.proofs.Common.{◌≡◌, ℕ, ◌+◌, ◌<◌, Bool, true, false, ◌&&◌, cond, eqb, List, [], ◌∷◌, ◌++◌, map, length, take, get_or, replicate, Option, None, Some, inl, inr, refl, sym, ap, ◌∙◌, subst, arith}
-use Rattle.std.specs.Prelude.{filter, if◌then◌else◌}
-use Rattle.std.specs.List.{cons_option, list_all}
+use Rattle.std.proofs.Common.{◌≡◌, ℕ, ◌+◌, ◌<◌, Bool, true, false, cond, eqb, List, [], ◌∷◌, ◌++◌, map, length, take, get_or, replicate, Option, None, Some, inl, inr, refl, sym, ap, ◌∙◌, subst, arith}
+use Rattle.std.specs.Prelude.{if◌then◌else◌}
+use Rattle.std.specs.List.{cons_option}
 use Rattle.std.specs.Option.{option_to_list}
-use Rattle.std.proofs.lemmas.Bool.{eq-eqb, eqb-true, and_from, and_parts, cases_eq, false_from_ne_true}
+use Rattle.std.proofs.lemmas.Bool.{eq-eqb, eqb-true, cases_eq, false_from_ne_true}
 use Rattle.std.proofs.lemmas.List.{take_more, append-nil, length-take-le}
-use Rattle.std.proofs.Math.Bool.{and_assoc}
-use Rattle.rcc5_core.specs.declared.Rel.{Rel}
-use Rattle.rcc5_core.specs.declared.Rel.TheVariants.{Equals, Includes, IncludedIn, Overlaps, Disjoint}
 use Rattle.rcc5_core.specs.declared.RelSet.{RelSet}
-use Rattle.rcc5_core.specs.RelationSet.{has, both_of, every_rel}
+use Rattle.rcc5_core.specs.RelationSet.{both_of, every_rel}
 use Rattle.world_model.specs.declared.Articulation.{Articulation}
-use Rattle.world_model.specs.Problem.{Problem, Constraint, pair_count, as_constraint, is_about_pair, narrowed}
-use Rattle.world_model.specs.Alive.{is_about, meet_of}
+use Rattle.world_model.specs.Problem.{Problem, Constraint, pair_count, as_constraint, narrowed}
+use Rattle.world_model.specs.Alive.{is_about, meet_of, said_of}
 use Rattle.world_model.specs.Node.{pair_at}
-use Rattle.world_model.proofs.PointWhole.{has-both_of, has-every_rel, about_is, about_from}
-use Rattle.constraint_set.specs.Sets.{set_at, Narrows, said_of, AreSets, Says, said_if, kept_statements, IsState}
-use Rattle.constraint_set.specs.Shape.{shape_of, with_state}
-
-same_sets : (a b : RelSet) → ((rel : Rel) → has a rel ≡ has b rel) → a ≡ b
-same_sets a b same =
-    let e : a.equals ≡ b.equals = same Equals in
-    let i : a.includes ≡ b.includes = same Includes in
-    let n : a.included_in ≡ b.included_in = same IncludedIn in
-    let o : a.overlaps ≡ b.overlaps = same Overlaps in
-    let d : a.disjoint ≡ b.disjoint = same Disjoint in
-    let whole : record { equals = a.equals; includes = a.includes; included_in = a.included_in; overlaps = a.overlaps; disjoint = a.disjoint } ≡ b = rw (e, i, n, o, d) refl in
-    whole
-
-both_of_assoc : (a b c : RelSet) → both_of a (both_of b c) ≡ both_of (both_of a b) c
-both_of_assoc a b c = same_sets (both_of a (both_of b c)) (both_of (both_of a b) c) (λ rel.
-    has-both_of a (both_of b c) rel ∙ ap (λ r. has a rel && r) (has-both_of b c rel) ∙ sym (and_assoc (has a rel) (has b rel) (has c rel)) ∙
-    sym (ap (λ l. l && has c rel) (has-both_of a b rel)) ∙ sym (has-both_of (both_of a b) c rel))
-
-and_true : (b : Bool) → (b && true) ≡ b
-and_true true = refl
-and_true false = refl
-
-both_of_every : (a : RelSet) → both_of a every_rel ≡ a
-both_of_every a = same_sets (both_of a every_rel) a (λ rel. has-both_of a every_rel rel ∙ ap (λ r. has a rel && r) (has-every_rel rel) ∙ and_true (has a rel))
-
-said_of-append : (pair : ℕ × ℕ) (cs ds : List Constraint) → said_of pair (cs ++ ds) ≡ both_of (said_of pair cs) (said_of pair ds)
-said_of-append pair [] ds = refl
-said_of-append pair (c ∷ cs) ds = split (is_about pair c) (said_of-append pair cs ds)
-  where
-    split : (b : Bool) → said_of pair (cs ++ ds) ≡ both_of (said_of pair cs) (said_of pair ds) →
-        meet_of (map (λ c. c.set) (cond b (c ∷ filter (is_about pair) (cs ++ ds)) (filter (is_about pair) (cs ++ ds)))) ≡
-        both_of (meet_of (map (λ c. c.set) (cond b (c ∷ filter (is_about pair) cs) (filter (is_about pair) cs)))) (said_of pair ds)
-    split true e = ap (both_of c.set) e ∙ both_of_assoc c.set (said_of pair cs) (said_of pair ds)
-    split false e = e
+use Rattle.world_model.proofs.PointOnce.{both_of_every, said_of-append}
+use Rattle.world_model.proofs.PointWhole.{about_is, about_from}
+use Rattle.constraint_set.specs.Sets.{set_at, Narrows, AreSets, Says, said_if, kept_statements, IsState}
+use Rattle.constraint_set.specs.Shape.{with_state}
 
 -- one statement, on a pair that it is about and on another
 said_mine : (pair : ℕ × ℕ) (c : Constraint) → is_about pair c ≡ true → said_of pair (c ∷ []) ≡ c.set
@@ -139,11 +105,6 @@ pub same_state : (shape shape' : Problem) (flags flags' : List Bool) (kept kept'
     shape' ≡ shape → flags' ≡ flags → kept' ≡ kept → narrowings' ≡ narrowings → narrowed' ≡ narrowed →
     IsState shape flags kept narrowings narrowed → IsState shape' flags' kept' narrowings' narrowed'
 same_state shape shape' flags flags' kept kept' narrowings narrowings' narrowed narrowed' a b c d e s = rw (a, b, c, d, e) s
-
--- a problem, by equal parts
-pub same_problem : (p shape : Problem) (flags : List Bool) (narrowings : List Constraint) → shape ≡ shape_of p → flags ≡ p.kept → narrowings ≡ p.narrowings → with_state shape flags narrowings ≡ p
-same_problem p shape flags narrowings a b c =
-    ap (λ s. with_state s flags narrowings) a ∙ ap (λ f. with_state p f narrowings) b ∙ ap (λ n. with_state p p.kept n) c
 
 -- a problem with one more narrowing, by equal parts
 pub narrowed_is : (shape shape' : Problem) (flags flags' : List Bool) (narrowings longer : List Constraint) (pair q : ℕ × ℕ) (set : RelSet) →

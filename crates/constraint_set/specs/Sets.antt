@@ -1,12 +1,12 @@
 -- What is said of pairs, kept by their numbers.
-use Rattle.std.specs.Prelude.{◌≡◌, ℕ, ◌<◌, ◌==◌, Bool, List, [], ◌++◌, length, map, filter, filter_map, nat_eq, IsTrue, if◌then◌else◌}
+use Rattle.std.specs.Prelude.{◌≡◌, ℕ, ◌<◌, ◌==◌, Bool, List, [], ◌++◌, length, filter_map, nat_eq, IsTrue, if◌then◌else◌}
 use Rattle.std.specs.Option.{unwrap_or, option_to_list}
 use Rattle.std.specs.List.{list_all, items_where_true}
 use Rattle.std.specs.Map.{lookup}
 use Rattle.rcc5_core.specs.declared.RelSet.{RelSet}
 use Rattle.rcc5_core.specs.RelationSet.{every_rel, both_of}
 use Rattle.world_model.specs.Problem.{Problem, Constraint, pair_count, as_constraint, is_about_pair}
-use Rattle.world_model.specs.Alive.{is_about, meet_of}
+use Rattle.world_model.specs.Alive.{said_of}
 use Rattle.world_model.specs.Node.{pair_at}
 use Rattle.world_model.specs.declared.Articulation.{Articulation}
 
@@ -17,10 +17,6 @@ set_at sets k = unwrap_or (lookup (nat_eq k) sets) every_rel
 -- the set of one pair is met with another set, and the others stay
 abbrev pub Narrows : List (ℕ × RelSet) → List (ℕ × RelSet) → ℕ → RelSet → Type 0
 Narrows old new pair set = (k : ℕ) → set_at new k ≡ (if k == pair then both_of (set_at old pair) set else set_at old k)
-
--- what all statements about a pair have in common
-abbrev pub said_of : ℕ × ℕ → List Constraint → RelSet
-said_of pair statements = meet_of (map (λ c. c.set) (filter (is_about pair) statements))
 
 -- the sets kept by number are what the statements say of each pair
 pub record AreSets (p : Problem) (statements : List Constraint) (sets : List (ℕ × RelSet)) : Type 0 where

@@ -1,12 +1,12 @@
 -- The parts of a solver: what is so of them, and what its steps keep.
-use Rattle.std.specs.Prelude.{◌≡◌, ℕ, ◌+◌, ◌*◌, ◌<◌, ◌≤◌, ◌⊎◌, Bool, true, false, List, [], ◌∷◌, ◌++◌, length, min, Option, Some, None, Contains, IsPermutation, slice_index_or, IsTrue}
-use Rattle.lits_core.specs.Literals.{variable_of, negation_of, is_negative}
+use Rattle.std.specs.Prelude.{◌≡◌, ℕ, ◌+◌, ◌*◌, ◌<◌, ◌≤◌, ◌⊎◌, Bool, true, false, List, [], ◌∷◌, ◌++◌, length, min, Option, Some, None, Contains, IsPermutation, slice_index_or}
+use Rattle.lits_core.specs.Literals.{variable_of, is_negative}
 use Rattle.lits_core.specs.Derivation.{DerivedFollow}
 use Rattle.clause_arena.specs.Records.{Record, record_at, forgotten}
 use Rattle.watch_arena.specs.declared.places.Place.{Place}
 use Rattle.watch_arena.specs.Places.{is_true, is_assumed}
 use Rattle.watch_arena.specs.Trails.{TrailState, places_up_to}
-use Rattle.conflict_clause.specs.Taught.{is_decided}
+use Rattle.conflict_clause.specs.Taught.{AreClosed}
 use Rattle.learn_solver.specs.declared.learner.Learner.{Learner}
 use Rattle.learn_solver.specs.declared.solver.Answer.{Answer}
 use Rattle.learn_solver.specs.Solving.{SolverState, GoesTo}
@@ -100,11 +100,6 @@ pub record Turns (old new : TrailState) : Type 0 where
   pub implied : is_assumed last ≡ false
   pub places : new.places ≡ places_up_to old.places back ++ last ∷ []
   pub variables : new.variables ≡ old.variables
-
--- each literal is the negation of an assumed one, or the one that is let stand
-abbrev pub AreClosed : List Place → Option ℕ → List ℕ → Type 0
-AreClosed places stands lits =
-    (lit : ℕ) → Contains lits lit → (stands ≡ Some lit) ⊎ IsTrue (is_decided places (negation_of lit))
 
 -- an id is that of a record with such literals
 pub record IsClosed (t : TrailState) (stands : Option ℕ) (id : ℕ) : Type 0 where

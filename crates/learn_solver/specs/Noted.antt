@@ -10,3 +10,12 @@ AreAssigned noted places = (variable : ℕ) → slice_index_or noted variable fa
 -- each noted variable is one that a literal can have
 abbrev pub AreSmall : List Bool → Type 0
 AreSmall noted = (variable : ℕ) → slice_index_or noted variable false ≡ true → variable < 2 ^ 31
+
+-- each noted variable is below an end
+abbrev pub AreBelow : List Bool → ℕ → Type 0
+AreBelow noted end = (variable : ℕ) → slice_index_or noted variable false ≡ true → variable < end
+
+-- what an order keeps
+pub record IsOrder (noted : List Bool) (end : ℕ) : Type 0 where
+  pub small : AreSmall noted
+  pub below : AreBelow noted end

@@ -3,7 +3,6 @@
 
 mod alike;
 mod asking;
-mod heap;
 mod learner;
 mod literals;
 mod order;

@@ -2,9 +2,9 @@
 ghost use Rattle.std.specs.Prelude.{◌≡◌, ◌<◌, ◌^◌, true, false, None, length, replicate, slice_set, IfOk, IfSome, IsTrue, MatchOption};
 ghost use Rattle.lits_core.specs.Literals.{variable_of};
 ghost use Rattle.watch_arena.specs.Places.{place_of};
-ghost use Rattle.learn_solver.specs.Noted.{AreAssigned, AreSmall};
+ghost use Rattle.learn_solver.specs.Noted.{AreAssigned, AreBelow, AreSmall};
 
-use crate::heap::Heap;
+use activity_heap::Heap;
 use lits_core::Lit;
 use std::alloc::{AllocError, Global};
 use std::marker::Model;
@@ -20,6 +20,8 @@ pub(crate) struct Order {
     noted: Vec<bool>,
     values: Vec<bool>,
     heap: Heap,
+    // Noted variables are below it. They are few beside all: of the others no value is ever looked for.
+    end: usize,
 }
 
 impl Model for Order {
@@ -29,9 +31,9 @@ impl Model for Order {
 
     ghost view = { λ order. order.noted.items };
 
-    ghost use Rattle.learn_solver.specs.Noted.{AreSmall};
+    ghost use Rattle.learn_solver.specs.Noted.{IsOrder};
 
-    ghost invariant = { λ order. AreSmall order.noted.items };
+    ghost invariant = { λ order. IsOrder order.noted.items order.end };
 }
 
 impl Order {
@@ -44,6 +46,7 @@ impl Order {
             noted: vec![in alloc; false; room]?,
             values: vec![in alloc; false; room]?,
             heap: Heap::new(alloc, variables)?,
+            end: 0,
         })
     }
 
@@ -54,6 +57,7 @@ impl Order {
         ensures { self.new ≡ slice_set self.old variable true }
     {
         self.noted[variable as usize] = true;
+        self.end = self.end.max(variable as usize + 1);
         self.heap.push(variable);
     }
 
@@ -85,7 +89,7 @@ impl Order {
     {
         let variable = match most_active(&mut self.heap, trail, self.noted.len()) {
             Some(variable) => variable,
-            None => unassigned(&self.noted, trail)?,
+            None => unassigned(&self.noted, self.end, trail)?,
         };
         Some(literal(variable, &self.values))
     }
@@ -122,12 +126,16 @@ fn most_active(heap: &mut Heap, trail: &Trail, count: usize) -> Option<u32>
 }
 
 // The first noted variable that is unassigned.
-fn unassigned(noted: &[bool], trail: &Trail) -> Option<u32>
+fn unassigned(noted: &[bool], end: usize, trail: &Trail) -> Option<u32>
     requires count { length noted.now ≡ trail.now.variables }
     requires small { AreSmall noted.now }
+    requires below { AreBelow noted.now end }
     ensures { MatchOption result (AreAssigned noted.now trail.now.places) (λ v. (v < 2 ^ 31) × (v < trail.now.variables) × (place_of trail.now.places v ≡ None)) }
 {
     for (at, is_noted) in noted.iter().enumerate() {
+        if at >= end {
+            return None;
+        }
         if *is_noted && trail.value(at as u32).is_none() {
             return Some(at as u32);
         }

@@ -5,7 +5,7 @@ ghost use Rattle.lits_core.specs.Literals.{variable_of, negation_of};
 ghost use Rattle.lits_core.specs.Derivation.{live_clause};
 ghost use Rattle.clause_arena.specs.Records.{record_at};
 ghost use Rattle.watch_arena.specs.Places.{place_at, place_of, is_true, reason_of};
-ghost use Rattle.conflict_clause.specs.Taught.{level_in, is_decided};
+ghost use Rattle.conflict_clause.specs.Taught.{level_in, is_decided, AreClosed};
 
 use crate::learner::Learner;
 use clause_arena::Ref;
@@ -13,7 +13,7 @@ use lits_core::Lit;
 
 impl Learner {
     ghost use Rattle.learn_solver.specs.States.{is_reason};
-    ghost use Rattle.learn_solver.specs.Learners.{seen, IsSound, AreClosed};
+    ghost use Rattle.learn_solver.specs.Learners.{seen, IsSound};
 
     // The number of the place of a literal's variable; none where it is unassigned.
     pub(crate) fn place_of(&self, lit: Lit) -> Option<usize>

@@ -1,16 +1,15 @@
 -- The relation at a pair, leaders, and what is under what.
-use Rattle.std.proofs.Common.{◌≡◌, ◌+◌, ◌<◌, ◌≤◌, ◌==◌, ℕ, Bool, true, false, not, ◌&&◌, cond, List, [], ◌∷◌, ◌++◌, Option, Some, Result, Ok, Err, IfOk, length, map, get_or, refl, sym, ap, ◌∙◌, arith, inl, inr}
-use Rattle.std.specs.Prelude.{filter, flat_map, find, All, slice_get, unwrap_or, nat_lt, if◌then◌else◌, slice_index_or}
+use Rattle.std.proofs.Common.{◌≡◌, ◌+◌, ◌<◌, ◌==◌, ℕ, Bool, true, false, not, ◌&&◌, List, [], ◌++◌, Some, Result, Ok, Err, IfOk, length, map, get_or, refl, sym, ap, ◌∙◌, arith}
+use Rattle.std.specs.Prelude.{filter, flat_map, All, slice_get, unwrap_or, slice_index_or}
 use Rattle.std.specs.List.{range_with_len, list_any, position_or_len}
-use Rattle.std.proofs.lemmas.Bool.{and_parts, eqb-true, eq-eqb, cases_Bool, true≢false, false_from_ne_true}
+use Rattle.std.proofs.lemmas.Bool.{and_parts, eqb-true, eq-eqb, false_from_ne_true}
 use Rattle.std.proofs.lemmas.List.{get_or-map}
 use Rattle.std.proofs.lemmas.List.Elements.{All-weaker, All-filter}
 use Rattle.std.proofs.lemmas.List.Sums.{position_or_len_is}
 use Rattle.std.proofs.lemmas.Option.{get_or_from_slice_get}
 use Rattle.rcc5_core.specs.declared.Rel.{Rel}
-use Rattle.rcc5_core.specs.declared.Rel.TheVariants.{Equals, Disjoint}
-use Rattle.rcc5_core.specs.Relation.{same_rel}
-use Rattle.world_model.specs.Problem.{Problem, pairs, pair_count, concepts, concept_count}
+use Rattle.rcc5_core.specs.declared.Rel.TheVariants.{Disjoint}
+use Rattle.world_model.specs.Problem.{Problem, pairs, pair_count, concept_count}
 use Rattle.world_model.specs.Node.{pair_at}
 use Rattle.merge_print.specs.Merged.{is_pair, pair_relation, relation_between, are_equal, is_within, leader_of, is_below, all_above, just_above, under_of, row_has}
 use Rattle.merge_print.proofs.ListLemmas.{first_found, filter_same, any_same, flat_map_same, flat_map_next, range_below, filtered_below}

@@ -1,6 +1,6 @@
 -- The names of a problem that a text says are UTF-8.
-use Rattle.std.proofs.Common.{◌≡◌, ◌+◌, ℕ, Bool, true, false, List, Result, Ok, Err, length, take, refl, subst}
-use Rattle.std.specs.Prelude.{All, nat_lt, count_by, if◌then◌else◌}
+use Rattle.std.proofs.Common.{◌≡◌, ℕ, Bool, true, false, List, Result, Ok, Err, length, refl, subst}
+use Rattle.std.specs.Prelude.{All, nat_lt}
 use Rattle.std.specs.Str.{IsUtf8}
 use Rattle.std.specs.Str.Lossy.{utf8_valid_len}
 use Rattle.std.proofs.lemmas.List.Elements.{All-weaker}
@@ -9,23 +9,13 @@ use Rattle.world_model.specs.Problem.{Problem}
 use Rattle.world_model.specs.declared.Switches.{Switches}
 use Rattle.constraint_set.specs.Build.{problem_of}
 use Rattle.cleantax_text.specs.declared.TextKind.{TextKind}
-use Rattle.cleantax_text.specs.declared.TextKind.TheVariants.{NotUtf8, TooLong, TaxonomyCount}
-use Rattle.cleantax_text.specs.Tokens.{is_line_end, without_mark, lines_of}
+use Rattle.text_words.specs.Tokens.{without_mark, lines_of}
 use Rattle.cleantax_text.specs.Reading.{Reading, nothing_read, after_lines, at_end, IsProblemText}
 use Rattle.cleantax_text.proofs.CutLemmas.{whole_utf8, unmarked_utf8, lines_utf8}
 use Rattle.cleantax_text.proofs.NamedLemmas.{IsGiven, given_text, IsConceptName, IsTaxonomyName}
 use Rattle.merge_print.specs.Json.{HasUtf8Names}
 use Rattle.merge_print.proofs.RangeLemmas.{all_flat}
-
--- too few taxonomies; too many bytes; bytes that are not UTF-8
-abbrev unless_few : Bool → Problem → Result Problem (ℕ × TextKind)
-unless_few few p = if few then Err (0, TaxonomyCount) else Ok p
-
-abbrev unless_long : Bool → Result Problem (ℕ × TextKind) → Result Problem (ℕ × TextKind)
-unless_long long rest = if long then Err (0, TooLong) else rest
-
-abbrev unless_invalid : List ℕ → Bool → Result Problem (ℕ × TextKind) → Result Problem (ℕ × TextKind)
-unless_invalid bytes invalid rest = if invalid then Err (count_by is_line_end (take (utf8_valid_len bytes) bytes) + 1, NotUtf8) else rest
+use Rattle.cleantax_text.proofs.ReadsBackLemmas.{unless_few, unless_long, unless_invalid}
 
 -- names that lines gave
 given_names : (r : Reading) (switches : Switches) → IsGiven r → HasUtf8Names (problem_of r.ids r.forests r.articulations switches)

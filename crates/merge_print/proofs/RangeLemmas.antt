@@ -1,7 +1,6 @@
 -- The numbers in a merged taxonomy are those of concepts.
-use Rattle.std.proofs.Common.{◌≡◌, ◌+◌, ◌<◌, ◌≤◌, ℕ, Bool, List, [], ◌∷◌, ◌++◌, length, map, get_or, arith}
+use Rattle.std.proofs.Common.{◌≡◌, ◌<◌, ℕ, List, [], ◌∷◌, length, map, get_or, arith}
 use Rattle.std.specs.Prelude.{filter, flat_map, All, nat_lt}
-use Rattle.std.specs.List.{range_with_len}
 use Rattle.std.proofs.lemmas.List.Elements.{All-nil, All-append, All-head, All-tail, All-map, All-filter, All-weaker, All-from_get_or}
 use Rattle.std.proofs.lemmas.List.FromFn.{length-map-range_with_len}
 use Rattle.rcc5_core.specs.declared.Rel.{Rel}

@@ -7,7 +7,6 @@ use Rattle.std.proofs.lemmas.Option.{get_or_from_slice_get, slice_get_within}
 use Rattle.std.proofs.lemmas.List.{length-append}
 use Rattle.std.proofs.lemmas.List.Folds.{list_all-append}
 use Rattle.std.proofs.Math.ListN.{get_or-append}
-use Rattle.std.proofs.Math.Seq.{get_or-append_seam}
 use Rattle.rcc5_core.specs.declared.Rel.{Rel}
 use Rattle.rcc5_core.specs.declared.RelSet.{RelSet}
 use Rattle.rcc5_core.specs.Region.{is_whole_set}
@@ -25,6 +24,7 @@ use Rattle.point_ladder.specs.Alone.{IsAliveAlone, AreAliveAlone}
 use Rattle.mir_report.specs.Possible.{ArePossibleSets}
 use Rattle.mir_report.specs.Steps.{HasPossible, AreCandidates}
 use Rattle.mir_report.proofs.Laws.{possible_is_met, refused_is_impossible, cross_within}
+use Rattle.point_ladder.proofs.ByItself.{at_end}
 
 -- a possible relation keeps the problem alive where the pair is narrowed to it
 alive_candidates : (p : Problem) (count : ℕ) (sets : List RelSet) → count ≤ pair_count p → AreAliveAlone p count sets → AreCandidates p count sets
@@ -40,9 +40,6 @@ allowed_possible p pair within rel possible = elim (cases_Bool (has (allowed p (
   | inl there ↦ there
   | inr refused ↦ absurd (refused_is_impossible p pair rel within refused possible)
 ]
-
-at_end : (sets : List RelSet) (set : RelSet) (k : ℕ) (d : RelSet) → length sets ≡ k → get_or (sets ++ set ∷ []) k d ≡ set
-at_end sets set k d counted = ap (λ n. get_or (sets ++ set ∷ []) n d) (sym counted) ∙ get_or-append_seam sets set [] d
 
 -- what one pair more allows
 pub candidates_more : (p : Problem) (k : ℕ) (sets more : List RelSet) (set : RelSet) → k < pair_count p → set ≡ allowed p (pair_at p k) → more ≡ sets ++ set ∷ [] → AreCandidates p k sets → AreCandidates p (k + 1) more

@@ -1,5 +1,5 @@
 -- The kept sums, articulation by articulation.
-use Rattle.std.proofs.Common.{◌≡◌, ℕ, ◌+◌, ◌<◌, ◌≤◌, Bool, true, false, ◌&&◌, List, [], ◌∷◌, drop, length, refl, sym, ap, ◌∙◌, arith}
+use Rattle.std.proofs.Common.{◌≡◌, ℕ, ◌+◌, ◌<◌, ◌≤◌, Bool, true, false, ◌&&◌, List, [], ◌∷◌, drop, length, refl, ap, ◌∙◌, arith}
 use Rattle.std.specs.Prelude.{Some, filter_map, slice_get}
 use Rattle.std.specs.List.{list_all, items_where_true}
 use Rattle.std.proofs.lemmas.List.{drop_more, drop_all}

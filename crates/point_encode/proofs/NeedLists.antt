@@ -1,8 +1,7 @@
 -- The needs of a prefix, added pair by pair, and which of them are forced.
-use Rattle.std.proofs.Common.{◌≡◌, ℕ, ◌+◌, ◌<◌, ◌≤◌, ◌↔◌, Bool, List, [], ◌∷◌, ◌++◌, map, drop, All, IsTrue, Contains, sym, ap, ◌∙◌, subst, arith}
-use Rattle.std.specs.Prelude.{flat_map}
+use Rattle.std.proofs.Common.{◌≡◌, ℕ, ◌+◌, ◌<◌, ◌↔◌, Bool, List, [], ◌∷◌, ◌++◌, map, All, IsTrue, Contains, sym, ap, ◌∙◌, subst, arith}
 use Rattle.std.specs.List.{range_with_len}
-use Rattle.std.proofs.lemmas.List.{append_assoc, append-nil, map_push, at_drop_more, at_drop_all}
+use Rattle.std.proofs.lemmas.List.{append_assoc, map_push}
 use Rattle.std.proofs.lemmas.List.Elements.{All-push}
 use Rattle.std.proofs.lemmas.List.FromFn.{map-range_with_len_more}
 use Rattle.rcc5_core.specs.declared.Rel.{Rel}
@@ -10,7 +9,7 @@ use Rattle.rcc5_core.specs.declared.Region.{Region}
 use Rattle.rcc5_core.specs.declared.Occupancy.TheVariants.{Occupied}
 use Rattle.rcc5_core.specs.Region.{word_at, same_word, forced_regions}
 use Rattle.world_model.specs.Problem.{Problem, concept_count, pairs, pair_count}
-use Rattle.world_model.specs.Alive.{allowed, forced_of, problem_at, Need, InRegion, InConcept, needs, needs_at}
+use Rattle.world_model.specs.Alive.{allowed, problem_at, InRegion, InConcept, needs}
 use Rattle.world_model.specs.Node.{pair_at}
 use Rattle.world_model.proofs.Members.{In-get_or, in_from_contains, contains_from_in}
 use Rattle.world_model.proofs.PointPairs.{In-concepts}

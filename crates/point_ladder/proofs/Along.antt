@@ -16,7 +16,8 @@ use Rattle.world_model.proofs.PointPositions.{has-only, world_is_full, world_is_
 use Rattle.point_table.specs.Points.{AreAllowed}
 use Rattle.point_ladder.specs.Stretches.{rel_at, AreNexts}
 use Rattle.point_ladder.specs.Ladders.{IsAlong}
-use Rattle.point_ladder.proofs.Narrowing.{narrowings_of, both_only, none_common}
+use Rattle.world_model.proofs.Narrowed.{both_only, none_common}
+use Rattle.point_ladder.proofs.Narrowing.{narrowings_of}
 use Rattle.point_ladder.proofs.Alike.{AllowsSame, alive_same}
 
 -- pairs from one on and before another allow just the relation of the line

@@ -26,7 +26,7 @@ use Rattle.point_table.specs.Table.{AreRowsOf}
 use Rattle.point_ladder.specs.declared.bounds.Bounds.{Bounds}
 use Rattle.point_ladder.specs.Bounds.{bounds_of, bound_to, HoldsPoints, IsAliveIn, AreBounds}
 use Rattle.point_ladder.specs.Ladders.{LeadsOn, IsNarrowed, IsFrame, LadderState, IsBoundOf}
-use Rattle.point_ladder.proofs.Narrowing.{forced_only, only_some, only_inside}
+use Rattle.world_model.proofs.Narrowed.{forced_only, only_some, only_inside}
 use Rattle.point_ladder.proofs.Alike.{AllowsSame, alive_same, point_same, frame_same}
 use Rattle.point_ladder.proofs.Serving.{ShowsPair, holds_all, frame_next, holds_next, alive_next}
 use Rattle.point_ladder.proofs.InForce.{shows_pair}

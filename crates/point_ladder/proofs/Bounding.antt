@@ -3,7 +3,6 @@ use Rattle.std.proofs.Common.{◌≡◌, ℕ, ◌<◌, ◌⊎◌, Bool, true, fa
 use Rattle.std.specs.Prelude.{filter_map}
 use Rattle.std.proofs.lemmas.Bool.{cases_eq, both_ways, not-true}
 use Rattle.rcc5_core.specs.declared.Rel.{Rel}
-use Rattle.rcc5_core.specs.declared.Rel.TheVariants.{Equals, Includes, IncludedIn, Overlaps, Disjoint}
 use Rattle.rcc5_core.specs.declared.RelSet.{RelSet}
 use Rattle.rcc5_core.specs.RelationSet.{has, only, is_empty_set}
 use Rattle.world_model.specs.Problem.{Problem, Constraint, pairs, pair_count, constraints, kept_articulations, as_constraint}
@@ -12,7 +11,7 @@ use Rattle.world_model.specs.Alive.{allowed, is_about, IsAlive}
 use Rattle.world_model.proofs.Members.{In, here, there, In-get_or, In-left, In-right, from_append, all_at, place_of, IsPlaced}
 use Rattle.world_model.proofs.PointSets.{IsInside, some_rel, has_some}
 use Rattle.world_model.proofs.PointWhole.{allows_at, allows_from, about_is, about_from}
-use Rattle.world_model.proofs.PointOnce.{pairs_once}
+use Rattle.world_model.proofs.PointOnce.{pairs_once, same_sets}
 use Rattle.world_model.proofs.PointPositions.{with_narrowings}
 use Rattle.point_ladder.proofs.Narrowing.{IsNarrower}
 use Rattle.point_ladder.proofs.Alike.{AllowsSame, alive_less}
@@ -62,17 +61,6 @@ same_bits : (x y : Bool) → (x ≡ true → y ≡ true) → (y ≡ true → x �
 same_bits true y to from = sym (to refl)
 same_bits false true to from = from refl
 same_bits false false to from = refl
-
--- sets with the same relations are one
-same_sets : (a b : RelSet) → ((rel : Rel) → has a rel ≡ has b rel) → a ≡ b
-same_sets a b same =
-    let e : a.equals ≡ b.equals = same Equals in
-    let i : a.includes ≡ b.includes = same Includes in
-    let n : a.included_in ≡ b.included_in = same IncludedIn in
-    let o : a.overlaps ≡ b.overlaps = same Overlaps in
-    let d : a.disjoint ≡ b.disjoint = same Disjoint in
-    let whole : record { equals = a.equals; includes = a.includes; included_in = a.included_in; overlaps = a.overlaps; disjoint = a.disjoint } ≡ b = rw (e, i, n, o, d) refl in
-    whole
 
 -- so the pair allows just a smaller set
 pub narrowed_there : (b : Problem) (ns : List Constraint) (k : ℕ) (set : RelSet) → IsInside set (allowed (with_narrowings b ns) (pair_at b k)) → allowed (with_narrowings b (ns ++ said_at b k set ∷ [])) (pair_at b k) ≡ set

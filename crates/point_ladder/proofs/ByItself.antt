@@ -1,5 +1,5 @@
 -- What the frame of a problem says of each pair by itself.
-use Rattle.std.proofs.Common.{◌≡◌, ℕ, ◌+◌, ◌<◌, ◌≤◌, ◌↔◌, Bool, true, false, List, ◌∷◌, [], ◌++◌, length, get_or, refl, sym, ap, subst, ◌∙◌, inl, inr, arith}
+use Rattle.std.proofs.Common.{◌≡◌, ℕ, ◌+◌, ◌<◌, ◌↔◌, Bool, true, false, List, ◌∷◌, [], ◌++◌, length, get_or, refl, sym, ap, subst, ◌∙◌, inl, inr, arith}
 use Rattle.std.specs.Prelude.{IsTrue}
 use Rattle.std.proofs.lemmas.Bool.{cases_eq, false≢true}
 use Rattle.std.proofs.Math.ListN.{get_or-append}
@@ -20,7 +20,7 @@ use Rattle.point_ladder.specs.declared.bounds.Bounds.{Bounds}
 use Rattle.point_ladder.specs.Bounds.{bound_to, IsAliveIn, AreBounds, HoldsPoints}
 use Rattle.point_ladder.specs.Ladders.{LeadsOn, IsFrame}
 use Rattle.point_ladder.specs.Alone.{IsAliveAlone, AreAliveAlone}
-use Rattle.point_ladder.proofs.Narrowing.{forced_only, only_some, only_inside}
+use Rattle.world_model.proofs.Narrowed.{forced_only, only_some, only_inside}
 use Rattle.point_ladder.proofs.Alike.{same_back, alive_same}
 use Rattle.point_ladder.proofs.Serving.{alive_next}
 use Rattle.point_ladder.proofs.InForce.{shows_pair}
@@ -81,7 +81,7 @@ some_alone p rows b k sides l r old set shows are none alive within is order ins
         subst (λ words. LeadsOn b.frame l r words ↔ IsAlive (narrowed p (pair_at p k) (only rel))) (forced_only rel)
         (alive_next p p.narrowings _ k (only rel) b.frame (points_by_trial p) l r narrower frame (shows_pair p rows l r sides (pair_at p k) shows is order inside left right) lives.allow holds)
 
-at_end : (sets : List RelSet) (set : RelSet) (k : ℕ) (d : RelSet) → length sets ≡ k → get_or (sets ++ set ∷ []) k d ≡ set
+pub at_end : (sets : List RelSet) (set : RelSet) (k : ℕ) (d : RelSet) → length sets ≡ k → get_or (sets ++ set ∷ []) k d ≡ set
 at_end sets set k d counted = ap (λ n. get_or (sets ++ set ∷ []) n d) (sym counted) ∙ get_or-append_seam sets set [] d
 
 -- one pair more

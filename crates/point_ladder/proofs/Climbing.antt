@@ -22,7 +22,8 @@ use Rattle.point_ladder.specs.declared.stretches.Stretch.{Stretch}
 use Rattle.point_ladder.specs.Bounds.{bound_to, HoldsPoints, IsAliveIn, AreBounds}
 use Rattle.point_ladder.specs.Stretches.{stretch_at, HasFrames, IsCut, AreNexts, IsLadder}
 use Rattle.point_ladder.specs.Ladders.{Satisfies, AreMet, left_at, IsNarrowed, IsFrame, IsAlong}
-use Rattle.point_ladder.proofs.Narrowing.{IsNext, narrowings_of, forced_only, next_is_narrower, point_before, refused_is_dead}
+use Rattle.world_model.proofs.Narrowed.{forced_only}
+use Rattle.point_ladder.proofs.Narrowing.{IsNext, narrowings_of, next_is_narrower, point_before, refused_is_dead}
 use Rattle.point_ladder.proofs.Serving.{ShowsPair, alive_here, alive_next, frame_next}
 use Rattle.point_ladder.proofs.InForce.{alive_start, last_frame, frames_longer, frames_pushed, frames_cut}
 use Rattle.point_ladder.proofs.Along.{AreDecided, along_same, goes_along, decided_by, nexts_set}

@@ -10,7 +10,7 @@ use Rattle.rcc5_core.specs.declared.Region.{Region}
 use Rattle.rcc5_core.specs.declared.Region.TheVariants.{LeftOnly, Both, RightOnly}
 use Rattle.rcc5_core.specs.declared.Occupancy.TheVariants.{Empty}
 use Rattle.rcc5_core.specs.RelationSet.{has, both_of, only, is_empty_set}
-use Rattle.rcc5_core.specs.Region.{all_regions, word_at, same_word, forced_regions, row_of}
+use Rattle.rcc5_core.specs.Region.{all_regions, word_at, same_word, forced_regions}
 use Rattle.world_model.specs.Problem.{Problem, Constraint, pairs, pair_count}
 use Rattle.world_model.specs.Node.{pair_at}
 use Rattle.world_model.specs.Alive.{allowed, bit_of, lies_in, avoids, is_point, Need, needs, is_in_need, problem_at, narrowings_at, IsAlive, all_allow}
@@ -24,26 +24,7 @@ use Rattle.bit_rows.specs.Rows.{SomePlace}
 use Rattle.point_table.specs.Table.{point_at}
 use Rattle.point_ladder.specs.Ladders.{lies_by, is_left_by, AreMet, AreServed}
 use Rattle.point_ladder.proofs.Frames.{some_alike}
-
-and_false : (b : Bool) → (b && false) ≡ false
-and_false true = refl
-and_false false = refl
-
--- a set that has a relation, and the set of this relation alone, have it in common
-pub both_only : (set : RelSet) (rel : Rel) → has set rel ≡ true → both_of set (only rel) ≡ only rel
-both_only set Equals h = rw (h, and_false set.includes, and_false set.included_in, and_false set.overlaps, and_false set.disjoint) refl
-both_only set Includes h = rw (h, and_false set.equals, and_false set.included_in, and_false set.overlaps, and_false set.disjoint) refl
-both_only set IncludedIn h = rw (h, and_false set.equals, and_false set.includes, and_false set.overlaps, and_false set.disjoint) refl
-both_only set Overlaps h = rw (h, and_false set.equals, and_false set.includes, and_false set.included_in, and_false set.disjoint) refl
-both_only set Disjoint h = rw (h, and_false set.equals, and_false set.includes, and_false set.included_in, and_false set.overlaps) refl
-
--- a set without a relation has nothing in common with the set of this relation
-pub none_common : (set : RelSet) (rel : Rel) → has set rel ≡ false → is_empty_set (both_of set (only rel)) ≡ true
-none_common set Equals h = rw (h, and_false set.includes, and_false set.included_in, and_false set.overlaps, and_false set.disjoint) refl
-none_common set Includes h = rw (h, and_false set.equals, and_false set.included_in, and_false set.overlaps, and_false set.disjoint) refl
-none_common set IncludedIn h = rw (h, and_false set.equals, and_false set.includes, and_false set.overlaps, and_false set.disjoint) refl
-none_common set Overlaps h = rw (h, and_false set.equals, and_false set.includes, and_false set.included_in, and_false set.disjoint) refl
-none_common set Disjoint h = rw (h, and_false set.equals, and_false set.includes, and_false set.included_in, and_false set.overlaps) refl
+use Rattle.world_model.proofs.Narrowed.{both_only, none_common, only_some, only_inside}
 
 pub has_both : (a b : RelSet) (rel : Rel) → has (both_of a b) rel ≡ true → has a rel ≡ true
 has_both a b Equals h = (and_parts a.equals b.equals h).0
@@ -51,28 +32,6 @@ has_both a b Includes h = (and_parts a.includes b.includes h).0
 has_both a b IncludedIn h = (and_parts a.included_in b.included_in h).0
 has_both a b Overlaps h = (and_parts a.overlaps b.overlaps h).0
 has_both a b Disjoint h = (and_parts a.disjoint b.disjoint h).0
-
-pub only_some : (rel : Rel) → is_empty_set (only rel) ≡ false
-only_some Equals = refl
-only_some Includes = refl
-only_some IncludedIn = refl
-only_some Overlaps = refl
-only_some Disjoint = refl
-
-pub only_inside : (set : RelSet) (rel other : Rel) → has set rel ≡ true → has (only rel) other ≡ true → has set other ≡ true
-only_inside set Equals Equals h e = h
-only_inside set Includes Includes h e = h
-only_inside set IncludedIn IncludedIn h e = h
-only_inside set Overlaps Overlaps h e = h
-only_inside set Disjoint Disjoint h e = h
-only_inside set rel other h e = absurd (false≢true e)
-
-pub forced_only : (rel : Rel) → forced_regions (only rel) ≡ row_of rel
-forced_only Equals = refl
-forced_only Includes = refl
-forced_only IncludedIn = refl
-forced_only Overlaps = refl
-forced_only Disjoint = refl
 
 -- of two problems that differ in their narrowings, the second allows just a smaller set at one pair, and what the first allows at the others
 pub record IsNarrower (b : Problem) (ns ms : List Constraint) (k : ℕ) (set : RelSet) : Type 0 where

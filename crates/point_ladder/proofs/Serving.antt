@@ -15,7 +15,7 @@ use Rattle.world_model.proofs.PointAlive.{IsNeed, In-needs, from_needs}
 use Rattle.world_model.proofs.PointPositions.{with_narrowings}
 use Rattle.world_model.proofs.TrialPoints.{in_points}
 use Rattle.bit_rows.specs.Rows.{SomePlace, BitRows, bit_in}
-use Rattle.point_table.specs.Points.{forced_at}
+use Rattle.world_model.specs.Points.{forced_at}
 use Rattle.point_table.specs.Table.{point_at}
 use Rattle.point_ladder.specs.Bounds.{HoldsPoints}
 use Rattle.point_ladder.specs.Ladders.{lies_by, is_left_by, is_occupied, AreWithin, Satisfies, AreMet, left_at, IsNarrowed, AreServed, IsFrame, PairsMet, ConceptsMet}

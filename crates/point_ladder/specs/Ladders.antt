@@ -13,7 +13,7 @@ use Rattle.world_model.specs.Node.{pair_at}
 use Rattle.world_model.specs.Alive.{Need, needs, is_in_need, bit_of, is_point, problem_at, IsAlive}
 use Rattle.bit_rows.specs.declared.words.Cells.{Cells}
 use Rattle.bit_rows.specs.Rows.{SomePlace, BitRows, bit_in, in_cells}
-use Rattle.point_table.specs.Points.{forced_at}
+use Rattle.world_model.specs.Points.{forced_at}
 use Rattle.point_table.specs.Table.{point_at}
 
 -- a problem, and a path of relations for its first pairs

@@ -3,7 +3,7 @@ ghost use Rattle.std.specs.Prelude.{◌≡◌, ℕ, ◌<◌, ◌≤◌, ◌&&◌
 ghost use Rattle.bit_rows.specs.Rows.{has_bit, bit_in, in_cells, meets_at, SomePlace};
 ghost use Rattle.point_ladder.specs.Ladders.{lies_by, is_left_by, is_occupied, AreWithin, Satisfies, IsMet, AreMet, open_at, LeadsOn, IsOwing, IsNarrowed, cell_of, AreSeen, HasEmpty};
 
-use bit_rows::{Cells, Rows, first_place, has_single, have_common, is_inside, meets};
+use bit_rows::{Cells, Rows, first_place, has_bit, has_single, have_common, is_inside, meets};
 use rcc5_core::{Occupancy, Region, Regions};
 use std::alloc::{AllocError, Global};
 
@@ -209,8 +209,26 @@ pub(crate) fn is_same(frame: &Rows, left: &[u64], right: &[u64], words: Regions)
     are_met(frame.row(1), left, right, words)
 }
 
+// So many of the rows before a new one are set beside it: each row beside each would take too long where they are many.
+const MOST_COMPARED: usize = 1024;
+
+// The first row that is set beside the last one.
+fn first_compared(last: usize) -> usize
+    ensures { 2 ≤ result }
+{
+    last.saturating_sub(MOST_COMPARED).max(2)
+}
+
+// Whether a row may be inside another, by its first place: most are not, and one bit tells.
+fn may_be_inside(firsts: &[usize], one: usize, other: &[u64]) -> bool {
+    match firsts.get(one) {
+        Some(first) => has_bit(other, *first),
+        None => true,
+    }
+}
+
 // Whether a row is met wherever those before it are: it has a place that has to stay, or all of one of them.
-fn is_needless(frame: &Rows, last: usize) -> bool
+fn is_needless(frame: &Rows, firsts: &[usize], last: usize) -> bool
     requires { last < frame.now.count }
     ensures { result ≡ true → (some : ℕ → Bool) → Satisfies frame.now last some → SomePlace (λ k. bit_in frame.now last k && some k) }
 {
@@ -221,8 +239,8 @@ fn is_needless(frame: &Rows, last: usize) -> bool
     if have_common(frame.row(1), row) {
         return true;
     }
-    for other in 2..last {
-        if is_inside(frame.row(other), row) {
+    for other in first_compared(last)..last {
+        if may_be_inside(firsts, other, row) && is_inside(frame.row(other), row) {
             return true;
         }
     }
@@ -230,13 +248,13 @@ fn is_needless(frame: &Rows, last: usize) -> bool
 }
 
 // Drops the last row if it is needless, and takes its place among those that have to stay if it is the only one.
-fn settle(frame: &mut Rows)
+fn settle(frame: &mut Rows, firsts: &[usize])
     requires some { 0 < frame.old.width }
     requires three { 3 ≤ frame.old.count }
     ensures { IsOwing frame.old frame.new (λ _. Unit {0}) }
 {
     let last = frame.count() - 1;
-    if is_needless(frame, last) {
+    if is_needless(frame, firsts, last) {
         frame.pop();
         return;
     }
@@ -251,6 +269,20 @@ fn settle(frame: &mut Rows)
     frame.set(1, place);
 }
 
+// Notes the first place of a row that was added, if one was. The first places of rows are hints.
+fn note_first(frame: &Rows, firsts: &mut Vec<usize>) -> Result<(), AllocError> {
+    let row = firsts.len();
+    if row < frame.count() {
+        firsts.push(first_place(frame.row(row)).unwrap_or(0))?;
+    }
+    Ok(())
+}
+
+// The first places of the two rows of a new frame: nothing is set beside these.
+pub(crate) fn new_firsts(alloc: Global) -> Result<Vec<usize>, AllocError> {
+    vec![in alloc; 0; 2]
+}
+
 // Adds that one place has to stay of what two rows have in common in some cells of two sets.
 pub(crate) fn add_need(
     one: &[u64],
@@ -259,6 +291,7 @@ pub(crate) fn add_need(
     right: &[u64],
     cells: Cells,
     frame: &mut Rows,
+    firsts: &mut Vec<usize>,
 ) -> Result<(), AllocError>
     requires some { 0 < frame.old.width }
     requires width { length one.now ≤ frame.old.width }
@@ -266,7 +299,8 @@ pub(crate) fn add_need(
     ensures { OnOk result (IsOwing frame.old frame.new (λ some. SomePlace (λ k. meets_at one.now other.now left.now right.now cells k && some k))) }
 {
     frame.push(one, other, left, right, cells)?;
-    settle(frame);
+    settle(frame, firsts);
+    note_first(frame, firsts)?;
     Ok(())
 }
 
@@ -278,6 +312,7 @@ fn add_region(
     words: Regions,
     region: Region,
     frame: &mut Rows,
+    firsts: &mut Vec<usize>,
 ) -> Result<(), AllocError>
     requires some { 0 < frame.old.width }
     requires width { length mask.now ≤ frame.old.width }
@@ -286,7 +321,7 @@ fn add_region(
     ensures { OnOk result (IsOwing frame.old frame.new (λ some. IsMet words (has_bit left.now) (has_bit right.now) some region)) }
 {
     if is_occupied(words, region) {
-        add_need(mask, mask, left, right, region_cell(region), frame)?;
+        add_need(mask, mask, left, right, region_cell(region), frame, firsts)?;
     }
     Ok(())
 }
@@ -298,6 +333,7 @@ pub(crate) fn add_regions(
     right: &[u64],
     words: Regions,
     frame: &mut Rows,
+    firsts: &mut Vec<usize>,
 ) -> Result<(), AllocError>
     requires some { 0 < frame.old.width }
     requires width { length mask.now ≤ frame.old.width }
@@ -305,9 +341,9 @@ pub(crate) fn add_regions(
     requires mask { AreWithin (bit_in frame.old 0) (has_bit mask.now) }
     ensures { OnOk result (IsOwing frame.old frame.new (AreMet words (has_bit left.now) (has_bit right.now))) }
 {
-    add_region(mask, left, right, words, Region::LeftOnly, frame)?;
-    add_region(mask, left, right, words, Region::Both, frame)?;
-    add_region(mask, left, right, words, Region::RightOnly, frame)?;
+    add_region(mask, left, right, words, Region::LeftOnly, frame, firsts)?;
+    add_region(mask, left, right, words, Region::Both, frame, firsts)?;
+    add_region(mask, left, right, words, Region::RightOnly, frame, firsts)?;
     Ok(())
 }
 
@@ -318,6 +354,7 @@ fn add_open(
     right: &[u64],
     cells: Cells,
     frame: &mut Rows,
+    firsts: &mut Vec<usize>,
 ) -> Result<(), AllocError>
     requires some { 0 < frame.old.width }
     requires width { old.now.width ≡ frame.old.width }
@@ -326,7 +363,7 @@ fn add_open(
     ensures { OnOk result (IsOwing frame.old frame.new (λ some. (r : ℕ) → 2 ≤ r → r < old.now.count → SomePlace (λ k. open_at old.now (has_bit left.now) (has_bit right.now) cells r k && some k))) }
 {
     for row in 2..old.count() {
-        add_need(old.row(row), old.row(0), left, right, cells, frame)?;
+        add_need(old.row(row), old.row(0), left, right, cells, frame, firsts)?;
     }
     Ok(())
 }
@@ -345,10 +382,11 @@ pub(crate) fn narrowed(
 {
     let mask = frame.row(0);
     let kept = kept_cells(words);
+    let mut firsts = new_firsts(alloc)?;
     let mut next = Rows::new(alloc, frame.width());
     next.push(mask, mask, left, right, kept)?;
     next.push_copy(frame.row(1))?;
-    add_regions(mask, left, right, words, &mut next)?;
-    add_open(frame, left, right, kept, &mut next)?;
+    add_regions(mask, left, right, words, &mut next, &mut firsts)?;
+    add_open(frame, left, right, kept, &mut next, &mut firsts)?;
     Ok(next)
 }

@@ -8,7 +8,7 @@ ghost use Rattle.point_table.specs.Points.{AreAllowed};
 ghost use Rattle.point_table.specs.Table.{AreRowsOf};
 ghost use Rattle.point_ladder.specs.Ladders.{AreWithin, IsOwing, PairsMet, ConceptsMet, IsFrame};
 
-use crate::frame::{add_need, add_regions, lives};
+use crate::frame::{add_need, add_regions, lives, new_firsts};
 use bit_rows::{Cells, Rows};
 use constraint_set::Problem;
 use rcc5_core::{RelSet, forced};
@@ -37,6 +37,7 @@ fn add_pairs(
     rows: &Rows,
     full: &Rows,
     frame: &mut Rows,
+    firsts: &mut Vec<usize>,
 ) -> Result<(), AllocError>
     requires sets { AreAllowed problem.now sets.now }
     requires rows { AreRowsOf problem.now rows.now }
@@ -50,13 +51,19 @@ fn add_pairs(
     for pair in 0..problem.pair_count() {
         let (left, right) = problem.pair_at(pair);
         let (left, right) = (rows.row(left as usize), rows.row(right as usize));
-        add_regions(full.row(0), left, right, forced(sets[pair as usize]), frame)?;
+        let words = forced(sets[pair as usize]);
+        add_regions(full.row(0), left, right, words, frame, firsts)?;
     }
     Ok(())
 }
 
 // Adds each concept.
-fn add_concepts(problem: &Problem, rows: &Rows, frame: &mut Rows) -> Result<(), AllocError>
+fn add_concepts(
+    problem: &Problem,
+    rows: &Rows,
+    frame: &mut Rows,
+    firsts: &mut Vec<usize>,
+) -> Result<(), AllocError>
     requires rows { AreRowsOf problem.now rows.now }
     requires wide { rows.now.width ≡ frame.old.width }
     requires some { 0 < frame.old.width }
@@ -65,13 +72,18 @@ fn add_concepts(problem: &Problem, rows: &Rows, frame: &mut Rows) -> Result<(), 
 {
     for concept in 0..rows.count() {
         let row = rows.row(concept);
-        add_need(row, row, row, row, Cells::all(), frame)?;
+        add_need(row, row, row, row, Cells::all(), frame, firsts)?;
     }
     Ok(())
 }
 
 // Adds each concept, if none may be empty.
-fn add_nonempty(problem: &Problem, rows: &Rows, frame: &mut Rows) -> Result<(), AllocError>
+fn add_nonempty(
+    problem: &Problem,
+    rows: &Rows,
+    frame: &mut Rows,
+    firsts: &mut Vec<usize>,
+) -> Result<(), AllocError>
     requires rows { AreRowsOf problem.now rows.now }
     requires wide { rows.now.width ≡ frame.old.width }
     requires some { 0 < frame.old.width }
@@ -79,7 +91,7 @@ fn add_nonempty(problem: &Problem, rows: &Rows, frame: &mut Rows) -> Result<(), 
     ensures { OnOk result (IsOwing frame.old frame.new (λ some. problem.now.switches.nonempty ≡ true → ConceptsMet (points_by_trial problem.now) (concept_count problem.now) some)) }
 {
     if problem.switches().nonempty {
-        add_concepts(problem, rows, frame)?;
+        add_concepts(problem, rows, frame, firsts)?;
     }
     Ok(())
 }
@@ -98,11 +110,12 @@ pub(crate) fn first_frame(
     ensures { IfOk result (λ frame. IsFrame problem.now (points_by_trial problem.now) frame) }
 {
     let full = full_row(alloc, rows.width(), count)?;
+    let mut firsts = new_firsts(alloc)?;
     let mut frame = Rows::new(alloc, rows.width());
     frame.push_copy(full.row(0))?;
     frame.push_empty()?;
-    add_pairs(problem, sets, rows, &full, &mut frame)?;
-    add_nonempty(problem, rows, &mut frame)?;
+    add_pairs(problem, sets, rows, &full, &mut frame, &mut firsts)?;
+    add_nonempty(problem, rows, &mut frame, &mut firsts)?;
     Ok(frame)
 }
 

@@ -1,13 +1,12 @@
 -- What is forced of pairs as a prefix grows and shrinks.
-use Rattle.std.proofs.Common.{◌≡◌, ◌≢◌, ℕ, ◌+◌, ◌*◌, ◌/◌, ◌%◌, ◌<◌, ◌≤◌, Bool, true, false, ◌&&◌, List, [], ◌∷◌, ◌++◌, length, get_or, set, take, inl, inr, refl, sym, ap, ◌∙◌, arith, zero, suc, ◌-◌, append_assoc, append-nil}
+use Rattle.std.proofs.Common.{◌≡◌, ◌≢◌, ℕ, ◌+◌, ◌*◌, ◌/◌, ◌%◌, ◌<◌, ◌≤◌, true, false, List, [], ◌∷◌, ◌++◌, length, get_or, set, take, inl, inr, refl, sym, ap, ◌∙◌, arith, zero, suc, ◌-◌, append_assoc, append-nil}
 use Rattle.std.specs.Prelude.{Option, nat_lt, if◌then◌else◌, flat_map}
 use Rattle.std.proofs.lemmas.Bool.{cases_eq, cases_lt, lt-ltb, le-ltb}
 use Rattle.std.proofs.lemmas.List.{get_or-set_same, get_or-set_other, get_or_append_left, get_or_push, get_or-take, length-set, length-append, length-take-le, take-append-le, take_all}
 use Rattle.rcc5_core.specs.declared.Rel.{Rel}
-use Rattle.rcc5_core.specs.declared.Rel.TheVariants.{Equals, Includes, IncludedIn, Overlaps, Disjoint}
-use Rattle.rcc5_core.specs.declared.RelSet.{RelSet}
+use Rattle.rcc5_core.specs.declared.Rel.TheVariants.{Equals}
 use Rattle.rcc5_core.specs.declared.Regions.{Regions}
-use Rattle.rcc5_core.specs.RelationSet.{has, only, both_of}
+use Rattle.rcc5_core.specs.RelationSet.{has, only}
 use Rattle.rcc5_core.specs.declared.Occupancy.TheVariants.{Occupied}
 use Rattle.rcc5_core.specs.Region.{forced_regions, row_of, word_at, same_word}
 use Rattle.world_model.specs.Problem.{Problem, pair_count, concept_count}
@@ -16,30 +15,12 @@ use Rattle.world_model.specs.Alive.{allowed, problem_at}
 use Rattle.cert_model.specs.Forced.{region_with, pair_selectors}
 use Rattle.world_model.specs.Laws.{PositionsNarrow}
 use Rattle.point_pool.specs.Cursors.{IsOpen, AreForced, IsCursor, start_selectors, kept_selectors, path_selectors}
-use Rattle.point_pool.specs.Needs.{forced_at, is_needed}
+use Rattle.world_model.specs.Points.{forced_at}
+use Rattle.point_pool.specs.Needs.{is_needed}
 use Rattle.std.specs.List.{range_with_len}
 use Rattle.std.proofs.lemmas.Grind.{flat_map-append}
 use Rattle.constraint_set.proofs.Lists.{range_more}
-
-and_false : (b : Bool) → (b && false) ≡ false
-and_false true = refl
-and_false false = refl
-
--- a set that has a relation, and the set of this relation alone, have it in common
-pub both_only : (set : RelSet) (rel : Rel) → has set rel ≡ true → both_of set (only rel) ≡ only rel
-both_only set Equals h = rw (h, and_false set.includes, and_false set.included_in, and_false set.overlaps, and_false set.disjoint) refl
-both_only set Includes h = rw (h, and_false set.equals, and_false set.included_in, and_false set.overlaps, and_false set.disjoint) refl
-both_only set IncludedIn h = rw (h, and_false set.equals, and_false set.includes, and_false set.overlaps, and_false set.disjoint) refl
-both_only set Overlaps h = rw (h, and_false set.equals, and_false set.includes, and_false set.included_in, and_false set.disjoint) refl
-both_only set Disjoint h = rw (h, and_false set.equals, and_false set.includes, and_false set.included_in, and_false set.overlaps) refl
-
--- a relation alone forces what its row says
-pub forced_only : (rel : Rel) → forced_regions (only rel) ≡ row_of rel
-forced_only Equals = refl
-forced_only Includes = refl
-forced_only IncludedIn = refl
-forced_only Overlaps = refl
-forced_only Disjoint = refl
+use Rattle.world_model.proofs.Narrowed.{both_only, forced_only}
 
 -- what is allowed at an open prefix
 pub allowed_inside : PositionsNarrow → (p : Problem) (m : List Rel) (k : ℕ) → IsOpen p m → k < length m → allowed (problem_at p m) (pair_at p k) ≡ only (get_or m k Equals)

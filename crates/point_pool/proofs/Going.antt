@@ -1,11 +1,11 @@
 -- The first pair that a prefix leaves nothing.
-use Rattle.std.proofs.Common.{◌≡◌, ℕ, ◌+◌, ◌<◌, ◌≤◌, Bool, true, false, ◌&&◌, not, List, [], ◌∷◌, ◌++◌, length, get_or, take, inl, inr, refl, sym, ap, ◌∙◌, subst, arith}
+use Rattle.std.proofs.Common.{◌≡◌, ℕ, ◌+◌, ◌<◌, ◌≤◌, true, false, not, List, [], ◌∷◌, ◌++◌, length, get_or, take, inl, inr, sym, ap, ◌∙◌, subst, arith}
 use Rattle.std.specs.Prelude.{Option, Some, None, slice_get}
 use Rattle.std.proofs.lemmas.Option.{get_or_from_slice_get}
 use Rattle.std.proofs.lemmas.Bool.{cases_lt, true≢false}
 use Rattle.std.proofs.lemmas.List.{get_or-take, take_more, get_or_default}
 use Rattle.rcc5_core.specs.declared.Rel.{Rel}
-use Rattle.rcc5_core.specs.declared.Rel.TheVariants.{Equals, Includes, IncludedIn, Overlaps, Disjoint}
+use Rattle.rcc5_core.specs.declared.Rel.TheVariants.{Equals}
 use Rattle.rcc5_core.specs.declared.RelSet.{RelSet}
 use Rattle.rcc5_core.specs.RelationSet.{has, only, both_of, is_empty_set}
 use Rattle.world_model.specs.Problem.{Problem, pairs, pair_count}
@@ -16,20 +16,8 @@ use Rattle.world_model.proofs.Members.{all_at, In-get_or}
 use Rattle.world_model.proofs.PointSets.{has_some}
 use Rattle.point_pool.specs.Cursors.{IsFirstEmpty, IsOpen, IsEmptyPair}
 use Rattle.point_pool.proofs.Cursors.{allowed_inside}
-use Rattle.point_pool.proofs.Prefixes.{only_some}
+use Rattle.world_model.proofs.Narrowed.{only_some, none_common}
 use Rattle.point_pool.proofs.Serving.{all_from_places}
-
-and_false : (b : Bool) → (b && false) ≡ false
-and_false true = refl
-and_false false = refl
-
--- a set without a relation has nothing in common with the set of this relation
-pub none_common : (set : RelSet) (rel : Rel) → has set rel ≡ false → is_empty_set (both_of set (only rel)) ≡ true
-none_common set Equals h = rw (h, and_false set.includes, and_false set.included_in, and_false set.overlaps, and_false set.disjoint) refl
-none_common set Includes h = rw (h, and_false set.equals, and_false set.included_in, and_false set.overlaps, and_false set.disjoint) refl
-none_common set IncludedIn h = rw (h, and_false set.equals, and_false set.includes, and_false set.overlaps, and_false set.disjoint) refl
-none_common set Overlaps h = rw (h, and_false set.equals, and_false set.includes, and_false set.included_in, and_false set.disjoint) refl
-none_common set Disjoint h = rw (h, and_false set.equals, and_false set.includes, and_false set.included_in, and_false set.overlaps) refl
 
 -- a pair of an open prefix allows something
 open_allows : PositionsNarrow → (p : Problem) (m : List Rel) (k : ℕ) → IsOpen p m → k < length m → not (is_empty_set (allowed (problem_at p m) (pair_at p k))) ≡ true

@@ -15,7 +15,8 @@ use Rattle.world_model.specs.Alive.{Need, InRegion, InConcept, allowed, forced_o
 use Rattle.world_model.proofs.Members.{In, here, there, none_in, In-flat_map, from_flat_map, In-range, from_range, IsOf}
 use Rattle.constraint_set.proofs.Lists.{range_split, range_more}
 use Rattle.cert_model.specs.Forced.{region_with}
-use Rattle.point_pool.specs.Needs.{forced_at, need_at, is_needed, one_need, needs_below, need_count}
+use Rattle.world_model.specs.Points.{forced_at}
+use Rattle.point_pool.specs.Needs.{need_at, is_needed, one_need, needs_below, need_count}
 use Rattle.point_pool.proofs.Prefixes.{needed_by, needed_past}
 
 -- a region's need, if it is one

@@ -1,14 +1,14 @@
 -- What a prefix forces, each longer open prefix forces: so its points are points of the shorter ones, and needs stay needs.
-use Rattle.std.proofs.Common.{◌≡◌, ℕ, ◌+◌, ◌*◌, ◌/◌, ◌%◌, ◌<◌, ◌≤◌, Bool, true, false, ◌&&◌, not, List, [], ◌∷◌, ◌++◌, length, get_or, take, inl, inr, refl, sym, ap, ◌∙◌, subst, arith}
+use Rattle.std.proofs.Common.{◌≡◌, ℕ, ◌+◌, ◌*◌, ◌/◌, ◌%◌, ◌<◌, ◌≤◌, Bool, true, false, ◌&&◌, not, List, [], ◌∷◌, ◌++◌, length, get_or, take, inl, inr, sym, ap, ◌∙◌, subst, arith}
 use Rattle.std.specs.Prelude.{if◌then◌else◌}
 use Rattle.std.proofs.lemmas.Bool.{cases_eq, cases_lt, false≢true, false_from_ne_true, lt-ltb, le-ltb}
 use Rattle.std.proofs.lemmas.List.{get_or-take, length-take-le, length-append, get_or_append_left, get_or_push}
 use Rattle.rcc5_core.specs.declared.Rel.{Rel}
-use Rattle.rcc5_core.specs.declared.Rel.TheVariants.{Equals, Includes, IncludedIn, Overlaps, Disjoint}
+use Rattle.rcc5_core.specs.declared.Rel.TheVariants.{Equals}
 use Rattle.rcc5_core.specs.declared.RelSet.{RelSet}
 use Rattle.rcc5_core.specs.declared.Region.{Region}
 use Rattle.rcc5_core.specs.declared.Occupancy.TheVariants.{Empty, Occupied}
-use Rattle.rcc5_core.specs.RelationSet.{has, only, is_empty_set}
+use Rattle.rcc5_core.specs.RelationSet.{has, only}
 use Rattle.rcc5_core.specs.Region.{word_at, same_word, forced_regions, row_of}
 use Rattle.world_model.specs.Problem.{Problem, pairs, pair_count}
 use Rattle.world_model.specs.Node.{pair_at}
@@ -19,24 +19,10 @@ use Rattle.world_model.proofs.PointSets.{Forces, forces_inside, In-all_regions}
 use Rattle.world_model.proofs.PointAlive.{Pointed, point_parts, point_whole}
 use Rattle.cert_model.specs.Forced.{region_with}
 use Rattle.point_pool.specs.Cursors.{IsOpen}
-use Rattle.point_pool.specs.Needs.{forced_at, is_needed}
-use Rattle.point_pool.proofs.Cursors.{allowed_inside, open_fewer, forced_only}
-
--- the set of one relation is inside each set that has it
-only_inside : (set : RelSet) (rel other : Rel) → has set rel ≡ true → has (only rel) other ≡ true → has set other ≡ true
-only_inside set Equals Equals h e = h
-only_inside set Includes Includes h e = h
-only_inside set IncludedIn IncludedIn h e = h
-only_inside set Overlaps Overlaps h e = h
-only_inside set Disjoint Disjoint h e = h
-only_inside set rel other h e = absurd (false≢true e)
-
-pub only_some : (rel : Rel) → is_empty_set (only rel) ≡ false
-only_some Equals = refl
-only_some Includes = refl
-only_some IncludedIn = refl
-only_some Overlaps = refl
-only_some Disjoint = refl
+use Rattle.world_model.specs.Points.{forced_at}
+use Rattle.point_pool.specs.Needs.{is_needed}
+use Rattle.world_model.proofs.Narrowed.{forced_only, only_inside, only_some}
+use Rattle.point_pool.proofs.Cursors.{allowed_inside, open_fewer}
 
 -- what is forced at the front of an open prefix is forced at the prefix
 pub forced_later : PositionsNarrow → (p : Problem) (m : List Rel) (n k : ℕ) (region : Region) (b : Bool) → IsOpen p m → n ≤ length m → k < pair_count p →

@@ -1,8 +1,7 @@
 -- Lists with the same entries.
-use Rattle.std.proofs.Common.{◌≡◌, ℕ, zero, suc, ◌+◌, ◌<◌, ◌≤◌, get_or, subst, List, [], ◌∷◌, ◌++◌, length, take, drop, ◌-◌, refl, ap, ◌∙◌, arith}
+use Rattle.std.proofs.Common.{◌≡◌, ℕ, zero, suc, ◌+◌, ◌<◌, ◌≤◌, get_or, subst, List, [], ◌∷◌, length, take, drop, ◌-◌, refl, ap, ◌∙◌, arith}
 use Rattle.std.specs.Prelude.{Some, slice_get}
-use Rattle.std.proofs.lemmas.List.{take_more, take_more_same, get_or-take, get_or-drop}
-use Rattle.std.proofs.lemmas.Option.{slice_get_within, get_or_from_slice_get}
+use Rattle.std.proofs.lemmas.List.{take_more_same, get_or-take, get_or-drop}
 
 -- lists of one length with the same entries are equal
 pub same_entries : {X : Type 0} (xs ys : List X) → length xs ≡ length ys → ((k : ℕ) → k < length xs → slice_get xs k ≡ slice_get ys k) → xs ≡ ys
@@ -13,10 +12,6 @@ same_entries {X} (x ∷ xs) (y ∷ ys) counted each =
     let first : Some x ≡ Some y = each 0 (omega arith) in
     let rest : xs ≡ ys = same_entries xs ys (omega arith) (λ k small. each (suc k) (omega arith)) in
     cc
-
--- the front grows by an entry
-pub front_with : {X : Type 0} (xs : List X) (i : ℕ) (x : X) → slice_get xs i ≡ Some x → take (i + 1) xs ≡ take i xs ++ x ∷ []
-front_with xs i x there = take_more xs i x (slice_get_within xs i x there) ∙ ap (λ y. take i xs ++ y ∷ []) (get_or_from_slice_get xs i x x there)
 
 -- lists that begin alike do so further, as far as they have the same entries
 pub alike_more : {X : Type 0} (m : ℕ) (xs ys : List X) (n : ℕ) (d : X) → n + m ≤ length xs → n + m ≤ length ys → take n xs ≡ take n ys →

@@ -22,7 +22,7 @@ use Rattle.constraint_set.proofs.Lists.{range_more}
 use Rattle.cert_model.specs.Clauses.{is_so, first_sum_selector}
 use Rattle.cert_model.specs.Forced.{region_number, region_selectors, sum_selectors, selectors_of, pair_selectors}
 use Rattle.point_pool.specs.Cursors.{IsOpen, kept_selector, start_selectors, kept_selectors, path_selectors, AreSelectors}
-use Rattle.point_pool.specs.Needs.{forced_at}
+use Rattle.world_model.specs.Points.{forced_at}
 use Rattle.point_pool.proofs.Prefixes.{forced_later}
 
 -- one list more

@@ -2,7 +2,7 @@
 use Rattle.cert_model.specs.Clauses.{first_sum_selector, is_so}
 use Rattle.cert_model.specs.Forced.{pair_selectors, selectors_of}
 use Rattle.constraint_set.specs.Readers.{sum_places}
-use Rattle.point_pool.specs.Needs.{forced_at}
+use Rattle.world_model.specs.Points.{forced_at}
 use Rattle.rcc5_core.specs.RelationSet.{has, is_empty_set}
 use Rattle.rcc5_core.specs.declared.Regions.{Regions}
 use Rattle.rcc5_core.specs.declared.Rel.{Rel}

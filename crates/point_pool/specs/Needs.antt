@@ -2,20 +2,16 @@
 use Rattle.cert_model.specs.Forced.{region_with}
 use Rattle.point_pool.specs.declared.needs.Wanted.{Wanted}
 use Rattle.point_pool.specs.declared.needs.Wanted.TheVariants.{Concept, Region}
-use Rattle.rcc5_core.specs.Region.{forced_regions, same_word, word_at}
+use Rattle.rcc5_core.specs.Region.{same_word, word_at}
 use Rattle.rcc5_core.specs.declared.Occupancy.TheVariants.{Occupied}
 use Rattle.rcc5_core.specs.declared.Region.TheVariants.{Both, LeftOnly, RightOnly}
-use Rattle.rcc5_core.specs.declared.Regions.{Regions}
 use Rattle.std.specs.List.{list_all, range_with_len}
 use Rattle.std.specs.Prelude.{Bool, IsTrue, List, [], flat_map, if◌then◌else◌, length, nat_lt, not, ℕ, ◌%◌, ◌&&◌, ◌*◌, ◌+◌, ◌-◌, ◌/◌, ◌<◌, ◌∷◌, ◌≤◌}
-use Rattle.world_model.specs.Alive.{InConcept, InRegion, Need, allowed, each_has_one, is_in_need, is_point, needs}
+use Rattle.world_model.specs.Alive.{InConcept, InRegion, Need, each_has_one, is_in_need, is_point, needs}
 use Rattle.world_model.specs.Node.{pair_at}
+use Rattle.world_model.specs.Points.{forced_at}
 use Rattle.world_model.specs.Problem.{Problem, concept_count, pair_count}
 use Rattle.rcc5_core.specs.declared.Region as regions
-
--- what a problem forces of the pair with a number
-abbrev pub forced_at : Problem → ℕ → Regions
-forced_at p k = forced_regions (allowed p (pair_at p k))
 
 -- the need with a number: the regions of the pairs come first, three a pair, then the concepts
 abbrev pub need_at : Problem → ℕ → Need

@@ -1,7 +1,8 @@
 //! A prefix of a problem, with what is forced of each pair there.
 ghost use Rattle.cert_model.specs.Forced.{pair_selectors};
 ghost use Rattle.point_pool.specs.Cursors.{AreForced, AreSelectors, IsEmptyPair, IsOpen};
-ghost use Rattle.point_pool.specs.Needs.{forced_at, is_needed};
+ghost use Rattle.world_model.specs.Points.{forced_at};
+ghost use Rattle.point_pool.specs.Needs.{is_needed};
 ghost use Rattle.rcc5_core.specs.Region.{row_of};
 ghost use Rattle.rcc5_core.specs.RelationSet.{has};
 ghost use Rattle.std.specs.Prelude.{IfOk, IsTrue, OnErr, OnOk, [], length, take, ℕ, ◌*◌, ◌++◌, ◌+◌, ◌-◌, ◌<◌, ◌∷◌, ◌≡◌, ◌≤◌};

@@ -1,6 +1,7 @@
 //! Which points of other problems of a shape are points of a problem.
 ghost use Rattle.point_pool.specs.Pools.{meets_trees};
-ghost use Rattle.point_pool.specs.Starts.{AreStarted, avoids_at, empty_pairs, has_empty, sum_holds, sums_from};
+ghost use Rattle.world_model.specs.Points.{avoids_at, empty_pairs, has_empty, sum_holds, sums_from};
+ghost use Rattle.point_pool.specs.Starts.{AreStarted};
 ghost use Rattle.std.specs.List.{list_all, list_any};
 ghost use Rattle.std.specs.Prelude.{All, IfNone, IfOk, IfSome, IsTrue, OnOk, [], if◌then◌else◌, length, true, ◌&&◌, ◌++◌, ◌+◌, ◌<◌, ◌∷◌, ◌≡◌};
 ghost use Rattle.world_model.specs.Alive.{bit_of, is_point, point_sums};

@@ -11,6 +11,7 @@ use Rattle.rcc5_core.specs.declared.RelSet.{RelSet}
 use Rattle.rcc5_core.specs.Relation.{rank_of, same_rel}
 use Rattle.rcc5_core.specs.RelationSet.{has, no_rels, adding}
 use Rattle.world_model.proofs.OrderPositions.{exact_rels, rel_itself}
+use Rattle.world_model.proofs.Relations.{itself}
 
 -- the relations, the last first
 abbrev pub last_first : List Rel
@@ -41,13 +42,6 @@ one_of_five Equals = (4, omega arith, refl)
 
 same_from : (r q : Rel) → same_rel r q ≡ true → r ≡ q
 same_from r q e = exact_rels r q (ap (λ k. nat_cmp k (rank_of q)) (eqb-true (rank_of r) (rank_of q) e) ∙ rel_itself q)
-
-itself : (r : Rel) → same_rel r r ≡ true
-itself Equals = refl
-itself Includes = refl
-itself IncludedIn = refl
-itself Overlaps = refl
-itself Disjoint = refl
 
 -- the set has what was added, and what it had
 added_stays : (set : RelSet) (r q : Rel) → has set q ≡ true → has (adding set r) q ≡ true

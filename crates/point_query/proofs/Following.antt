@@ -12,8 +12,7 @@ use Rattle.world_model.specs.Node.{pair_at}
 use Rattle.world_model.proofs.Members.{In, all_at, all_from, In-get_or, place_of, IsPlaced}
 use Rattle.world_model.proofs.PointSets.{has_some}
 use Rattle.world_model.proofs.PointOnce.{narrowed_inside, narrowed_beyond}
-use Rattle.point_pool.proofs.Cursors.{both_only}
-use Rattle.point_pool.proofs.Going.{none_common}
+use Rattle.world_model.proofs.Narrowed.{both_only, none_common}
 
 -- the set of one relation has it
 only_itself : (r : Rel) → has (only r) r ≡ true

@@ -24,7 +24,7 @@ use Rattle.cert_model.specs.Forced.{selectors_of, need_lits, asked_of, IsClosedA
 use Rattle.cert_model.specs.Laws.{ClausesArePoints, NeedsAreLiterals, Extends}
 use Rattle.point_query.specs.Asking.{AskerState, AskerGoes}
 use Rattle.point_query.specs.Answers.{IsClosed}
-use Rattle.point_query.specs.Queries.{IsSolverOf, asker_with}
+use Rattle.point_query.specs.Queries.{IsSolverOf, KeepsSolver, asker_with}
 use Rattle.point_pool.specs.Cursors.{AreSelectors}
 use Rattle.point_pool.specs.declared.pool.Pool.{Pool}
 use Rattle.point_pool.specs.Pools.{IsPool}
@@ -123,7 +123,7 @@ refuted_is_closed points literals sets p m need selectors lits s id built is num
     closed (Some clause) asked h = λ lit i. asked.no_others (negation_of lit) (h lit i)
 
 -- a call that did nothing
-pub goes_nowhere : (s : SolverState) → GoesTo s s
+goes_nowhere : (s : SolverState) → GoesTo s s
 goes_nowhere s = record { variables = refl; added = []; waits = sym (append-nil s.waiting); leads = record { valid = refl; after = same-self s.state }; from_one = λ k d h. absurd (omega arith) }
 
 derived_chain : (a b c : List (ℕ × List ℕ)) → SameDerived a b → SameDerived b c → SameDerived a c
@@ -182,6 +182,17 @@ goes_chain law a b c g h =
       };
       from_one = All-append FromOne g.added h.added g.from_one h.from_one;
     }
+
+-- a solver of a problem that did nothing is still one, and so is one that went on
+pub keeps_still : (p : Problem) (s : SolverState) → IsSolverOf p s → KeepsSolver p s s
+keeps_still p s is = record { goes = goes_nowhere s; solver = is }
+
+pub keeps_on : DerivedClausesFollow → (p : Problem) (old new : SolverState) → IsSolverOf p old → GoesTo old new → KeepsSolver p old new
+keeps_on law p old new is goes = record { goes = goes; solver = solver_stays law p old new is goes }
+
+-- and after two calls, one after the other
+pub keeps_chain : LiteralsAreSets → (p q : Problem) (a b c : SolverState) → q ≡ p → KeepsSolver p a b → KeepsSolver q b c → KeepsSolver p a c
+keeps_chain law p q a b c same g h = record { goes = goes_chain law a b c g.goes h.goes; solver = subst (λ r. IsSolverOf r c) same h.solver }
 
 -- one more given clause
 given_push : (a b : List (List ℕ)) (c : List ℕ) → SameGiven a b → SameGiven (a ++ c ∷ []) (b ++ c ∷ [])

@@ -5,13 +5,18 @@ use Rattle.world_model.specs.Problem.{Problem}
 use Rattle.world_model.specs.Alive.{is_point}
 use Rattle.constraint_set.specs.Shape.{shape_of}
 use Rattle.cert_model.specs.Clauses.{given_clauses, variable_count}
-use Rattle.learn_solver.specs.Solving.{SolverState}
+use Rattle.learn_solver.specs.Solving.{SolverState, GoesTo}
 use Rattle.point_query.specs.Asking.{AskerState}
 
 -- a solver has the variables and the given clauses of a problem
 pub record IsSolverOf (p : Problem) (s : SolverState) : Type 0 where
   pub variables : s.variables ≡ variable_count p
   pub given : SameGiven (given_clauses p) s.state.given
+
+-- a solver went on, and is still one of a problem
+pub record KeepsSolver (p : Problem) (old new : SolverState) : Type 0 where
+  pub goes : GoesTo old new
+  pub solver : IsSolverOf p new
 
 -- an asker with this solver
 abbrev pub asker_with : Problem → SolverState → AskerState

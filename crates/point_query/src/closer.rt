@@ -5,7 +5,7 @@ ghost use Rattle.lits_core.specs.Derivation.{SameLits, live_clause};
 ghost use Rattle.point_encode.specs.Needs.{IsInRange, need_seen};
 ghost use Rattle.point_pool.specs.Needs.{need_at, need_count};
 ghost use Rattle.point_query.specs.Answers.{IsClosed, IsFound};
-ghost use Rattle.point_query.specs.Queries.{IsSolverOf, asker_with};
+ghost use Rattle.point_query.specs.Queries.{IsSolverOf, KeepsSolver, asker_with};
 ghost use Rattle.std.specs.Prelude.{IfNone, IfOk, IfSome, MatchOption, OnErr, OnOk, [], length, ◌<◌, ◌≡◌, ◌≤◌};
 ghost use Rattle.watch_arena.specs.Trails.{AreInRange};
 ghost use Rattle.world_model.specs.Problem.{pair_count};
@@ -63,8 +63,7 @@ impl Closer {
     pub(crate) fn ask(&mut self, cursor: &Cursor, number: u32) -> Result<Found, AllocError>
         requires within { number < need_count cursor.now.problem }
         requires solver { IsSolverOf cursor.now.problem self.old }
-        ensures kept { GoesTo self.old self.new }
-        ensures solver { IsSolverOf cursor.now.problem self.new }
+        ensures solver { KeepsSolver cursor.now.problem self.old self.new }
         ensures found { IfOk result (IsFound (asker_with cursor.now.problem self.new) cursor.now.problem cursor.now.path (need_at cursor.now.problem number)) }
     {
         if let Some(id) = self.known(cursor, number) {
@@ -81,8 +80,7 @@ impl Closer {
     fn question(&mut self, cursor: &Cursor, number: u32) -> Result<Found, AllocError>
         requires within { number < need_count cursor.now.problem }
         requires solver { IsSolverOf cursor.now.problem self.old }
-        ensures kept { GoesTo self.old self.new }
-        ensures solver { IsSolverOf cursor.now.problem self.new }
+        ensures solver { KeepsSolver cursor.now.problem self.old self.new }
         ensures found { IfOk result (IsFound (asker_with cursor.now.problem self.new) cursor.now.problem cursor.now.path (need_at cursor.now.problem number)) }
     {
         let need = need_of(cursor.problem(), number);
@@ -107,8 +105,7 @@ impl Closer {
         requires prefix { length prefix.now ≤ pair_count problem.now }
         requires range { IsInRange problem.now need }
         requires solver { IsSolverOf problem.now self.old }
-        ensures kept { GoesTo self.old self.new }
-        ensures solver { IsSolverOf problem.now self.new }
+        ensures solver { KeepsSolver problem.now self.old self.new }
         ensures found { IfOk result (IsFound (asker_with problem.now self.new) problem.now prefix.now (need_seen problem.now need)) }
     {
         let selectors = selectors_of(self.alloc, problem, prefix)?;

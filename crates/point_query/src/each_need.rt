@@ -1,8 +1,7 @@
 //! Points for all needs of a prefix.
-ghost use Rattle.learn_solver.specs.Solving.{GoesTo};
 ghost use Rattle.point_encode.specs.Needs.{IsInRange, need_seen};
 ghost use Rattle.point_pool.specs.Cursors.{AreSelectors, IsFirstEmpty};
-ghost use Rattle.point_query.specs.Queries.{ArePoints, IsSolverOf, asker_with};
+ghost use Rattle.point_query.specs.Queries.{ArePoints, IsSolverOf, KeepsSolver, asker_with};
 ghost use Rattle.point_query.specs.Seeking.{IsFront, IsPlaced, IsSought};
 ghost use Rattle.std.specs.Prelude.{All, IfNone, IfOk, IfSome, IsTrue, [], length, map, slice_index_or, ◌<◌, ◌≡◌, ◌≤◌};
 ghost use Rattle.world_model.specs.Alive.{all_allow, is_in_need, needs, problem_at};
@@ -61,8 +60,7 @@ pub(crate) fn points_for_all(
     requires selectors { AreSelectors problem.now prefix.now selectors.now }
     requires wanted { map (need_seen problem.now) wanted.now ≡ needs (problem_at problem.now prefix.now) }
     requires range { All (IsInRange problem.now) wanted.now }
-    ensures kept { GoesTo solver.old solver.new }
-    ensures solver { IsSolverOf problem.now solver.new }
+    ensures solver { KeepsSolver problem.now solver.old solver.new }
     ensures sought { IfOk result (IsSought (asker_with problem.now solver.new) problem.now prefix.now wanted.now) }
 {
     law_literals_are_sets();
@@ -91,8 +89,7 @@ fn place_of(
     requires selectors { AreSelectors problem.now prefix.now selectors.now }
     requires range { IsInRange problem.now need }
     requires points { ArePoints (problem_at problem.now prefix.now) found.old.items }
-    ensures kept { GoesTo solver.old solver.new }
-    ensures solver { IsSolverOf problem.now solver.new }
+    ensures solver { KeepsSolver problem.now solver.old solver.new }
     ensures points { ArePoints (problem_at problem.now prefix.now) found.new.items }
     ensures grown { IsFront found.old.items found.new.items }
     ensures placed { IfOk result (IsPlaced (asker_with problem.now solver.new) problem.now prefix.now found.new.items (need_seen problem.now need)) }

@@ -1,8 +1,7 @@
 //! Which relations lead on from an alive prefix to an alive one.
-ghost use Rattle.learn_solver.specs.Solving.{GoesTo};
 ghost use Rattle.point_pool.specs.Pools.{IsPool};
 ghost use Rattle.point_query.specs.Leading.{BeginsWith};
-ghost use Rattle.point_query.specs.Queries.{IsSolverOf};
+ghost use Rattle.point_query.specs.Queries.{IsSolverOf, KeepsSolver};
 ghost use Rattle.rcc5_core.specs.RelationSet.{has};
 ghost use Rattle.rcc5_core.specs.declared.Rel.{Rel};
 ghost use Rattle.std.specs.Prelude.{IfOk, IsTrue, OnOk, [], length, ◌++◌, ◌+◌, ◌<◌, ◌↔◌, ◌∷◌, ◌≡◌};
@@ -35,8 +34,7 @@ pub(crate) fn alive_after(
     requires short { length prefix.now < pair_count pool.old.cursor.problem }
     requires alive { IsAlive (problem_at pool.old.cursor.problem prefix.now) }
     requires solver { IsSolverOf pool.old.cursor.problem solver.old }
-    ensures kept { GoesTo solver.old solver.new }
-    ensures solver { IsSolverOf pool.old.cursor.problem solver.new }
+    ensures solver { KeepsSolver pool.old.cursor.problem solver.old solver.new }
     ensures pool { OnOk result (IsPool pool.new) }
     ensures problem { OnOk result (pool.new.cursor.problem ≡ pool.old.cursor.problem) }
     ensures each { IfOk result (λ set. (rel : Rel) → IsTrue (has set rel) ↔ IsAlive (problem_at pool.old.cursor.problem (prefix.now ++ rel ∷ []))) }
@@ -54,8 +52,7 @@ fn each_tried(pool: &mut Pool, solver: &mut Closer, prefix: &Position) -> Result
     requires short { length prefix.now < pair_count pool.old.cursor.problem }
     requires allow { IsTrue (all_allow (problem_at pool.old.cursor.problem prefix.now)) }
     requires solver { IsSolverOf pool.old.cursor.problem solver.old }
-    ensures kept { GoesTo solver.old solver.new }
-    ensures solver { IsSolverOf pool.old.cursor.problem solver.new }
+    ensures solver { KeepsSolver pool.old.cursor.problem solver.old solver.new }
     ensures pool { OnOk result (IsPool pool.new) }
     ensures problem { OnOk result (pool.new.cursor.problem ≡ pool.old.cursor.problem) }
     ensures each { IfOk result (λ set. (rel : Rel) → IsTrue (has set rel) ↔ IsAlive (problem_at pool.old.cursor.problem (prefix.now ++ rel ∷ []))) }
@@ -82,8 +79,7 @@ fn leads_on(
     requires short { length prefix.now < pair_count pool.old.cursor.problem }
     requires allow { IsTrue (all_allow (problem_at pool.old.cursor.problem prefix.now)) }
     requires solver { IsSolverOf pool.old.cursor.problem solver.old }
-    ensures kept { GoesTo solver.old solver.new }
-    ensures solver { IsSolverOf pool.old.cursor.problem solver.new }
+    ensures solver { KeepsSolver pool.old.cursor.problem solver.old solver.new }
     ensures pool { OnOk result (IsPool pool.new) }
     ensures problem { OnOk result (pool.new.cursor.problem ≡ pool.old.cursor.problem) }
     ensures beyond { OnOk result (BeginsWith pool.new.cursor.path prefix.now) }

@@ -1,9 +1,8 @@
 //! What is answered of a prefix: the pool goes there, and each need is to have a point.
-ghost use Rattle.learn_solver.specs.Solving.{GoesTo};
 ghost use Rattle.point_encode.specs.Needs.{IsInRange, need_seen};
 ghost use Rattle.point_pool.specs.Pools.{IsPool};
 ghost use Rattle.point_query.specs.Answers.{IsAliveAnswer, IsFound, IsProbeAnswer, IsServedByFew};
-ghost use Rattle.point_query.specs.Queries.{IsSolverOf, asker_with};
+ghost use Rattle.point_query.specs.Queries.{IsSolverOf, KeepsSolver, asker_with};
 ghost use Rattle.std.specs.Prelude.{IfNone, IfOk, IfSome, OnOk, length, ◌≡◌, ◌≤◌};
 ghost use Rattle.world_model.specs.Alive.{IsAlive, problem_at};
 ghost use Rattle.world_model.specs.Problem.{pair_count};
@@ -25,8 +24,7 @@ pub(crate) fn probe(
     requires pool { IsPool pool.old }
     requires prefix { length prefix.now ≤ pair_count pool.old.cursor.problem }
     requires solver { IsSolverOf pool.old.cursor.problem solver.old }
-    ensures kept { GoesTo solver.old solver.new }
-    ensures solver { IsSolverOf pool.old.cursor.problem solver.new }
+    ensures solver { KeepsSolver pool.old.cursor.problem solver.old solver.new }
     ensures pool { OnOk result (IsPool pool.new) }
     ensures problem { OnOk result (pool.new.cursor.problem ≡ pool.old.cursor.problem) }
     ensures answer { IfOk result (IsProbeAnswer (asker_with pool.old.cursor.problem solver.new) pool.old.cursor.problem prefix.now) }
@@ -49,8 +47,7 @@ pub(crate) fn alive(
     requires pool { IsPool pool.old }
     requires prefix { length prefix.now ≤ pair_count pool.old.cursor.problem }
     requires solver { IsSolverOf pool.old.cursor.problem solver.old }
-    ensures kept { GoesTo solver.old solver.new }
-    ensures solver { IsSolverOf pool.old.cursor.problem solver.new }
+    ensures solver { KeepsSolver pool.old.cursor.problem solver.old solver.new }
     ensures pool { OnOk result (IsPool pool.new) }
     ensures problem { OnOk result (pool.new.cursor.problem ≡ pool.old.cursor.problem) }
     ensures answer { IfOk result (IsAliveAnswer (asker_with pool.old.cursor.problem solver.new) pool.old.cursor.problem prefix.now) }
@@ -74,8 +71,7 @@ pub(crate) fn serving(
     requires pool { IsPool pool.old }
     requires prefix { length prefix.now ≤ pair_count pool.old.cursor.problem }
     requires solver { IsSolverOf pool.old.cursor.problem solver.old }
-    ensures kept { GoesTo solver.old solver.new }
-    ensures solver { IsSolverOf pool.old.cursor.problem solver.new }
+    ensures solver { KeepsSolver pool.old.cursor.problem solver.old solver.new }
     ensures pool { OnOk result (IsPool pool.new) }
     ensures problem { OnOk result (pool.new.cursor.problem ≡ pool.old.cursor.problem) }
     ensures some { IfOk result (λ found. IfSome found (IsServedByFew (problem_at pool.old.cursor.problem prefix.now))) }
@@ -102,8 +98,7 @@ pub(crate) fn ask(
     requires prefix { length prefix.now ≤ pair_count pool.old.cursor.problem }
     requires range { IsInRange pool.old.cursor.problem need }
     requires solver { IsSolverOf pool.old.cursor.problem solver.old }
-    ensures kept { GoesTo solver.old solver.new }
-    ensures solver { IsSolverOf pool.old.cursor.problem solver.new }
+    ensures solver { KeepsSolver pool.old.cursor.problem solver.old solver.new }
     ensures pool { OnOk result (IsPool pool.new) }
     ensures problem { OnOk result (pool.new.cursor.problem ≡ pool.old.cursor.problem) }
     ensures found { IfOk result (IsFound (asker_with pool.old.cursor.problem solver.new) pool.old.cursor.problem prefix.now (need_seen pool.old.cursor.problem need)) }
@@ -119,8 +114,7 @@ fn ask_here(pool: &mut Pool, solver: &mut Closer, need: Need) -> Result<Found, A
     requires pool { IsPool pool.old }
     requires range { IsInRange pool.old.cursor.problem need }
     requires solver { IsSolverOf pool.old.cursor.problem solver.old }
-    ensures kept { GoesTo solver.old solver.new }
-    ensures solver { IsSolverOf pool.old.cursor.problem solver.new }
+    ensures solver { KeepsSolver pool.old.cursor.problem solver.old solver.new }
     ensures pool { OnOk result (IsPool pool.new) }
     ensures problem { OnOk result (pool.new.cursor.problem ≡ pool.old.cursor.problem) }
     ensures found { IfOk result (IsFound (asker_with pool.old.cursor.problem solver.new) pool.old.cursor.problem pool.old.cursor.path (need_seen pool.old.cursor.problem need)) }

@@ -1,10 +1,9 @@
 //! Asking the solver for one point.
 ghost use Rattle.cert_model.specs.Forced.{need_lits};
-ghost use Rattle.learn_solver.specs.Solving.{GoesTo};
 ghost use Rattle.point_encode.specs.Needs.{IsInRange, lits_there, need_seen};
 ghost use Rattle.point_pool.specs.Cursors.{AreSelectors};
 ghost use Rattle.point_query.specs.Answers.{IsFound};
-ghost use Rattle.point_query.specs.Queries.{IsSolverOf, asker_with};
+ghost use Rattle.point_query.specs.Queries.{IsSolverOf, KeepsSolver, asker_with};
 ghost use Rattle.std.specs.Prelude.{IfOk, None, OnOk, ◌++◌, ◌+◌, ◌≡◌};
 
 use crate::answers::Found;
@@ -29,8 +28,7 @@ pub(crate) fn query(
     requires solver { IsSolverOf problem.now solver.old }
     requires selectors { AreSelectors problem.now prefix.now selectors.now }
     requires range { IsInRange problem.now need }
-    ensures kept { GoesTo solver.old solver.new }
-    ensures solver { IsSolverOf problem.now solver.new }
+    ensures solver { KeepsSolver problem.now solver.old solver.new }
     ensures found { IfOk result (IsFound (asker_with problem.now solver.new) problem.now prefix.now (need_seen problem.now need)) }
 {
     problem.facts();

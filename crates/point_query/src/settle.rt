@@ -1,9 +1,8 @@
 //! Sees to it that the needs of a pool's prefix have points.
-ghost use Rattle.learn_solver.specs.Solving.{GoesTo};
 ghost use Rattle.point_pool.specs.Needs.{need_count};
 ghost use Rattle.point_pool.specs.Pools.{HasWitness, IsPool, IsPoolBut};
 ghost use Rattle.point_query.specs.Closing.{IsClosedNow, IsFirstStuck, IsStuck};
-ghost use Rattle.point_query.specs.Queries.{IsSolverOf};
+ghost use Rattle.point_query.specs.Queries.{IsSolverOf, KeepsSolver};
 ghost use Rattle.std.specs.Prelude.{IfNone, IfOk, IfSome, IsTrue, OnOk, [], ◌+◌, ◌<◌, ◌↔◌, ◌≡◌};
 ghost use Rattle.world_model.specs.Alive.{IsAlive, all_allow, problem_at};
 
@@ -22,8 +21,7 @@ pub(crate) fn serve(
     requires pool { IsPoolBut pool.old number (number + 1) }
     requires within { number < need_count pool.old.cursor.problem }
     requires solver { IsSolverOf pool.old.cursor.problem solver.old }
-    ensures kept { GoesTo solver.old solver.new }
-    ensures solver { IsSolverOf pool.old.cursor.problem solver.new }
+    ensures solver { KeepsSolver pool.old.cursor.problem solver.old solver.new }
     ensures cursor { OnOk result (pool.new.cursor ≡ pool.old.cursor) }
     ensures waiting { OnOk result (pool.new.waiting ≡ pool.old.waiting) }
     ensures served { IfOk result (λ closed. IfNone closed (IsPool pool.new × HasWitness pool.new number)) }
@@ -47,8 +45,7 @@ pub(crate) fn serve(
 fn settle_one(pool: &mut Pool, solver: &mut Closer, number: u32) -> Result<Option<u64>, AllocError>
     requires pool { IsPoolBut pool.old number (number + 1) }
     requires solver { IsSolverOf pool.old.cursor.problem solver.old }
-    ensures kept { GoesTo solver.old solver.new }
-    ensures solver { IsSolverOf pool.old.cursor.problem solver.new }
+    ensures solver { KeepsSolver pool.old.cursor.problem solver.old solver.new }
     ensures cursor { OnOk result (pool.new.cursor ≡ pool.old.cursor) }
     ensures waiting { OnOk result (pool.new.waiting ≡ pool.old.waiting) }
     ensures settled { IfOk result (λ closed. IfNone closed (IsPool pool.new)) }
@@ -70,8 +67,7 @@ fn settle_one(pool: &mut Pool, solver: &mut Closer, number: u32) -> Result<Optio
 pub(crate) fn settle(pool: &mut Pool, solver: &mut Closer) -> Result<Option<(u32, u64)>, AllocError>
     requires pool { IsPool pool.old }
     requires solver { IsSolverOf pool.old.cursor.problem solver.old }
-    ensures kept { GoesTo solver.old solver.new }
-    ensures solver { IsSolverOf pool.old.cursor.problem solver.new }
+    ensures solver { KeepsSolver pool.old.cursor.problem solver.old solver.new }
     ensures pool { OnOk result (IsPool pool.new) }
     ensures cursor { OnOk result (pool.new.cursor ≡ pool.old.cursor) }
     ensures settled { IfOk result (λ closed. IfNone closed (pool.new.waiting ≡ [])) }
@@ -92,8 +88,7 @@ pub(crate) fn is_settled(pool: &mut Pool, solver: &mut Closer) -> Result<bool, A
     requires pool { IsPool pool.old }
     requires allow { IsTrue (all_allow (problem_at pool.old.cursor.problem pool.old.cursor.path)) }
     requires solver { IsSolverOf pool.old.cursor.problem solver.old }
-    ensures kept { GoesTo solver.old solver.new }
-    ensures solver { IsSolverOf pool.old.cursor.problem solver.new }
+    ensures solver { KeepsSolver pool.old.cursor.problem solver.old solver.new }
     ensures pool { OnOk result (IsPool pool.new) }
     ensures cursor { OnOk result (pool.new.cursor ≡ pool.old.cursor) }
     ensures alive { IfOk result (λ yes. IsTrue yes ↔ IsAlive (problem_at pool.old.cursor.problem pool.old.cursor.path)) }

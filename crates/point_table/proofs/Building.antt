@@ -21,7 +21,7 @@ use Rattle.world_model.proofs.PointAlive.{point_parts}
 use Rattle.constraint_set.specs.Facts.{IsBuilt}
 use Rattle.bit_rows.specs.Rows.{has_bit, BitRows, bit_in, IsPushed, IsPut}
 use Rattle.point_table.specs.declared.rules.Rules.{Rules}
-use Rattle.point_table.specs.Points.{forced_at}
+use Rattle.world_model.specs.Points.{forced_at}
 use Rattle.point_table.specs.Growing.{AreImplied, AreExcluded, AreCovers, HasCover, IsSameSize, IsSquare}
 
 -- a child is a concept

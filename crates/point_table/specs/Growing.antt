@@ -7,7 +7,8 @@ use Rattle.world_model.specs.Trial.{bit_lists}
 use Rattle.bit_rows.specs.Rows.{SomePlace, BitRows, bit_in}
 use Rattle.point_table.specs.declared.rules.Rules.{Rules}
 use Rattle.point_table.specs.declared.grow.Terms.{Terms}
-use Rattle.point_table.specs.Points.{AreAllowed, empty_pairs}
+use Rattle.world_model.specs.Points.{empty_pairs}
+use Rattle.point_table.specs.Points.{AreAllowed}
 
 -- the points with these bits and then n more, in order
 unfoldable pub points_below : Problem → List Bool → ℕ → List (List Bool)

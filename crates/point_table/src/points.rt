@@ -5,7 +5,8 @@ ghost use Rattle.world_model.specs.Problem.{concept_count, children_of, pair_cou
 ghost use Rattle.world_model.specs.Family.{implies};
 ghost use Rattle.world_model.specs.Node.{pair_at};
 ghost use Rattle.world_model.specs.Alive.{bit_of, lies_in, avoids, point_within, point_apart, point_covered, point_sums, meets_structure, is_point};
-ghost use Rattle.point_table.specs.Points.{AreAllowed, has_empty, empty_pairs, avoids_at, sum_holds, sums_from};
+ghost use Rattle.world_model.specs.Points.{has_empty, empty_pairs, avoids_at, sum_holds, sums_from};
+ghost use Rattle.point_table.specs.Points.{AreAllowed};
 
 use constraint_set::{Articulation, Problem};
 use rcc5_core::{Occupancy, Region, Regions, RelSet, forced};

@@ -10,6 +10,7 @@ use Rattle.proof_text.specs.Numbers.{number_in}
 use Rattle.proof_text.specs.Lines.{zero_word, id_in, literal_from, literal_in, literal_text, item_at, IsId}
 use Rattle.proof_text.specs.Laws.{has_byte}
 use Rattle.proof_text.proofs.NumberLemmas.{number_in-decimal, number_in-spells, decimal-nonempty, decimal-no_byte}
+use Rattle.lits_core.proofs.LiteralLemmas.{variable_of-literal_of, is_negative-literal_of}
 
 -- a word of an item: the item is read from it, it has no space and no LF, and it isn't the one that ends a list
 pub record IsWordOf (item : List ℕ → Option ℕ) (x : ℕ) (word : List ℕ) : Type 0 where
@@ -101,15 +102,6 @@ signed-word lit false h e =
 pub literal-word : (lit : ℕ) → lit < 2 ^ 32 → IsWordOf literal_in lit (literal_text lit)
 unfolding literal_text signed_text
 literal-word lit h = signed-word lit (is_negative lit) h refl
-
--- the variable and the sign of a literal
-variable_of-literal_of : (variable : ℕ) (negative : Bool) → variable_of (literal_of variable negative) ≡ variable
-variable_of-literal_of variable true = omega arith
-variable_of-literal_of variable false = omega arith
-
-is_negative-literal_of : (variable : ℕ) (negative : Bool) → is_negative (literal_of variable negative) ≡ negative
-is_negative-literal_of variable true = grind (arith, nat_tests)
-is_negative-literal_of variable false = grind (arith, nat_tests)
 
 literal_of-small : (variable : ℕ) (negative : Bool) → variable < 2 ^ 31 → literal_of variable negative < 2 ^ 32
 literal_of-small variable true h = omega arith

@@ -18,7 +18,7 @@ use Rattle.proof_text.proofs.ItemLemmas.{IsWordOf, item_at-ok, id-word, id-text,
 use Rattle.proof_text.proofs.ListLemmas.{list_cases, list_of-cases}
 
 -- what holds of each, made of what held before
-each : {X : Type 0} {P Q : X → Type 0} → ((x : X) → P x → Q x) → (xs : List X) → AllByRecursion P xs → AllByRecursion Q xs
+pub each : {X : Type 0} {P Q : X → Type 0} → ((x : X) → P x → Q x) → (xs : List X) → AllByRecursion P xs → AllByRecursion Q xs
 each f [] h = tt
 each f (x ∷ xs) h = (f x h.0, each f xs h.1)
 

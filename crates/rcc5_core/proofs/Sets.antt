@@ -50,7 +50,7 @@ pub relation_of-by : (xs ys : List ℕ) → relation_of xs ys ≡ relation_by (n
 relation_of-by xs ys = by_tests (is_subset xs ys) (have_common xs ys) (is_subset ys xs)
 
 -- what is below the least of an ascending list is below all of it
-all_above : (a c : ℕ) (ys : List ℕ) → a < c → list_all (λ y. nat_lt c y) ys ≡ true → list_all (λ y. nat_lt a y) ys ≡ true
+pub all_above : (a c : ℕ) (ys : List ℕ) → a < c → list_all (λ y. nat_lt c y) ys ≡ true → list_all (λ y. nat_lt a y) ys ≡ true
 all_above a c [] below h = refl
 all_above a c (y ∷ ys) below h =
     let parts = and_parts (nat_lt c y) (list_all (λ y. nat_lt c y) ys) h in
@@ -62,7 +62,7 @@ or_false : (b : Bool) → (b || false) ≡ b
 or_false true = refl
 or_false false = refl
 
-or_true : (b : Bool) → (b || true) ≡ true
+pub or_true : (b : Bool) → (b || true) ≡ true
 or_true true = refl
 or_true false = refl
 
@@ -108,7 +108,7 @@ is_ascending-rest xs i within h =
     (and_parts _ (is_ascending (drop (i + 1) xs)) here).1
 
 -- the ascending rest of a list, as its first number and what follows
-at_rest : (xs : List ℕ) (i : ℕ) → i < length xs → IsTrue (is_ascending (drop i xs)) → IsTrue (is_ascending (get_or xs i 0 ∷ drop (i + 1) xs))
+pub at_rest : (xs : List ℕ) (i : ℕ) → i < length xs → IsTrue (is_ascending (drop i xs)) → IsTrue (is_ascending (get_or xs i 0 ∷ drop (i + 1) xs))
 at_rest xs i within h = subst (λ rest. IsTrue (is_ascending rest)) (drop_more xs i 0 within) h
 
 -- one step of the merge, where the least number is on the left alone

@@ -8,6 +8,9 @@ use std::alloc::Global;
 /// How many bytes of a problem's text are read: one more than a text may have.
 pub const TEXT_LIMIT: usize = 1_048_577;
 
+// How many bytes are asked for at a time.
+const PIECE: usize = 4096;
+
 // Adds what the name holds to no bytes, a piece at a time, until its end or until so many bytes are in.
 fn read_pieces<S: Store>(
     store: &mut S,
@@ -50,7 +53,7 @@ pub fn read_front<S: Store>(
     ensures reads_later { NoneFell (S.read_faults store.old) (S.read_faults store.new) }
     ensures writes_later { NoneFell (S.write_faults store.old) (S.write_faults store.new) }
 {
-    let mut piece = [0; 4096];
+    let mut piece = [0; PIECE];
     let mut bytes = Vec::new(alloc);
     read_pieces(store, name, limit, &mut piece, &mut bytes)?;
     Ok(bytes)

@@ -3,6 +3,7 @@ use Rattle.std.specs.Prelude.{◌≡◌, ℕ, ◌≤◌, Bool, List, [], ◌++�
 use Rattle.outer_store.specs.Faults.{Rose}
 use Rattle.outer_store.specs.declared.fault.StoreFault.{StoreFault}
 use Rattle.outer_store.specs.declared.fault.StoreFault.TheVariants as store
+use Rattle.rcc5_core.specs.declared.Rel.{Rel}
 use Rattle.point_query.specs.Asking.{AskerState}
 use Rattle.cert_text.specs.declared.line.CertLine.{CertLine}
 use Rattle.cert_text.specs.declared.line.CertLine.TheVariants.{Proof}
@@ -59,3 +60,8 @@ pub record NoneTold (old new : Told) (one other : AskerState) : Type 0 where
 pub record IsFlushed {T : Type 0} (result : Result T StepFault) (old new : Told) (one other : AskerState) : Type 0 where
   pub ok : OnOk result (AllTold old new one other)
   pub err : OnErr result ((new ≡ None) ⊎ NoneTold old new one other)
+
+-- the next node after an answer Ok, and else the same
+abbrev pub next_if : {T : Type 0} → Result T StepFault → Option (List Rel) → Option (List Rel) → Option (List Rel)
+next_if (Ok value) next at = next
+next_if (Err fault) next at = at

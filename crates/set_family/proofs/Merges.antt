@@ -1,30 +1,16 @@
 -- Subsets and common elements of ascending lists, one element at a time.
-use Rattle.std.proofs.Common.{◌≡◌, ℕ, ◌+◌, ◌<◌, ◌≤◌, Bool, true, false, List, [], ◌∷◌, refl, sym, ap, ◌∙◌, subst, IsTrue, arith, length, drop, get_or, ◌⊎◌, inl, inr, ◌≢◌}
-use Rattle.std.specs.Prelude.{◌==◌, nat_lt}
-use Rattle.std.specs.List.{list_all}
+use Rattle.std.proofs.Common.{◌≡◌, ℕ, ◌+◌, ◌<◌, ◌≤◌, Bool, true, false, List, [], ◌∷◌, refl, sym, ap, ◌∙◌, IsTrue, arith, length, drop, get_or, ◌⊎◌, inl, inr, ◌≢◌}
+use Rattle.std.specs.Prelude.{◌==◌}
 use Rattle.std.proofs.lemmas.List.{drop_more, drop_all}
-use Rattle.std.proofs.lemmas.Bool.{ltb-true, and_parts, and_from, or_from, ne_eqb, eq-eqb, lt-ltb, cases_eq}
+use Rattle.std.proofs.lemmas.Bool.{and_parts, or_from, ne_eqb, eq-eqb, cases_eq}
 use Rattle.rcc5_core.specs.Relation.{is_in, is_subset, have_common, is_ascending}
-use Rattle.rcc5_core.proofs.Sets.{not_in_above, is_subset-lacking, have_common-lacking, have_common-nil}
-
--- what is below the least of an ascending list is below all of it
-all_above : (a c : ℕ) (ys : List ℕ) → a < c → list_all (λ y. nat_lt c y) ys ≡ true → list_all (λ y. nat_lt a y) ys ≡ true
-all_above a c [] below h = refl
-all_above a c (y ∷ ys) below h =
-    let parts = and_parts (nat_lt c y) (list_all (λ y. nat_lt c y) ys) h in
-    let more : c < y = ltb-true c y parts.0 in
-    let less : a < y = omega arith in
-    and_from (nat_lt a y) (list_all (λ y. nat_lt a y) ys) (lt-ltb a y less) (all_above a c ys below parts.1)
+use Rattle.rcc5_core.proofs.Sets.{not_in_above, is_subset-lacking, have_common-lacking, have_common-nil, all_above, at_rest}
 
 -- a number below the least of an ascending list isn't in it
 below_least : (a c : ℕ) (ys : List ℕ) → a < c → IsTrue (is_ascending (c ∷ ys)) → is_in a (c ∷ ys) ≡ false
 below_least a c ys below h =
     let apart : (a == c) ≡ false = ne_eqb a c (λ e. omega arith) in
     or_from (a == c) (is_in a ys) apart (not_in_above a ys (all_above a c ys below (and_parts _ (is_ascending ys) h).0))
-
--- the ascending rest of a list, as its first number and what follows
-at_rest : (xs : List ℕ) (i : ℕ) → i < length xs → IsTrue (is_ascending (drop i xs)) → IsTrue (is_ascending (get_or xs i 0 ∷ drop (i + 1) xs))
-at_rest xs i within h = subst (λ rest. IsTrue (is_ascending rest)) (drop_more xs i 0 within) h
 
 -- a least element of the left alone is no element of the right
 subset_lacks : (a c : ℕ) (xs ys : List ℕ) → a < c → IsTrue (is_ascending (c ∷ ys)) → is_subset (a ∷ xs) (c ∷ ys) ≡ false

@@ -1,11 +1,10 @@
 -- Lines of nodes, as an asker tells of them. The lemmas are those of a search over all pairs, at the empty prefix of a node's problem.
-use Rattle.std.proofs.Common.{◌≡◌, ℕ, ◌+◌, ◌*◌, ◌-◌, ◌/◌, ◌%◌, ◌<◌, ◌≤◌, ◌⊎◌, cond, true, false, inl, inr, List, [], ◌∷◌, length, Option, Some, None, All, refl, sym, ap, ◌∙◌, subst, arith, IsTrue}
-use Rattle.std.specs.Prelude.{◌==◌, Contains, MatchOption, nat_lt}
-use Rattle.std.specs.List.{AllByRecursion}
-use Rattle.std.proofs.lemmas.Bool.{and_from, cases_lt, eq-eqb, ne_eqb, lt-ltb}
-use Rattle.std.proofs.lemmas.List.Elements.{recursion_from_All, Contains-append_right}
+use Rattle.std.proofs.Common.{◌≡◌, ℕ, ◌+◌, ◌*◌, ◌-◌, ◌/◌, ◌%◌, ◌<◌, cond, List, [], ◌∷◌, length, Option, Some, None, refl, sym, ap, ◌∙◌, subst, arith}
+use Rattle.std.specs.Prelude.{Contains, nat_lt}
+use Rattle.std.proofs.lemmas.Bool.{lt-ltb}
+use Rattle.std.proofs.lemmas.List.Elements.{Contains-append_right}
 use Rattle.rcc5_core.specs.declared.Rel.{Rel}
-use Rattle.lits_core.specs.Derivation.{State, derived_clause, live_clause}
+use Rattle.lits_core.specs.Derivation.{State}
 use Rattle.world_model.specs.Problem.{Problem, concept_count, pair_count}
 use Rattle.world_model.specs.Alive.{InRegion, InConcept, problem_at, IsAlive}
 use Rattle.world_model.specs.Node.{pair_at}
@@ -18,41 +17,10 @@ use Rattle.point_encode.specs.Needs.{need_seen, number_of, IsInRange}
 use Rattle.point_query.specs.Asking.{AskerState}
 use Rattle.point_query.specs.Answers.{IsFirstClosed, IsFirstEmpty}
 use Rattle.cert_text.specs.declared.line.CertLine.TheVariants.{NoPoint, NoRelation}
-use Rattle.cert_rules.specs.Trees.{Tree, node_problem, last_of, same_last, is_node_at}
+use Rattle.cert_rules.specs.Trees.{Tree, node_problem, last_of}
 use Rattle.cert_rules.specs.ClaimWriting.{TellsWithin}
 use Rattle.cert_rules.specs.Writing.{IsClosedNeed}
-use Rattle.cert_rules.proofs.Relations.{itself}
-
-same_itself : (last : Option Rel) → same_last last last ≡ true
-same_itself None = refl
-same_itself (Some rel) = itself rel
-
--- a node by its depth and last relation
-pub named : (m : List Rel) (depth : ℕ) (last : Option Rel) → depth ≡ length m → last ≡ last_of m → IsTrue (is_node_at m depth last)
-named m depth last is_depth is_last =
-    and_from (depth == length m) (same_last last (last_of m)) (eq-eqb depth (length m) is_depth) (ap (same_last last) (sym is_last) ∙ same_itself last)
-
--- the root has no last relation
-pub root_last : (m : List Rel) → length m ≡ 0 → None ≡ last_of m
-root_last [] none = refl
-root_last (r ∷ m) none = absurd (omega arith)
-
--- no clause has the id 0
-none_derived : (entries : List (ℕ × List ℕ)) → AllByRecursion (λ entry. 1 ≤ entry.0) entries → derived_clause entries 0 ≡ None
-none_derived [] h = refl
-none_derived (entry ∷ entries) h =
-    let other : (entry.0 == 0) ≡ false = ne_eqb entry.0 0 (λ e. let one = h.0 in omega arith) in
-    ap (λ b. cond b (Some entry.1) (derived_clause entries 0)) other ∙ none_derived entries h.1
-
-pub live_from_one : (s : State) (id : ℕ) (P : List ℕ → Type 0) → All (λ entry. 1 ≤ entry.0) s.derived → MatchOption (live_clause s id) ⊥ P → 1 ≤ id
-live_from_one s id P each live = by (cases_lt 0 id)
-  where
-    none : id ≡ 0 → live_clause s id ≡ None
-    none e = ap (live_clause s) e ∙ none_derived s.derived (recursion_from_All (λ entry. 1 ≤ entry.0) s.derived each)
-
-    by : (0 < id) ⊎ (id ≤ 0) → 1 ≤ id
-    by (inl more) = omega arith
-    by (inr least) = absurd (subst (λ o. MatchOption o ⊥ P) (none (omega arith)) live)
+use Rattle.cert_rules.proofs.NodeLines.{named}
 
 -- the need with its number
 need_numbered : (p : Problem) (need : Need) → IsInRange p need → need_with p (number_of p need) ≡ Some (need_seen p need)

@@ -1,6 +1,6 @@
 -- The problems along a path, the pairs of its depths, and where it goes on.
-use Rattle.std.proofs.Common.{◌≡◌, ℕ, zero, suc, ◌+◌, ◌-◌, ◌<◌, ◌≤◌, Bool, true, false, not, ◌||◌, cond, List, [], ◌∷◌, ◌++◌, map, length, take, get_or, Option, Some, None, All, refl, sym, ap, ◌∙◌, arith, append_assoc, append-nil}
-use Rattle.std.specs.Prelude.{slice_get, slice_index_or, is_some, filter, IfSome}
+use Rattle.std.proofs.Common.{◌≡◌, ℕ, zero, suc, ◌+◌, ◌-◌, ◌<◌, ◌≤◌, Bool, true, false, not, ◌||◌, List, [], ◌∷◌, ◌++◌, map, length, take, get_or, Option, Some, None, All, refl, sym, ap, ◌∙◌, arith, append_assoc, append-nil}
+use Rattle.std.specs.Prelude.{slice_get, slice_index_or, is_some, IfSome}
 use Rattle.std.proofs.lemmas.Option.{slice_get_read}
 use Rattle.std.specs.List.{AllByRecursion}
 use Rattle.std.proofs.lemmas.List.{length-map}
@@ -20,6 +20,7 @@ use Rattle.cert_rules.specs.ClaimLists.{split_pairs}
 use Rattle.cert_rules.proofs.FromTheEnd.{found_from_the_end_law}
 use Rattle.cert_rules.proofs.NodeProblems.{children_narrow_law}
 use Rattle.split_search.specs.Walking.{split_tree, next_node, problems_from}
+use Rattle.world_model.proofs.FewPoints.{filter_within}
 
 -- there is a problem for each node on the way
 pub problems_counted : (tree : Tree) (m rest : List Rel) → length (problems_from tree m rest) ≡ length rest + 1
@@ -111,15 +112,6 @@ got_read (z ∷ xs) (suc k) x y e read = got_read xs k x y e read
 pub if_some_any : {X P : Type 0} (found : Option X) → P → IfSome found (λ _. P)
 if_some_any None p = tt
 if_some_any (Some x) p = p
-
--- no more pairs are split than there are
-filter_within : {X : Type 0} (test : X → Bool) (xs : List X) → length (filter test xs) ≤ length xs
-filter_within test [] = omega arith
-filter_within test (x ∷ xs) = by (test x) (filter_within test xs)
-  where
-    by : (b : Bool) → length (filter test xs) ≤ length xs → length (cond b (x ∷ filter test xs) (filter test xs)) ≤ length (x ∷ xs)
-    by true h = omega arith
-    by false h = omega arith
 
 pub few_split : (q : Problem) → length (split_pairs q) ≤ pair_count q
 few_split q = filter_within (λ pair. not (is_empty_set (allowed q pair) || is_whole_set (allowed q pair))) (pairs q)

@@ -29,7 +29,7 @@ alive_append : (p : Problem) (status : Status ClaimStand (List Claim)) (a b : Li
 alive_append p status [] b first second = second
 alive_append p status (line ∷ a) b first second = (first.0, alive_append p (claim_step p status line) a b first.1 second)
 
-leaf_alive : (p : Problem) (status : Status ClaimStand (List Claim)) (line : CertLine) → is_branch line ≡ false → IsClaimBranchAlive p status line
+pub leaf_alive : (p : Problem) (status : Status ClaimStand (List Claim)) (line : CertLine) → is_branch line ≡ false → IsClaimBranchAlive p status line
 leaf_alive p (Going n s) line leaf = λ yes. absurd (true≢false (sym yes ∙ leaf))
 leaf_alive p (Ended claims) line leaf = tt
 leaf_alive p (Rejected number kind) line leaf = tt

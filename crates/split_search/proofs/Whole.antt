@@ -7,22 +7,20 @@ use Rattle.rcc5_core.specs.RelationSet.{only, is_empty_set}
 use Rattle.rcc5_core.specs.Region.{is_whole_set}
 use Rattle.world_model.specs.Problem.{Problem, Constraint, pairs, constraints, kept_articulations, as_constraint, narrowed}
 use Rattle.world_model.specs.Family.{Family, holds, meets}
-use Rattle.world_model.specs.Alive.{allowed, all_allow, all_whole, IsAlive, narrowings_at}
+use Rattle.world_model.specs.Alive.{allowed, all_allow, all_whole, narrowings_at}
 use Rattle.world_model.specs.Questions.{IsMet}
 use Rattle.world_model.specs.Listing.{is_below}
 use Rattle.world_model.proofs.Members.{In, here, there, none_in, all_at, all_from, In-left, In-right, from_append, from_filter, In-filter}
 use Rattle.world_model.proofs.OrderLists.{IsExactly, Between, between_parts, between_from}
 use Rattle.world_model.proofs.PointRules.{met_parts, met_whole}
-use Rattle.world_model.proofs.PointAlive.{met_is_alive}
 use Rattle.world_model.proofs.PointWhole.{single_is_whole, allows_at, about_from}
 use Rattle.constraint_set.specs.Facts.{IsBuilt}
 use Rattle.cert_model.specs.Clauses.{given_clauses}
-use Rattle.cert_rules.specs.Trees.{Tree, node_problem, table_along, sets_of}
+use Rattle.cert_rules.specs.Trees.{node_problem, table_along, sets_of}
 use Rattle.cert_rules.specs.ClaimLists.{split_pairs}
-use Rattle.cert_rules.proofs.Nexts.{Begins, next_after, below_nothing}
-use Rattle.cert_rules.proofs.Leaves.{met_at_node}
+use Rattle.cert_rules.proofs.Nexts.{next_after, below_nothing}
 use Rattle.cert_rules.proofs.NodeProblems.{children_narrow_law}
-use Rattle.cert_rules.proofs.Sound.{IsTableOf, IsTree, past_leaf, past_branch}
+use Rattle.cert_rules.proofs.Sound.{IsTableOf, IsTree, past_leaf, past_branch, dead_below}
 use Rattle.split_search.specs.declared.visit.Visit.TheVariants.{Past}
 use Rattle.split_search.specs.Walking.{split_tree, next_node, IsVisit, IsPast}
 
@@ -43,11 +41,6 @@ no_tables_first q = record {
   sound = λ t i. absurd (none_in i);
   complete = λ t w. absurd (below_nothing t (between_parts [] (Some []) t w.1).1);
 }
-
--- a dead node rules out the tables that begin with it
-dead_below : (tree : Tree) (m : List Rel) → (IsAlive (node_problem tree m) → ⊥) → (t : List Rel) → IsTableOf tree t → Begins m t → ⊥
-dead_below tree m dead t w begins =
-    dead (met_is_alive (node_problem tree m) (w.0, met_at_node tree.subject tree.levels m w.0 w.1 (subst (Begins m) (sym w.2) begins)))
 
 pub no_tables_past : (q : Problem) (m : List Rel) (next : Option (List Rel)) → IsBuilt q → IsPast q m next → NoTables q (Some m) → NoTables q next
 no_tables_past q m next built past old = subst (NoTables q) past.next_is (by past.branches past.seen)

@@ -13,6 +13,7 @@ use Rattle.cert_rules.specs.Trees.{Tree, node_problem, sets_of, is_branch}
 use Rattle.cert_rules.specs.Order.{onward}
 use Rattle.cert_rules.specs.ClaimLists.{subject_problem, split_pairs, Claim}
 use Rattle.cert_rules.specs.ClaimWriting.{TellsWithin}
+use Rattle.search_log.specs.Logging.{next_if}
 use Rattle.search_log.specs.declared.fault.StepFault.{StepFault}
 use Rattle.split_search.specs.declared.walk.Walk.{Walk}
 use Rattle.split_search.specs.declared.visit.Visit.{Visit}
@@ -89,11 +90,6 @@ KeepsTree q old new one other at next =
 -- so it does from one node to some other
 abbrev pub KeepsAnywhere : Problem → Told → Told → AskerState → AskerState → List Rel → Type 0
 KeepsAnywhere q old new one other m = (at : Option (List Rel)) × KeepsTree q old new one other (Some m) at
-
--- the next node after an answer Ok, and else the same
-abbrev pub next_if : {T : Type 0} → Result T StepFault → Option (List Rel) → Option (List Rel) → Option (List Rel)
-next_if (Ok value) next at = next
-next_if (Err fault) next at = at
 
 -- so it does past a node, with a line that tells of it
 abbrev pub KeepsPast : {T : Type 0} → Problem → Result T StepFault → Told → Told → AskerState → AskerState → List Rel → Bool → Type 0

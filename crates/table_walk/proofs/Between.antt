@@ -17,7 +17,7 @@ use Rattle.world_model.proofs.PointPositions.{world_is_full, world_is_alive, pre
 use Rattle.table_walk.specs.declared.Level.{Level}
 use Rattle.table_walk.specs.Ahead.{IsOnward, ListsBetween, Begins, IsPast, Branches, AreLevels, IsAhead}
 use Rattle.table_walk.proofs.Paths.{upto_prefix, upto_longer}
-use Rattle.table_walk.proofs.Least.{same_rank, first_is_least, next_is_in, next_is_least, none_is_next, none_is_first}
+use Rattle.world_model.proofs.Relations.{same_rank, first_is_least, next_is_in, next_is_least, none_is_next, some_has_first_of}
 use Rattle.table_walk.proofs.Going.{branch_longer, branch_below, levels_longer}
 
 -- a list that is exactly the worlds between two places
@@ -157,7 +157,7 @@ none_begun p m set other past leads none short = record {
   onward = onward_of m other (past.before m ([], sym (append-nil m)));
   exactly = none_listed p m other (λ t world upto before.
       let next = next_rel p m set leads short t world (past.only t world (not_from_false (is_below t m) upto) before) in
-      none_is_first set next.0 none next.3);
+      some_has_first_of set next.0 next.3 none);
 }
 
 -- a full path is the one world that begins with it

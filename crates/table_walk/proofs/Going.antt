@@ -18,7 +18,7 @@ use Rattle.world_model.proofs.PointPositions.{world_is_alive, prefix_is_alive}
 use Rattle.table_walk.specs.declared.Level.{Level}
 use Rattle.table_walk.specs.Ahead.{level_at, rel_at, Begins, Leaves, Branches, AreLevels, IsAhead}
 use Rattle.table_walk.proofs.Paths.{cut_at, turned, turned_length, turned_take, turned_before, turned_there, turned_below, upto_prefix, upto_longer}
-use Rattle.table_walk.proofs.Least.{same_rank, next_is_in, next_is_least, none_is_next}
+use Rattle.world_model.proofs.Relations.{same_rank, next_is_in, next_is_least, none_is_next}
 
 -- a branch of a path is one of its lengthening
 pub branch_longer : (m on : List Rel) (levels more : List Level) → AreLevels m levels → (t : List Rel) → Branches m levels t → Branches (m ++ on) (levels ++ more) t

@@ -22,7 +22,7 @@ use Rattle.table_walk.specs.Ahead.{IsOnward, Lists, ListsBetween, level_at, rel_
 use Rattle.table_walk.specs.Ways.{problem_of, place, LeadOn, AreNext, IsUnderWay, IsAtTable, IsWay, IsWayBy, at_by, told_by, at_of, left_by, left_of, WentOn}
 use Rattle.point_ladder.specs.Ladders.{IsAlong}
 use Rattle.table_walk.proofs.Paths.{cut_at, turned, turned_length, turned_take, turned_below}
-use Rattle.table_walk.proofs.Least.{next_is_in}
+use Rattle.world_model.proofs.Relations.{next_is_in}
 use Rattle.table_walk.proofs.Going.{goes_in, goes_in_with, turns_off, only_begun}
 use Rattle.table_walk.proofs.Between.{listing_of, none_listed, none_inside, goes_along, none_begun, one_begun}
 use Rattle.table_walk.proofs.Room.{room_falls, room_some, room_upto}

@@ -1,6 +1,6 @@
 -- Taking a row back: the last children of its parent become roots again, and then the new names go.
 use Rattle.std.proofs.Common.{◌≡◌, ◌+◌, ◌-◌, ◌≤◌, ◌<◌, ℕ, suc, zero, List, [], ◌∷◌, ◌++◌, None, Some, length, set, get_or, take, All, refl, sym, ap, subst, ◌∙◌, arith}
-use Rattle.std.proofs.lemmas.List.{set-set, set-get_or, set-append_left, length-set, length_push, take_all, take-append-le, take_at, get_or_push, get_or-set_same, length-take-le}
+use Rattle.std.proofs.lemmas.List.{set-set, set-get_or, set-append_left, length-set, length_push, take_all, take-append-le, take_at, get_or_push, get_or-set_same}
 use Rattle.std.proofs.lemmas.List.Elements.{All-take}
 use Rattle.taxon_tree.specs.Trees.{Trees, parent_of, children_of, IsForest}
 use Rattle.taxon_tree.specs.Row.{with_root, with_child}

@@ -1,7 +1,7 @@
 -- What each step of a row gives.
 use Rattle.std.proofs.Common.{◌≡◌, ◌≢◌, ◌+◌, ◌-◌, ◌≤◌, ◌<◌, ◌^◌, ◌==◌, ◌||◌, ◌⊎◌, ℕ, Bool, true, false, not, cond, List, [], ◌∷◌, Option, None, Some, Result, Ok, Err, OnOk, OnErr, is_some, nat_le, length, map, take, drop, get_or, refl, sym, ap, subst, ◌∙◌, inl, inr, arith}
 use Rattle.std.specs.Str.{bytes_eq}
-use Rattle.std.proofs.lemmas.Bool.{cases_lt, cases_Bool, lt-ltb, le-leb, leb-false, lt-leb, or_parts, or_left, or_right, eqb-false, ne_eqb, eq-eqb, cases_eq, true≢false}
+use Rattle.std.proofs.lemmas.Bool.{cases_lt, cases_Bool, lt-ltb, le-leb, lt-leb, or_parts, or_left, or_right, eqb-false, ne_eqb, eq-eqb, cases_eq}
 use Rattle.std.proofs.lemmas.Bool.Decides.{not_from_Decides}
 use Rattle.std.proofs.lemmas.List.{length_push, drop_more, take_rest, take_all, take_at}
 use Rattle.std.proofs.lemmas.List.Sums.{prefix_len-le-length}
@@ -219,7 +219,7 @@ place_of-within limit f name g e = by (number_of f name) refl
     ]
 
 -- what a step gives after a step that may fail
-and_then-Ok : (r : Result Trees ForestFault) (next : Trees → Result Trees ForestFault) (g : Trees) → and_then r next ≡ Ok g → (f : Trees) × (r ≡ Ok f) × (next f ≡ Ok g)
+pub and_then-Ok : (r : Result Trees ForestFault) (next : Trees → Result Trees ForestFault) (g : Trees) → and_then r next ≡ Ok g → (f : Trees) × (r ≡ Ok f) × (next f ≡ Ok g)
 and_then-Ok (Ok f) next g e = (f, refl, e)
 and_then-Ok (Err k) next g e = absurd (cc)
 

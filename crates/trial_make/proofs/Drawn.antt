@@ -1,8 +1,7 @@
 -- The draws one by one, and the blocks that they give.
-use Rattle.std.proofs.Common.{◌≡◌, ◌+◌, ◌%◌, ℕ, zero, suc, List, [], ◌∷◌, map, length, add-one, refl, sym, ap, ◌∙◌, arith}
+use Rattle.std.proofs.Common.{◌≡◌, ◌+◌, ◌%◌, ℕ, zero, suc, [], ◌∷◌, map, length, add-one, refl, sym, ap, ◌∙◌}
 use Rattle.std.specs.List.{range_with_len}
 use Rattle.std.proofs.lemmas.List.FromFn.{length-map-range_with_len}
-use Rattle.trial_make.specs.declared.blocks.Block.{Block}
 use Rattle.trial_make.specs.Draws.{next_draw, draw, block_of, blocks_of}
 use Rattle.trial_make.specs.Plans.{IsPlan}
 

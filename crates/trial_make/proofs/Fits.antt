@@ -1,19 +1,19 @@
 -- What is said of two taxonomies that are made is what a problem may be made of.
-use Rattle.std.proofs.Common.{◌≡◌, ◌≢◌, ◌+◌, ◌-◌, ◌*◌, ◌<◌, ◌≤◌, ℕ, Bool, true, false, not, ◌&&◌, ◌==◌, List, [], ◌∷◌, ◌++◌, length, map, get_or, refl, sym, ap, subst, ◌∙◌, arith}
+use Rattle.std.proofs.Common.{◌≡◌, ◌+◌, ◌*◌, ◌<◌, ◌≤◌, ℕ, Bool, true, false, not, ◌&&◌, ◌==◌, List, [], ◌∷◌, ◌++◌, length, map, get_or, sym, ap, ◌∙◌, arith}
 use Rattle.std.specs.Prelude.{replicate, flat_map, nat_lt}
 use Rattle.std.specs.List.{range_with_len, list_all}
 use Rattle.std.proofs.lemmas.Bool.{lt-ltb}
-use Rattle.std.proofs.lemmas.List.{length-append, length-map, length-replicate, append-nil, get_or_append_left, get_or-append-add, get_or-replicate}
+use Rattle.std.proofs.lemmas.List.{length-append, length-replicate, append-nil, get_or_append_left, get_or-append-add, get_or-replicate}
 use Rattle.std.proofs.lemmas.List.FromFn.{length-map-range_with_len}
 use Rattle.rcc5_core.specs.declared.Rel.TheVariants.{Equals}
 use Rattle.rcc5_core.specs.declared.RelSet.{RelSet}
-use Rattle.rcc5_core.specs.RelationSet.{only, is_empty_set}
+use Rattle.rcc5_core.specs.RelationSet.{only}
 use Rattle.taxon_tree.specs.Trees.{Trees}
 use Rattle.taxon_tree.specs.Row.{place_of}
-use Rattle.world_model.specs.Problem.{Problem, concept_count, owner_of, is_articulation}
+use Rattle.world_model.specs.Problem.{is_articulation}
 use Rattle.world_model.specs.declared.Articulation.{Articulation}
 use Rattle.world_model.specs.declared.Switches.{Switches}
-use Rattle.constraint_set.specs.Build.{problem_of, owners_from}
+use Rattle.constraint_set.specs.Build.{problem_of}
 use Rattle.constraint_set.specs.Facts.{is_said, all_fit}
 use Rattle.trial_make.specs.declared.blocks.Form.{Form}
 use Rattle.trial_make.specs.declared.blocks.Form.TheVariants.{Loose, Children, WholeAndLeft, AllThree}

@@ -1,16 +1,16 @@
 -- A taxonomy that is made, row by row.
-use Rattle.std.proofs.Common.{add-one, ◌≡◌, ◌≢◌, ◌+◌, ◌-◌, ◌*◌, ◌<◌, ◌≤◌, ℕ, zero, suc, Bool, true, false, List, [], ◌∷◌, ◌++◌, Option, None, Some, Ok, AllPairs, length, map, take, set, get_or, position, refl, sym, ap, subst, ◌∙◌, inl, inr, arith}
+use Rattle.std.proofs.Common.{add-one, ◌≡◌, ◌≢◌, ◌+◌, ◌-◌, ◌*◌, ◌<◌, ℕ, suc, Bool, true, false, List, [], ◌∷◌, ◌++◌, Option, None, Some, Ok, length, map, take, set, get_or, refl, sym, ap, subst, ◌∙◌, arith}
 use Rattle.std.specs.Prelude.{cond, replicate, codes, decimal, flat_map}
 use Rattle.std.specs.List.{range_with_len, position_or_len}
 use Rattle.std.specs.Str.{bytes_eq}
-use Rattle.std.proofs.lemmas.Bool.{cases_lt, lt-ltb, false_from_ne_true}
+use Rattle.std.proofs.lemmas.Bool.{lt-ltb, false_from_ne_true}
 use Rattle.std.proofs.lemmas.Slice.Eq.{bytes_eq-Decides}
 use Rattle.std.proofs.lemmas.Grind.{flat_map-append}
-use Rattle.std.proofs.lemmas.List.{append_assoc, append-nil, length-take-le, take_more, map-append, length-map, get_or-map, length-append, length-replicate, replicate-append-replicate, get_or_append_left, get_or-append_right}
+use Rattle.std.proofs.lemmas.List.{append_assoc, append-nil, length-take-le, take_more, map-append, length-map, get_or-map, length-append, replicate-append-replicate, get_or_append_left}
 use Rattle.std.proofs.lemmas.List.FromFn.{length-range_with_len, get_or-range_with_len}
 use Rattle.std.proofs.lemmas.List.Sums.{position_or_len_is}
 use Rattle.std.proofs.Math.Seq.{set-append_seam, get_or-append_seam}
-use Rattle.taxon_tree.specs.Trees.{Trees, no_trees, name_of, parent_of, children_of, number_of, IsForest}
+use Rattle.taxon_tree.specs.Trees.{Trees, no_trees, number_of, IsForest}
 use Rattle.taxon_tree.specs.Row.{and_then, with_root, add_row, add_children}
 use Rattle.taxon_tree.proofs.ListLemmas.{same_trees}
 use Rattle.taxon_tree.proofs.RowLemmas.{with_name-new}

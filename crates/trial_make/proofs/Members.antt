@@ -1,24 +1,19 @@
 -- The concepts that are spoken of are in both taxonomies.
-use Rattle.std.proofs.Common.{◌≡◌, ◌≢◌, ◌+◌, ◌-◌, ◌*◌, ◌<◌, ◌≤◌, ℕ, zero, suc, Bool, true, false, not, cond, ◌&&◌, ◌==◌, IsTrue, List, [], ◌∷◌, ◌++◌, Option, None, Some, Contains, length, map, get_or, refl, sym, ap, subst, ◌∙◌, arith}
-use Rattle.std.specs.Prelude.{replicate, codes, flat_map, nat_lt}
+use Rattle.std.proofs.Common.{◌≡◌, ◌+◌, ◌-◌, ◌*◌, ◌<◌, ◌≤◌, ℕ, zero, suc, Bool, true, false, cond, ◌&&◌, List, [], ◌∷◌, ◌++◌, Option, None, Some, Contains, length, map, get_or, refl, sym, ap, subst, ◌∙◌, arith}
+use Rattle.std.specs.Prelude.{codes, flat_map}
 use Rattle.std.specs.List.{range_with_len, list_all}
-use Rattle.std.proofs.lemmas.Bool.{lt-ltb, ne_eqb}
-use Rattle.std.proofs.lemmas.List.{length-append, length-map, get_or-map, length-replicate, append-nil, get_or_append_left, get_or-append_right}
+use Rattle.std.proofs.lemmas.List.{length-map, get_or-map}
 use Rattle.std.proofs.lemmas.List.Elements.{Contains-get_or, Contains-append_left, Contains-append_right}
-use Rattle.std.proofs.lemmas.List.Folds.{list_all-append, list_all-map}
-use Rattle.std.proofs.lemmas.List.FromFn.{length-range_with_len, get_or-range_with_len, length-map-range_with_len, get_or-map-range_with_len}
-use Rattle.rcc5_core.specs.declared.Rel.TheVariants.{Equals, Disjoint}
+use Rattle.std.proofs.lemmas.List.Folds.{list_all-append}
+use Rattle.std.proofs.lemmas.List.FromFn.{length-range_with_len, get_or-range_with_len}
+use Rattle.rcc5_core.specs.declared.Rel.TheVariants.{Equals}
 use Rattle.rcc5_core.specs.declared.RelSet.{RelSet}
-use Rattle.rcc5_core.specs.RelationSet.{only, adding, is_empty_set}
+use Rattle.rcc5_core.specs.RelationSet.{only, is_empty_set}
 use Rattle.taxon_tree.specs.Trees.{Trees, number_of}
 use Rattle.taxon_tree.specs.Row.{place_of}
 use Rattle.taxon_tree.proofs.ForestLemmas.{absent-number}
 use Rattle.taxon_tree.proofs.RowLemmas.{place_of-found}
-use Rattle.world_model.specs.Problem.{Problem, concept_count, owner_of, is_articulation}
 use Rattle.world_model.specs.declared.Articulation.{Articulation}
-use Rattle.world_model.specs.declared.Switches.{Switches}
-use Rattle.constraint_set.specs.Build.{problem_of}
-use Rattle.constraint_set.specs.Facts.{is_said}
 use Rattle.trial_make.specs.declared.blocks.Form.{Form}
 use Rattle.trial_make.specs.declared.blocks.Form.TheVariants.{Loose, Children, WholeAndLeft, AllThree}
 use Rattle.trial_make.specs.declared.blocks.Block.{Block}

@@ -1,9 +1,9 @@
 -- What a row makes of trees with one root, where its children have other names than the root.
-use Rattle.std.proofs.Common.{◌≡◌, ◌≢◌, ◌+◌, ◌<◌, ◌≤◌, ℕ, zero, suc, List, [], ◌∷◌, ◌++◌, Option, None, Some, Result, Ok, Err, length, set, get_or, refl, sym, ap, subst, ◌∙◌, inl, inr, arith}
+use Rattle.std.proofs.Common.{◌≡◌, ◌≢◌, ◌+◌, ◌<◌, ℕ, List, [], ◌∷◌, ◌++◌, Option, None, Some, Result, Ok, Err, length, set, get_or, refl, sym, ap, subst, ◌∙◌, inl, inr, arith}
 use Rattle.std.specs.Prelude.{replicate, codes}
 use Rattle.std.specs.List.{range_with_len}
 use Rattle.std.proofs.lemmas.Bool.{cases_lt}
-use Rattle.std.proofs.lemmas.List.{append_assoc, append-nil, length-append, length-replicate, set-append_left, get_or_append_left, get_or-append_right, get_or-set_same, set-set, set-get_or, length-set}
+use Rattle.std.proofs.lemmas.List.{append_assoc, append-nil, length-append, set-append_left, get_or_append_left, get_or-set_same, set-set, set-get_or, length-set}
 use Rattle.std.proofs.Math.Seq.{set-append_seam, get_or-append_seam}
 use Rattle.taxon_tree.specs.Trees.{Trees, name_of, parent_of, children_of, number_of}
 use Rattle.taxon_tree.specs.Row.{and_then, with_root, with_child, place_of, with_name, with_link, add_child, add_children, add_row}

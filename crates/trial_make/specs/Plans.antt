@@ -3,7 +3,7 @@ use Rattle.std.specs.Prelude.{◌≡◌, ◌+◌, ◌<◌, ℕ, List, length, ma
 use Rattle.std.specs.List.{range_with_len}
 use Rattle.taxon_tree.specs.Trees.{Trees}
 use Rattle.trial_make.specs.declared.blocks.Block.{Block}
-use Rattle.trial_make.specs.Names.{block_name, left_name, right_name, single_name}
+use Rattle.trial_make.specs.Names.{block_name, left_name, right_name}
 
 -- the blocks are counted from 1
 pub record IsPlan (blocks : List Block) : Type 0 where

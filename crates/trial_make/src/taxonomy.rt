@@ -6,6 +6,7 @@ ghost use Rattle.trial_make.specs.Names.{block_name, left_name, right_name, sing
 ghost use Rattle.trial_make.specs.Plans.{IsPlan};
 
 use crate::blocks::Block;
+use constraint_set::MAX_CONCEPTS;
 use std::alloc::{AllocError, Global};
 use taxon_tree::Forest;
 
@@ -75,7 +76,7 @@ fn put_row(forest: &mut Forest, row: &[Vec<u8>]) -> Result<(), AllocError>
     ensures ok { OnOk result (add_row 1024 forest.old (map (λ name. name.items) row.now) ≡ Ok forest.new) }
     ensures forest { IsForest forest.new }
 {
-    match forest.add_row(row, 1024) {
+    match forest.add_row(row, MAX_CONCEPTS) {
         Ok(()) => Ok(()),
         Err(_) => Err(AllocError),
     }

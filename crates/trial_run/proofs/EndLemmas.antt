@@ -1,12 +1,12 @@
 -- How a trial ends, by how its text was put.
-use Rattle.std.proofs.Common.{◌≡◌, ℕ, List, [], Result, Ok, Err, refl, inl, inr, ap, subst}
+use Rattle.std.proofs.Common.{◌≡◌, ℕ, List, [], refl, inl, inr}
 use Rattle.outer_store.specs.Bytes.{GrownInPart, added}
 use Rattle.outer_store.specs.Faults.{Rose}
 use Rattle.outer_store.specs.declared.fault.StoreFault.TheVariants as fault
 use Rattle.run_ends.specs.declared.Status.{Status}
 use Rattle.run_ends.specs.declared.Status.TheVariants as status
 use Rattle.run_ends.specs.Ends.{end_line, IsLastPut}
-use Rattle.run_ends.specs.Runs.{StoreState, SinkState, IsRunOf, IsCarriedOut}
+use Rattle.run_ends.specs.Runs.{StoreState, SinkState, IsRunOf}
 use Rattle.run_ends.proofs.EndLemmas.{all_kept, none_written, run_early, run_done, run_refused, run_starved}
 use Rattle.trial_run.specs.Trials.{IsSummary, IsTrialAnswer, trial_names}
 

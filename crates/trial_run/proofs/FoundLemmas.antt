@@ -1,5 +1,5 @@
 -- How many worlds a search without an end has found.
-use Rattle.std.proofs.Common.{◌≡◌, ℕ, ◌+◌, ◌-◌, ◌^◌, ◌<◌, min, true, false, List, [], ◌∷◌, ◌++◌, Option, None, Some, length, refl, sym, ap, subst, ◌∙◌, arith, IsTrue, length-append}
+use Rattle.std.proofs.Common.{◌≡◌, ℕ, ◌+◌, ◌-◌, ◌^◌, ◌<◌, min, false, List, [], ◌∷◌, ◌++◌, Option, None, Some, length, refl, sym, ap, subst, ◌∙◌, arith, IsTrue, length-append}
 use Rattle.std.proofs.lemmas.Bool.{true≢false, not_from_false}
 use Rattle.rcc5_core.specs.declared.Rel.{Rel}
 use Rattle.world_model.specs.Problem.{Problem, is_problem}
@@ -23,7 +23,7 @@ none_below [] = refl
 none_below (rel ∷ m) = refl
 
 -- nothing stands from a place on and below it
-nothing_there : (W : List Rel → Type 0) (q : List Rel) → IsExactly (Between W q (Some q)) []
+pub nothing_there : (W : List Rel → Type 0) (q : List Rel) → IsExactly (Between W q (Some q)) []
 nothing_there W q = record { ascending = refl; sound = λ t i. elim i [ ]; complete = λ t w. absurd (never t w.1) }
   where
     never : (t : List Rel) → IsTrue (is_between q (Some q) t) → ⊥
@@ -33,7 +33,7 @@ nothing_there W q = record { ascending = refl; sound = λ t i. elim i [ ]; compl
 pub found_none : (p : Problem) → AreFound p (Some []) 0
 found_none p = record { worlds = []; listed = listing p [] (Some []) [] (nothing_there (IsPossibleWorld p) []); counted = omega arith }
 
-not_above : (p : Problem) (one : List Rel) (other : Option (List Rel)) (nodes worlds : List (List Rel)) → StandsBetween p one other nodes worlds → IsTrue (is_not_above_end one other)
+pub not_above : (p : Problem) (one : List Rel) (other : Option (List Rel)) (nodes worlds : List (List Rel)) → StandsBetween p one other nodes worlds → IsTrue (is_not_above_end one other)
 not_above p one None nodes worlds between = refl
 not_above p one (Some end) nodes worlds between = between.onward end (not_from_false (is_below end end) (below_itself end))
 

@@ -1,15 +1,15 @@
 -- A summary is whole lines.
 use Rattle.std.proofs.Common.{◌≡◌, ℕ, List, ◌∷◌, ◌++◌, subst, sym}
-use Rattle.std.specs.Prelude.{codes, decimal}
+use Rattle.std.specs.Prelude.{codes, decimal, Result}
 use Rattle.outer_store.specs.declared.fault.StoreFault.{StoreFault}
-use Rattle.std.specs.Prelude.{Result}
 use Rattle.rcc5_core.specs.declared.Rel.{Rel}
 use Rattle.world_model.specs.Problem.{Problem}
 use Rattle.run_ends.specs.Ends.{line_of, in_lines}
 use Rattle.run_ends.specs.Runs.{SinkState, LeavesPiece}
 use Rattle.run_ends.proofs.PieceLemmas.{IsEnded, ended_line, ended_behind, ended_lines}
 use Rattle.trial_make.specs.Made.{made}
-use Rattle.trial_run.specs.Trials.{count_of, count_line, varied_count, problem_lines, world_lines, summary, IsSummary}
+use Rattle.world_watch.specs.Held.{count_of}
+use Rattle.trial_run.specs.Trials.{count_line, varied_count, problem_lines, world_lines, summary, IsSummary}
 
 -- the lines of a summary end with a line feed
 ended_count : (word : List ℕ) (count : ℕ) → IsEnded (count_line word count)

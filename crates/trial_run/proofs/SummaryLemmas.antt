@@ -1,5 +1,5 @@
 -- The counts of a summary.
-use Rattle.std.proofs.Common.{◌≡◌, ℕ, ◌+◌, ◌-◌, ◌≤◌, Bool, true, false, not, cond, All, List, [], ◌∷◌, ◌++◌, None, Some, length, refl, ap, subst, ◌∙◌, arith, append_assoc, length-append}
+use Rattle.std.proofs.Common.{◌≡◌, ℕ, ◌+◌, ◌≤◌, Bool, true, false, not, cond, All, List, [], ◌∷◌, ◌++◌, None, Some, length, refl, ap, subst, ◌∙◌, arith, append_assoc, length-append}
 use Rattle.std.specs.Prelude.{count_by, filter, slice_get, Result, OnOk}
 use Rattle.std.specs.List.{range_with_len}
 use Rattle.std.proofs.lemmas.List.Elements.{All-weaker, All-contains_itself}
@@ -15,7 +15,8 @@ use Rattle.world_model.proofs.PointPositions.{world_is_full}
 use Rattle.world_model.proofs.OrderListings.{one_listing_law}
 use Rattle.constraint_set.proofs.Lists.{range_more}
 use Rattle.trial_make.specs.Made.{made}
-use Rattle.trial_run.specs.Trials.{count_of, count_line, rel_at, summary, IsSummary}
+use Rattle.world_watch.specs.Held.{count_of}
+use Rattle.trial_run.specs.Trials.{count_line, rel_at, summary, IsSummary}
 use Rattle.trial_run.specs.Steps.{AreFound}
 
 -- one number more is counted, or isn't

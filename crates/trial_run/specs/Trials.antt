@@ -1,5 +1,5 @@
 -- What the command answers that makes a problem, lists its worlds with a certificate, and checks that certificate.
-use Rattle.std.specs.Prelude.{◌≡◌, ℕ, ◌-◌, ◌^◌, ◌+◌, min, not, Bool, false, List, [], ◌∷◌, ◌++◌, length, count_by, slice_index_or, None, codes, decimal}
+use Rattle.std.specs.Prelude.{◌≡◌, ℕ, not, Bool, false, List, [], ◌∷◌, ◌++◌, length, count_by, slice_index_or, None, codes, decimal}
 use Rattle.std.specs.List.{list_any, range_with_len}
 use Rattle.outer_store.specs.Contents.{Contents}
 use Rattle.rcc5_core.specs.declared.Rel.{Rel}
@@ -8,14 +8,11 @@ use Rattle.rcc5_core.specs.Relation.{same_rel}
 use Rattle.world_model.specs.Problem.{Problem, concept_count, pair_count, cross_pairs}
 use Rattle.world_model.specs.Listing.{IsListing}
 use Rattle.trial_make.specs.Made.{made}
+use Rattle.world_watch.specs.Held.{count_of}
 use Rattle.run_ends.specs.declared.Status.{Status}
 use Rattle.run_ends.specs.declared.Status.TheVariants.{Done}
 use Rattle.run_ends.specs.Ends.{line_of}
 use Rattle.run_ends.specs.Runs.{File, Names}
-
--- how many worlds there are, up to the last value of a u64
-abbrev pub count_of : List (List Rel) → ℕ
-count_of worlds = min (length worlds) (2 ^ 64 - 1)
 
 -- the relation that a table has at a place
 abbrev pub rel_at : List Rel → ℕ → Rel

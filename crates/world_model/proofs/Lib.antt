@@ -18,3 +18,7 @@ pub mod TrialPoints
 pub mod TrialNodes
 pub mod TrialWorlds
 pub mod TrialLaws
+pub mod FewPoints
+pub mod Relations
+pub mod Nodes
+pub mod Narrowed

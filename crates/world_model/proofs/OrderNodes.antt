@@ -1,17 +1,18 @@
 -- How many nodes there are at most: each position of at most n relations has a number, which rises with the order.
-use Rattle.std.proofs.Common.{◌≡◌, ℕ, zero, suc, ◌+◌, ◌*◌, ◌^◌, ◌<◌, ◌≤◌, inl, inr, List, [], ◌∷◌, length, refl, sym, ap, true≢false, arith, IsTrue, mul-le-mul_right, length-append}
+use Rattle.std.proofs.Common.{◌≡◌, ℕ, zero, suc, ◌+◌, ◌*◌, ◌^◌, ◌<◌, ◌≤◌, inl, inr, List, [], ◌∷◌, length, refl, sym, ap, true≢false, arith, IsTrue, mul-le-mul_right}
 use Rattle.std.proofs.Math.Nat.{pow-succ'}
 use Rattle.std.proofs.lemmas.List.Elements.{All-contains}
 use Rattle.rcc5_core.specs.declared.Rel.{Rel}
 use Rattle.rcc5_core.specs.declared.Rel.TheVariants.{Equals, Includes, IncludedIn, Overlaps, Disjoint}
 use Rattle.rcc5_core.specs.Relation.{rank_of}
-use Rattle.world_model.specs.Problem.{Problem, pair_count}
+use Rattle.world_model.specs.Problem.{pair_count}
 use Rattle.world_model.specs.Listing.{is_below, ascends}
 use Rattle.world_model.specs.Node.{IsNode}
 use Rattle.world_model.specs.Laws.{NodesAreBounded}
 use Rattle.world_model.proofs.Members.{In, here, there, contains_from_in}
 use Rattle.world_model.proofs.OrderPositions.{first_or_rest}
 use Rattle.world_model.proofs.OrderLists.{ascends_first, ascends_rest}
+use Rattle.world_model.proofs.Nodes.{node_within}
 
 -- how many positions of at most n relations there are
 abbrev count_upto : ℕ → ℕ
@@ -83,15 +84,6 @@ ascending_within n t (s ∷ ts) h short =
 list_within : (n : ℕ) (ts : List (List Rel)) → IsTrue (ascends ts) → ((x : List Rel) → In x ts → length x ≤ n) → length ts ≤ count_upto n
 list_within n [] h short = omega arith
 list_within n (t ∷ ts) h short = let within = ascending_within n t ts h short in omega arith
-
--- a node has no more relations than there are pairs
-node_within : (p : Problem) (m : List Rel) → IsNode p m → length m ≤ pair_count p
-node_within p m (inl empty) = let none : length m ≡ 0 = ap length empty in omega arith
-node_within p m (inr step) =
-    let same = ap length step.follows in
-    let more = length-append step.prefix (step.rel ∷ []) in
-    let room = step.not_full in
-    omega arith
 
 pub nodes_are_bounded_law : NodesAreBounded
 nodes_are_bounded_law p nodes h all =

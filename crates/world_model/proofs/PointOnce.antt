@@ -11,7 +11,7 @@ use Rattle.rcc5_core.specs.declared.Rel.TheVariants.{Equals, Includes, IncludedI
 use Rattle.rcc5_core.specs.declared.RelSet.{RelSet}
 use Rattle.rcc5_core.specs.RelationSet.{has, only, both_of, every_rel}
 use Rattle.world_model.specs.Problem.{Problem, Constraint, concept_count, concepts, all_pairs, is_cross, pairs, pair_count, constraints, kept_articulations, as_constraint}
-use Rattle.world_model.specs.Alive.{allowed, is_about, meet_of, narrowings_at, problem_at}
+use Rattle.world_model.specs.Alive.{allowed, is_about, meet_of, narrowings_at, problem_at, said_of}
 use Rattle.world_model.specs.Node.{pair_at}
 use Rattle.world_model.proofs.Members.{In, here, there, In-get_or, from_map, from_filter, from_append, from_flat_map, from_range, IsImage, IsOf}
 use Rattle.world_model.proofs.PointWhole.{has-both_of, has-every_rel, about_is, about_from}
@@ -114,7 +114,7 @@ pairs_number p =
     ap (λ n. 2 * n) (both ∙ split) ∙ count_from (concept_count p) 0 (concept_count p) (omega arith)
 
 -- sets of relations that have the same relations are one
-same_sets : (a b : RelSet) → ((rel : Rel) → has a rel ≡ has b rel) → a ≡ b
+pub same_sets : (a b : RelSet) → ((rel : Rel) → has a rel ≡ has b rel) → a ≡ b
 same_sets a b same =
     let e : a.equals ≡ b.equals = same Equals in
     let i : a.includes ≡ b.includes = same Includes in
@@ -133,14 +133,11 @@ and_true : (b : Bool) → (b && true) ≡ b
 and_true true = refl
 and_true false = refl
 
-both_of_every : (a : RelSet) → both_of a every_rel ≡ a
+pub both_of_every : (a : RelSet) → both_of a every_rel ≡ a
 both_of_every a = same_sets (both_of a every_rel) a (λ rel. has-both_of a every_rel rel ∙ ap (λ r. has a rel && r) (has-every_rel rel) ∙ and_true (has a rel))
 
--- what statements about a pair have in common
-abbrev said_of : ℕ × ℕ → List Constraint → RelSet
-said_of pair cs = meet_of (map (λ c. c.set) (filter (is_about pair) cs))
-
-said_of-append : (pair : ℕ × ℕ) (cs ds : List Constraint) → said_of pair (cs ++ ds) ≡ both_of (said_of pair cs) (said_of pair ds)
+-- what statements have in common that come one after the other
+pub said_of-append : (pair : ℕ × ℕ) (cs ds : List Constraint) → said_of pair (cs ++ ds) ≡ both_of (said_of pair cs) (said_of pair ds)
 said_of-append pair [] ds = refl
 said_of-append pair (c ∷ cs) ds = split (is_about pair c) (said_of-append pair cs ds)
   where

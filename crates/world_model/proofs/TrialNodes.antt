@@ -2,7 +2,6 @@
 use Rattle.std.proofs.Common.{◌≡◌, ℕ, zero, suc, ◌+◌, ◌<◌, Bool, true, false, not, cond, ◌&&◌, ◌⊎◌, inl, inr, List, [], ◌∷◌, ◌++◌, length, get_or, refl, sym, ap, ◌∙◌, subst, arith, IsTrue, append_assoc, append-nil, length-append, ltb-true, eqb-true}
 use Rattle.std.specs.Prelude.{nat_lt, filter, flat_map, Option}
 use Rattle.std.specs.List.{list_all, list_any}
-use Rattle.std.specs.Ordering.{nat_cmp}
 use Rattle.std.proofs.Math.Seq.{get_or-append_seam}
 use Rattle.std.proofs.lemmas.Bool.{and_parts, and_from, not-true, not-false}
 use Rattle.rcc5_core.specs.declared.Rel.{Rel}
@@ -16,16 +15,12 @@ use Rattle.world_model.specs.Alive.{allowed, IsAlive, problem_at}
 use Rattle.world_model.specs.Node.{IsNode, IsStep, pair_at}
 use Rattle.world_model.specs.Trial.{alive_by_trial, next_rels, nodes_below, nodes_by_trial, nodes_between}
 use Rattle.world_model.proofs.Members.{In, here, there, IsOf, Found, all_at, all_from, any_at, In-filter, from_filter, In-flat_map, from_flat_map, In-get_or}
-use Rattle.world_model.proofs.OrderPositions.{below_longer, below_branch, exact_rels, rel_itself}
+use Rattle.world_model.proofs.OrderPositions.{below_longer, below_branch}
 use Rattle.world_model.proofs.OrderLists.{IsExactly, Between, ascends_from, ascends_append, ascends_filter}
 use Rattle.world_model.proofs.PointPositions.{prefix_is_alive}
 use Rattle.world_model.proofs.PointOnce.{narrowed_inside}
 use Rattle.world_model.proofs.TrialPoints.{alive_by_trial-iff}
-
--- whether each relation of a list comes before all after it
-abbrev rises : List Rel → Bool
-rises [] = true
-rises (r ∷ rs) = list_all (λ s. nat_lt (rank_of r) (rank_of s)) rs && rises rs
+use Rattle.world_model.proofs.Relations.{same_rank, rises}
 
 rises_filter : (test : Rel → Bool) (rs : List Rel) → IsTrue (rises rs) → IsTrue (rises (filter test rs))
 rises_filter test [] h = refl
@@ -154,10 +149,6 @@ has-rels_that test Includes = refl
 has-rels_that test IncludedIn = refl
 has-rels_that test Overlaps = refl
 has-rels_that test Disjoint = refl
-
--- the ranks tell relations apart
-same_rank : (r s : Rel) → rank_of r ≡ rank_of s → r ≡ s
-same_rank r s e = exact_rels r s (ap (λ k. nat_cmp k (rank_of s)) e ∙ rel_itself s)
 
 -- a set has the one relation to which it is narrowed, where any is left
 narrow_has : (set : RelSet) (r : Rel) → not (is_empty_set (both_of set (only r))) ≡ true → has set r ≡ true

@@ -21,9 +21,13 @@ abbrev pub meet_of : List RelSet → RelSet
 meet_of [] = every_rel
 meet_of (set ∷ sets) = both_of set (meet_of sets)
 
+-- what all statements about a pair have in common
+abbrev pub said_of : ℕ × ℕ → List Constraint → RelSet
+said_of pair statements = meet_of (map (λ c. c.set) (filter (is_about pair) statements))
+
 -- the allowed set of a pair: what all statements about it have in common
 abbrev pub allowed : Problem → ℕ × ℕ → RelSet
-allowed p pair = meet_of (map (λ c. c.set) (filter (is_about pair) (constraints p)))
+allowed p pair = said_of pair (constraints p)
 
 -- each pair of a list with what the problem forces of its regions
 abbrev pub forced_of : Problem → List (ℕ × ℕ) → List ((ℕ × ℕ) × Regions)

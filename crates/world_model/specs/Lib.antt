@@ -3,6 +3,7 @@ pub mod Family
 pub mod Listing
 pub mod Alive
 pub mod Node
+pub mod Points
 pub mod Questions
 pub mod Trial
 pub mod Laws

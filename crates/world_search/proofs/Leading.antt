@@ -15,8 +15,9 @@ use Rattle.world_search.specs.declared.walk.Stage.TheVariants.{Start, Standing, 
 use Rattle.world_search.specs.declared.walk.Walk.{Walk}
 use Rattle.world_search.specs.Walking.{IsBehind, waiting, place, LeadsBy, IsOnWay, IsFrom, IsAfter}
 use Rattle.world_search.proofs.Places.{Upward, within, behind, upward, below_both, not_below_behind}
-use Rattle.world_search.proofs.Relations.{same_rank, next_is_in, next_is_least, none_is_next}
-use Rattle.world_search.proofs.LeastNodes.{IsChild, child_within, child_is_node, below_child, first_child, least_after_alive, after_is_behind}
+use Rattle.world_model.proofs.Relations.{same_rank, next_is_in, next_is_least, none_is_next}
+use Rattle.world_model.proofs.Nodes.{IsChild, child_within, child_is_node}
+use Rattle.world_search.proofs.LeastNodes.{below_child, first_child, least_after_alive, after_is_behind}
 
 -- the least node of one kind is that of another, where the nodes of the one are those of the other
 pub leads_as : (p : Problem) (K L : List Rel → Type 0) (m : List Rel) (stage : Stage) → ((x : List Rel) → K x → L x) → ((x : List Rel) → IsNode p x → L x → K x) →

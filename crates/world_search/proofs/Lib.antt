@@ -1,11 +1,10 @@
 pub mod Places
-pub mod Relations
 pub mod LeastNodes
 pub mod Leading
-pub mod Serving
 pub mod Passing
 pub mod Stepping
 pub mod OpenChildren
 pub mod Guiding
+pub mod UnderWay
 pub mod Telling
 pub mod NodeLines

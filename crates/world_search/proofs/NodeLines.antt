@@ -1,31 +1,14 @@
 -- What the lines of nodes say is so.
-use Rattle.std.proofs.Common.{◌≡◌, ℕ, true, List, [], ◌∷◌, length, Option, Some, None, All, refl, sym, ap, ◌∙◌, arith, IsTrue}
+use Rattle.std.proofs.Common.{◌≡◌, ℕ, true, List, [], ◌∷◌, length, All, refl, IsTrue}
 use Rattle.std.specs.Prelude.{◌==◌, nat_lt}
 use Rattle.std.specs.List.{list_all, AllByRecursion}
-use Rattle.std.proofs.lemmas.Bool.{and_from, and_parts, eq-eqb}
+use Rattle.std.proofs.lemmas.Bool.{and_from, and_parts}
 use Rattle.std.proofs.lemmas.List.Elements.{recursion_from_All}
-use Rattle.rcc5_core.specs.declared.Rel.{Rel}
 use Rattle.rcc5_core.specs.Relation.{is_ascending}
 use Rattle.world_model.specs.Problem.{Problem, concept_count}
 use Rattle.world_model.specs.Family.{Family, meets}
 use Rattle.world_model.proofs.PointRules.{met_parts}
 use Rattle.set_family.specs.Sets.{is_set_below}
-use Rattle.cert_rules.specs.Trees.{last_of, same_last, is_node_at}
-use Rattle.cert_rules.proofs.Relations.{itself}
-
-same_itself : (last : Option Rel) → same_last last last ≡ true
-same_itself None = refl
-same_itself (Some rel) = itself rel
-
--- a node by its depth and last relation
-pub named : (m : List Rel) (depth : ℕ) (last : Option Rel) → depth ≡ length m → last ≡ last_of m → IsTrue (is_node_at m depth last)
-named m depth last is_depth is_last =
-    and_from (depth == length m) (same_last last (last_of m)) (eq-eqb depth (length m) is_depth) (ap (same_last last) (sym is_last) ∙ same_itself last)
-
--- the root has no last relation
-pub root_last : (m : List Rel) → length m ≡ 0 → None ≡ last_of m
-root_last [] none = refl
-root_last (r ∷ m) none = absurd (omega arith)
 
 -- ascending lists of numbers below a bound are sets
 by_recursion : (u : ℕ) (sets : List (List ℕ)) → AllByRecursion (λ set. IsTrue (is_ascending set)) sets → list_all (list_all (λ x. nat_lt x u)) sets ≡ true → list_all (is_set_below u) sets ≡ true

@@ -37,7 +37,7 @@ exact_one W v has only = record {
     sound t (there i) = elim i [ ]
 
 -- each world is a node
-world_is_node : (p : Problem) (t : List Rel) → IsPossibleWorld p t → IsNode p t
+pub world_is_node : (p : Problem) (t : List Rel) → IsPossibleWorld p t → IsNode p t
 world_is_node p t world = prefix_is_node p t [] (subst (IsPossibleWorld p) (sym (append-nil t)) world)
 
 -- nothing stands between two places where no node does

@@ -1,17 +1,15 @@
 -- What a log tells keeps up with the walk.
-use Rattle.std.proofs.Common.{◌≡◌, ℕ, ◌<◌, ◌≤◌, ◌⊎◌, Bool, true, false, not, inl, inr, List, [], ◌∷◌, ◌++◌, map, length, Option, Some, None, Result, Ok, Err, OnOk, OnErr, refl, sym, ap, ◌∙◌, subst, arith, IsTrue, append_assoc, append-nil}
-use Rattle.std.specs.Prelude.{IfSome, is_some, ◌↔◌, ⊤}
+use Rattle.std.proofs.Common.{◌≡◌, ◌<◌, ◌⊎◌, Bool, true, false, not, inl, inr, List, [], ◌∷◌, ◌++◌, map, length, Option, Some, None, Result, Ok, Err, OnOk, OnErr, refl, sym, ap, ◌∙◌, subst, IsTrue}
+use Rattle.std.specs.Prelude.{is_some, ◌↔◌}
 use Rattle.std.specs.Result.{IsErrAnd}
 use Rattle.rcc5_core.specs.declared.Rel.{Rel}
 use Rattle.rcc5_core.specs.declared.RelSet.{RelSet}
 use Rattle.rcc5_core.specs.RelationSet.{has}
 use Rattle.std.proofs.lemmas.Bool.{true≢false}
-use Rattle.lits_core.specs.declared.Line.{Line}
 use Rattle.world_model.specs.Problem.{Problem, pair_count}
 use Rattle.world_model.specs.Listing.{is_below}
 use Rattle.world_model.specs.Alive.{allowed, problem_at, IsAlive}
 use Rattle.world_model.specs.Node.{IsNode, pair_at}
-use Rattle.learn_solver.specs.Solving.{SolverState}
 use Rattle.point_query.specs.Asking.{AskerState, AskerGoes}
 use Rattle.cert_text.specs.declared.line.CertLine.{CertLine}
 use Rattle.cert_text.specs.declared.line.CertLine.TheVariants.{Proof}
@@ -19,7 +17,7 @@ use Rattle.cert_text.specs.Logs.{Told, IsToldWith}
 use Rattle.cert_rules.specs.Trees.{is_branch}
 use Rattle.cert_rules.specs.Listings.{listing_next}
 use Rattle.cert_rules.specs.ShownNodes.{Branches, IsFirstOf}
-use Rattle.cert_rules.specs.Writing.{BeginsAndKeepsUp, ToldKeepsUp, TellsOf}
+use Rattle.cert_rules.specs.Writing.{ToldKeepsUp, TellsOf}
 use Rattle.cert_rules.proofs.Told.{told_stays_up_law}
 use Rattle.cert_rules.proofs.Writing.{put_keeps_up_law}
 use Rattle.cert_rules.proofs.NextNodes.{expected_is_next_law}
@@ -29,10 +27,10 @@ use Rattle.world_search.specs.declared.walk.Stage.{Stage}
 use Rattle.world_search.specs.declared.walk.Stage.TheVariants.{Start, Standing, Past}
 use Rattle.world_search.specs.declared.walk.Walk.{Walk}
 use Rattle.world_search.specs.Walking.{place, LeadsBy, IsAfter, IsFrom, IsOnWay, IsOpenOrDead, expects_by, expected}
-use Rattle.world_search.proofs.LeastNodes.{child_within}
+use Rattle.world_model.proofs.Nodes.{child_within}
 use Rattle.world_search.proofs.Leading.{place_settled}
-use Rattle.world_search.specs.Logging.{KeepsOn, KeepsPast, next_if, IsInnerOrDead}
-use Rattle.search_log.specs.Logging.{NoneTold, IsFlushed, step_fault, AddsLines, AreToldWith, IfLogFailed, LogGoes, IsSameButLines}
+use Rattle.search_log.specs.Logging.{next_if, NoneTold, IsFlushed, AddsLines, AreToldWith}
+use Rattle.world_search.specs.Logging.{KeepsOn, IsInnerOrDead}
 
 -- the node that comes next in a listing is the one to which the walk leads
 first_of_leads : (p : Problem) (K : List Rel → Type 0) (n : List Rel) (stage : Stage) → LeadsBy p K n stage → IsFirstOf p K (expects_by n stage)

@@ -17,9 +17,13 @@ pub record IsLadderOf (p : Problem) (prefix : List Rel) (ladder : LadderState) :
 abbrev pub IsGuideOf : Problem → List Rel → Guide → Type 0
 IsGuideOf p prefix guide = IfSome guide.ladder (IsLadderOf p prefix)
 
--- what every search keeps
-pub record IsSearch (p : Problem) (from : List Rel) (to : Option (List Rel)) (w : Walk) (guide : Guide) : Type 0 where
-  pub within : length from ≤ pair_count p
+-- a walk stands in its span, knows its nodes, and has its guide
+pub record IsUnderWay (p : Problem) (from : List Rel) (to : Option (List Rel)) (w : Walk) (g : Guide) : Type 0 where
   pub placed : IsPlaced p from to w
   pub knows : Knows p w
-  pub guided : IsGuideOf p w.path guide
+  pub guide : IsGuideOf p w.path g
+
+-- what every search keeps
+pub record IsSearch (p : Problem) (from : List Rel) (to : Option (List Rel)) (w : Walk) (g : Guide) : Type 0 where
+  pub within : length from ≤ pair_count p
+  pub walk : IsUnderWay p from to w g

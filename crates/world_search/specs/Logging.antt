@@ -1,5 +1,5 @@
 -- What a search puts in a log, so that what the log tells stays a valid listing.
-use Rattle.std.specs.Prelude.{◌≡◌, ◌<◌, Bool, true, false, not, IsTrue, List, length, Option, Some, Result, Ok, Err}
+use Rattle.std.specs.Prelude.{◌≡◌, ◌<◌, Bool, true, false, not, IsTrue, List, length, Option, Some, Result}
 use Rattle.rcc5_core.specs.declared.Rel.{Rel}
 use Rattle.world_model.specs.Problem.{Problem, pair_count}
 use Rattle.world_model.specs.Alive.{problem_at, IsAlive}
@@ -7,12 +7,12 @@ use Rattle.world_model.specs.Listing.{is_below}
 use Rattle.point_query.specs.Asking.{AskerState}
 use Rattle.cert_text.specs.declared.line.CertLine.{CertLine}
 use Rattle.cert_text.specs.Logs.{Told}
-use Rattle.cert_rules.specs.Trees.{is_branch}
 use Rattle.cert_rules.specs.Listings.{listing_next}
-use Rattle.cert_rules.specs.Writing.{BeginsAndKeepsUp, ToldKeepsUp, TellsOf}
+use Rattle.cert_rules.specs.Writing.{BeginsAndKeepsUp, ToldKeepsUp}
 use Rattle.world_search.specs.declared.walk.Walk.{Walk}
 use Rattle.world_search.specs.Walking.{expected}
 use Rattle.search_log.specs.declared.fault.StepFault.{StepFault}
+use Rattle.search_log.specs.Logging.{next_if}
 pub use Rattle.search_log.specs.Logging.{step_fault, AddsLines}
 
 -- told lines that begin a listing and keep up with an asker that waits at one node keep up with it, later, at the next
@@ -25,11 +25,6 @@ KeepsOn p from old new one other at next =
 abbrev pub KeepsFrom : Problem → Told → Told → AskerState → AskerState → Walk → Walk → Type 0
 KeepsFrom p old new one other before after =
     (from : List Rel) → IsTrue (not (is_below before.path from)) → KeepsOn p from old new one other (expected before) (expected after)
-
--- the next node after an answer Ok, and else the same
-abbrev pub next_if : {T : Type 0} → Result T StepFault → Option (List Rel) → Option (List Rel) → Option (List Rel)
-next_if (Ok value) next at = next
-next_if (Err fault) next at = at
 
 -- so it is past a node, with a line that tells of it
 abbrev pub KeepsPast : {T : Type 0} → Problem → Result T StepFault → Told → Told → AskerState → AskerState → List Rel → Bool → Type 0

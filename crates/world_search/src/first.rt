@@ -4,9 +4,9 @@ ghost use Rattle.world_model.specs.Problem.{pair_count};
 ghost use Rattle.world_model.specs.Alive.{problem_at, IsAlive};
 ghost use Rattle.constraint_set.specs.Shape.{shape_of};
 ghost use Rattle.cert_rules.specs.Listings.{listing_next};
-ghost use Rattle.world_search.specs.Walking.{place, LeadsTo, IsPlaced, IsOnWay, IsFrom, Follows, Knows, at_by, expected};
+ghost use Rattle.world_search.specs.Walking.{place, LeadsTo, IsOnWay, IsFrom, Follows, at_by, expected};
 ghost use Rattle.world_search.specs.Searching.{Passes};
-ghost use Rattle.world_search.specs.Guiding.{IsGuideOf};
+ghost use Rattle.world_search.specs.Guiding.{IsGuideOf, IsUnderWay};
 ghost use Rattle.world_search.specs.Logging.{KeepsOn};
 ghost use Rattle.search_log.specs.Logging.{LogGoes};
 ghost use Rattle.world_search.specs.declared.walk.Stage.TheVariants.{Start};
@@ -169,14 +169,10 @@ pub(crate) fn begin<L: TreeLog>(
 ) -> Result<(), StepFault>
     requires shape { asker.old.shape ≡ shape_of problem.now }
     requires within { length span.now.from ≤ pair_count problem.now }
-    requires placed { IsPlaced problem.now span.now.from span.now.to walk.old }
-    requires knows { Knows problem.now walk.old }
-    requires guide { IsGuideOf problem.now walk.old.path guide.old }
-    ensures placed { IsPlaced problem.now span.now.from span.now.to walk.new }
-    ensures knows { Knows problem.now walk.new }
+    requires walk { IsUnderWay problem.now span.now.from span.now.to walk.old guide.old }
+    ensures walk { IsUnderWay problem.now span.now.from span.now.to walk.new guide.new }
     ensures passed { Passes problem.now (at_by span.now.from span.now.to (place walk.old) walk.old.stage) (at_by span.now.from span.now.to (place walk.new) walk.new.stage) [] [] }
     ensures begun { OnOk result (walk.new.stage ≢ Start) }
-    ensures guide { IsGuideOf problem.now walk.new.path guide.new }
     ensures shape { asker.new.shape ≡ asker.old.shape }
     ensures keeps { KeepsOn problem.now span.now.from (L.lines log.old) (L.lines log.new) asker.old asker.new (expected walk.old) (expected walk.new) }
     ensures log { LogGoes L.drops L.lines L.faults L.steady L.quiet result log.old log.new }

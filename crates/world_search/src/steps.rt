@@ -6,10 +6,10 @@ ghost use Rattle.world_model.specs.Listing.{is_before_end};
 ghost use Rattle.world_model.specs.Node.{IsNode};
 ghost use Rattle.constraint_set.specs.Shape.{shape_of};
 ghost use Rattle.point_query.specs.Asking.{AskerGoes};
-ghost use Rattle.world_search.specs.Walking.{LeadsTo, IsAfter, IsPlaced, Knows, state_of, nodes_left, expected};
+ghost use Rattle.world_search.specs.Walking.{LeadsTo, IsAfter, state_of, nodes_left, expected};
 ghost use Rattle.world_search.specs.Logging.{KeepsOn, KeepsFrom};
 ghost use Rattle.search_log.specs.Logging.{LogGoes};
-ghost use Rattle.world_search.specs.Guiding.{IsGuideOf};
+ghost use Rattle.world_search.specs.Guiding.{IsGuideOf, IsUnderWay};
 ghost use Rattle.world_search.specs.Searching.{FellBy, Came};
 ghost use Rattle.world_search.specs.Steps.{IsTableStep, IsStepped};
 ghost use Rattle.world_search.specs.Stopping.{IsStop};
@@ -70,17 +70,13 @@ fn turn<L: TreeLog>(
     nodes: &mut Nodes,
 ) -> Result<Option<TableStep>, StepFault>
     requires shape { asker.old.shape ≡ shape_of problem.now }
-    requires placed { IsPlaced problem.now span.now.from span.now.to walk.old }
-    requires knows { Knows problem.now walk.old }
+    requires walk { IsUnderWay problem.now span.now.from span.now.to walk.old guide.old }
     requires standing { walk.old.stage ≡ Standing }
-    requires guide { IsGuideOf problem.now walk.old.path guide.old }
     ensures stop { IfOk result (λ stop. IfSome stop (IsStop problem.now span.now.from span.now.to walk.new nodes.new.left)) }
     ensures came { Came (state_of problem.now span.now.from span.now.to walk.old) (state_of problem.now span.now.from span.now.to walk.new) nodes.old.left nodes.new.left [] }
-    ensures placed { IsPlaced problem.now span.now.from span.now.to walk.new }
-    ensures knows { Knows problem.now walk.new }
+    ensures walk { IsUnderWay problem.now span.now.from span.now.to walk.new guide.new }
     ensures fewer { IfOk result (λ stop. IfNone stop (nodes_left problem.now walk.new < nodes_left problem.now walk.old)) }
     ensures begun { walk.new.stage ≢ Start }
-    ensures guide { IsGuideOf problem.now walk.new.path guide.new }
     ensures shape { asker.new.shape ≡ asker.old.shape }
     ensures keeps { KeepsOn problem.now span.now.from (L.lines log.old) (L.lines log.new) asker.old asker.new (expected walk.old) (expected walk.new) }
     ensures log { LogGoes L.drops L.lines L.faults L.steady L.quiet result log.old log.new }
@@ -115,14 +111,10 @@ fn walk_on<L: TreeLog>(
 ) -> Result<TableStep, StepFault>
     requires shape { asker.old.shape ≡ shape_of problem.now }
     requires within { length span.now.from ≤ pair_count problem.now }
-    requires placed { IsPlaced problem.now span.now.from span.now.to walk.old }
-    requires knows { Knows problem.now walk.old }
-    requires guide { IsGuideOf problem.now walk.old.path guide.old }
+    requires walk { IsUnderWay problem.now span.now.from span.now.to walk.old guide.old }
     ensures stop { IfOk result (IsStop problem.now span.now.from span.now.to walk.new nodes.new.left) }
     ensures came { Came (state_of problem.now span.now.from span.now.to walk.old) (state_of problem.now span.now.from span.now.to walk.new) nodes.old.left nodes.new.left [] }
-    ensures placed { IsPlaced problem.now span.now.from span.now.to walk.new }
-    ensures knows { Knows problem.now walk.new }
-    ensures guide { IsGuideOf problem.now walk.new.path guide.new }
+    ensures walk { IsUnderWay problem.now span.now.from span.now.to walk.new guide.new }
     ensures few { OnOk result (length asker.new.solver.idle ≤ 1024) }
     ensures shape { asker.new.shape ≡ asker.old.shape }
     ensures keeps { KeepsOn problem.now span.now.from (L.lines log.old) (L.lines log.new) asker.old asker.new (expected walk.old) (expected walk.new) }
@@ -153,14 +145,10 @@ fn walk_untold(
 ) -> Result<TableStep, AllocError>
     requires shape { asker.old.shape ≡ shape_of problem.now }
     requires within { length span.now.from ≤ pair_count problem.now }
-    requires placed { IsPlaced problem.now span.now.from span.now.to walk.old }
-    requires knows { Knows problem.now walk.old }
-    requires guide { IsGuideOf problem.now walk.old.path guide.old }
+    requires walk { IsUnderWay problem.now span.now.from span.now.to walk.old guide.old }
     ensures stop { IfOk result (IsStop problem.now span.now.from span.now.to walk.new nodes.new.left) }
     ensures came { Came (state_of problem.now span.now.from span.now.to walk.old) (state_of problem.now span.now.from span.now.to walk.new) nodes.old.left nodes.new.left [] }
-    ensures placed { IsPlaced problem.now span.now.from span.now.to walk.new }
-    ensures knows { Knows problem.now walk.new }
-    ensures guide { IsGuideOf problem.now walk.new.path guide.new }
+    ensures walk { IsUnderWay problem.now span.now.from span.now.to walk.new guide.new }
     ensures few { OnOk result (length asker.new.solver.idle ≤ 1024) }
     ensures shape { asker.new.shape ≡ asker.old.shape }
 {
@@ -198,14 +186,10 @@ pub(crate) fn table_step(
 ) -> Result<TableStep, AllocError>
     requires shape { asker.old.shape ≡ shape_of problem.now }
     requires within { length span.now.from ≤ pair_count problem.now }
-    requires placed { IsPlaced problem.now span.now.from span.now.to walk.old }
-    requires knows { Knows problem.now walk.old }
-    requires guide { IsGuideOf problem.now walk.old.path guide.old }
+    requires walk { IsUnderWay problem.now span.now.from span.now.to walk.old guide.old }
     ensures step { IfOk result (IsTableStep (state_of problem.now span.now.from span.now.to walk.old) (state_of problem.now span.now.from span.now.to walk.new) nodes.old.left nodes.new.left) }
     ensures err { OnErr result (Came (state_of problem.now span.now.from span.now.to walk.old) (state_of problem.now span.now.from span.now.to walk.new) nodes.old.left nodes.new.left []) }
-    ensures placed { IsPlaced problem.now span.now.from span.now.to walk.new }
-    ensures knows { Knows problem.now walk.new }
-    ensures guide { IsGuideOf problem.now walk.new.path guide.new }
+    ensures walk { IsUnderWay problem.now span.now.from span.now.to walk.new guide.new }
     ensures few { OnOk result (length asker.new.solver.idle ≤ 1024) }
     ensures shape { asker.new.shape ≡ asker.old.shape }
 {
@@ -295,13 +279,9 @@ pub(crate) fn family_step<L: TreeLog>(
 ) -> Result<Step, StepFault>
     requires shape { asker.old.shape ≡ shape_of problem.now }
     requires within { length span.now.from ≤ pair_count problem.now }
-    requires placed { IsPlaced problem.now span.now.from span.now.to walk.old }
-    requires knows { Knows problem.now walk.old }
-    requires guide { IsGuideOf problem.now walk.old.path guide.old }
+    requires walk { IsUnderWay problem.now span.now.from span.now.to walk.old guide.old }
     ensures step { IsStepped (state_of problem.now span.now.from span.now.to walk.old) (state_of problem.now span.now.from span.now.to walk.new) nodes.old.left nodes.new.left result }
-    ensures placed { IsPlaced problem.now span.now.from span.now.to walk.new }
-    ensures knows { Knows problem.now walk.new }
-    ensures guide { IsGuideOf problem.now walk.new.path guide.new }
+    ensures walk { IsUnderWay problem.now span.now.from span.now.to walk.new guide.new }
     ensures none_waits { OnOk result (asker.new.solver.waiting ≡ []) }
     ensures few { OnOk result (length asker.new.solver.idle ≤ 1024) }
     ensures shape { asker.new.shape ≡ asker.old.shape }

@@ -1,5 +1,4 @@
 use Rattle.std.proofs.Common.{rules, ap}
-use Rattle.std.specs.Borrow.{Bor}
 use Rattle.run_ends.specs.Runs.{store_state, sink_state}
 use Rattle.align_top.proofs.ListingLemmas.{partly_nothing}
 use Rattle.align_top.proofs.CertifiedLemmas.{create_refused, listed_over_as}

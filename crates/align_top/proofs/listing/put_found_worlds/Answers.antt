@@ -1,9 +1,8 @@
-use Rattle.std.proofs.Common.{rules, ℕ, ◌≡◌, ◌≢◌, ◌∙◌, [], ◌∷◌, None, Some, Ok, Err, refl, ap, sym, subst}
+use Rattle.std.proofs.Common.{rules, ℕ, ◌≡◌, ◌≢◌, ◌∙◌, [], ◌∷◌, None, Some, Err, refl, ap, sym, subst}
 use Rattle.outer_store.specs.Faults.{Rose, IfFailed}
 use Rattle.run_ends.specs.Runs.{sink_state}
 use Rattle.align_top.specs.Putting.{IsPutTo}
 use Rattle.align_top.specs.Logged.{IsKeptIn}
-use Rattle.align_top.specs.declared.listing.Listed.{Listed}
 use Rattle.align_top.specs.declared.listing.Met.{Met}
 use Rattle.world_search.specs.Searching.{SearchState, Came, IsNext}
 use Rattle.world_search.specs.Steps.{StandsBehind}

@@ -3,7 +3,7 @@ use Rattle.std.specs.Prelude.{IfOk, IfNone}
 use Rattle.std.proofs.lemmas.List.{take_all}
 use Rattle.world_model.specs.Node.{IsNode}
 use Rattle.world_search.specs.Walking.{IsBehind, HasNoNode}
-use Rattle.align_top.proofs.PlaceLemmas.{world_is_node}
+use Rattle.world_search.proofs.Passing.{world_is_node}
 use Rattle.align_top.proofs.table_listing.cut_behind.Goals as goal
 
 pub node_behind-requires : goal.node_behind-requires

@@ -1,5 +1,10 @@
 use Rattle.cert_check.proofs.ReadLemmas.{few_at_first}
+use Rattle.cert_check.proofs.SourceLemmas.{source_memory}
 use Rattle.cert_check.proofs.checking.check.Goals as goal
 
 pub check_lines-requires-clause-few : goal.check_lines-requires-clause-few
 check_lines-requires-clause-few g c = few_at_first (g.R.Source.left c.args.source.now) c.in_ok-reader.reader c.in_ok-reader.ensures
+
+pub returns-in_err-reader-clause-source : goal.returns-in_err-reader-clause-source
+returns-in_err-reader-clause-source g c =
+    source_memory c.from_residual.result c.args.source.now (g.met.R.Source.steady_stays c.args.source.now) (g.met.R.Source.quiet_stays c.args.source.now) c.from_residual.ensures.1

@@ -1,5 +1,6 @@
-use Rattle.std.proofs.Common.{◌≡◌, None, option_map}
+use Rattle.std.proofs.Common.{◌≡◌, None, option_map, Ok}
 use Rattle.cert_reader.specs.Reader.{to_read}
+use Rattle.cert_check.specs.Answers.{SourceGoes}
 use Rattle.cert_check.specs.Whole.{AreFew, IsReady, answer_from}
 use Rattle.cert_check.proofs.checking.check_rest.Given as goal
 
@@ -10,7 +11,5 @@ invariant-loop-read g l = record {
   fresh : l.reader.refusal ≡ None;
   few : AreFew l.read (to_read l.reader (g.R.Source.left l.source));
   answers : option_map (λ read. answer_from l.checker l.read read) (to_read l.reader (g.R.Source.left l.source)) ≡ option_map (λ read. answer_from l.fn.checker 1 read) (to_read l.fn.reader (g.R.Source.left l.fn.source));
-  faults : g.R.Source.faults l.source ≡ g.R.Source.faults l.fn.source;
-  steady : g.R.Source.steady l.fn.source l.source;
-  quiet : g.R.Source.quiet l.fn.source l.source;
+  source : SourceGoes g.R.Source.faults g.R.Source.steady g.R.Source.quiet (Ok (tt {0})) l.fn.source l.source;
 }

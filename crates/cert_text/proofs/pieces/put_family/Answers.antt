@@ -1,4 +1,4 @@
-use Rattle.std.proofs.Common.{◌≡◌, ℕ, ◌<◌, ◌^◌, map, All, arith, subst}
+use Rattle.std.proofs.Common.{◌<◌, ◌^◌, All, arith, subst}
 use Rattle.std.proofs.lemmas.List.Elements.{All-map}
 use Rattle.cert_text.proofs.TextLemmas.{on_ok}
 use Rattle.cert_text.proofs.pieces.put_family.Goals as goal

@@ -1,4 +1,4 @@
-use Rattle.std.proofs.Common.{◌≡◌, [], ◌∷◌, ◌++◌, ap, sym, ◌∙◌, subst, OnOk}
+use Rattle.std.proofs.Common.{◌≡◌, [], ◌∷◌, ◌++◌, ap, ◌∙◌, subst, OnOk}
 use Rattle.outer_store.specs.Bytes.{added}
 use Rattle.cert_text.specs.Lines.{cert_text}
 use Rattle.cert_text.proofs.StoreLemmas.{told_ok}

@@ -1,4 +1,4 @@
-use Rattle.std.proofs.Common.{◌≡◌, ◌<◌, length, sym, arith}
+use Rattle.std.proofs.Common.{◌<◌, length, sym, arith}
 use Rattle.claims_run.specs.declared.question.Answer.TheVariants.{Conflict}
 use Rattle.claims_run.specs.Answering.{answer_text}
 use Rattle.claims_run.proofs.PutLemmas.{line_kept, line_dropped}

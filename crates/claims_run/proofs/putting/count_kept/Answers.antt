@@ -1,5 +1,4 @@
-use Rattle.std.proofs.Common.{◌≡◌, ◌≤◌, ◌+◌, length, drop, sym, arith}
-use Rattle.conflict_min.specs.Conflicts.{places_from}
+use Rattle.std.proofs.Common.{sym, arith}
 use Rattle.claims_run.proofs.PutLemmas.{counted_kept, counted_dropped, counted_all}
 use Rattle.claims_run.proofs.putting.count_kept.Goals as goal
 use Rattle.claims_run.proofs.putting.count_kept.Goals.{then-kept-place, else-kept-place}

@@ -1,6 +1,7 @@
 use Rattle.std.proofs.Common.{◌≡◌, [], length}
-use Rattle.cleantax_text.specs.Tokens.{tokens_after}
-use Rattle.cleantax_text.specs.Views.{at_bracket, onto_run, words_meant}
+use Rattle.text_words.specs.Tokens.{tokens_after}
+use Rattle.text_words.specs.Views.{words_meant}
+use Rattle.cleantax_text.specs.Views.{at_bracket, onto_run}
 use Rattle.cleantax_text.proofs.forms.run_of.Given as goal
 
 abbrev pub invariant-loop-token : goal.invariant-loop-token

@@ -1,5 +1,5 @@
 use Rattle.std.proofs.Common.{◌≡◌, ◌++◌, length, map}
-use Rattle.cleantax_text.specs.Views.{words_meant}
+use Rattle.text_words.specs.Views.{words_meant}
 use Rattle.cleantax_text.proofs.naming.copies.Given as goal
 
 abbrev pub invariant-loop-rest : goal.invariant-loop-rest

@@ -1,5 +1,5 @@
 use Rattle.std.proofs.Common.{◌∙◌, sym}
-use Rattle.cleantax_text.proofs.WordLemmas.{among_references}
+use Rattle.text_words.proofs.WordLemmas.{among_references}
 use Rattle.cleantax_text.proofs.naming.is_taxonomy_among.Goals as goal
 
 pub returns : goal.returns

@@ -1,5 +1,5 @@
 use Rattle.std.proofs.Common.{◌≡◌, ◌+◌, ◌≤◌}
-use Rattle.cleantax_text.specs.Tokens.{lines_of}
+use Rattle.text_words.specs.Tokens.{lines_of}
 use Rattle.cleantax_text.specs.Reading.{nothing_read, after_lines}
 use Rattle.cleantax_text.specs.Kept.{meant, IsKept}
 use Rattle.cleantax_text.specs.Whole.{lines_left, length_left}

@@ -1,5 +1,3 @@
-use Rattle.std.proofs.Common.{subst}
-use Rattle.std.specs.Prelude.{Contains}
 use Rattle.std.proofs.lemmas.List.Elements.{Contains-append_left, Contains-append_right}
 use Rattle.cert_model.specs.Forced.{selectors_of, need_lits}
 use Rattle.point_encode.specs.Needs.{need_seen}

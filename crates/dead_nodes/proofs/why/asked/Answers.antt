@@ -3,7 +3,8 @@ use Rattle.std.specs.Prelude.{IfSome}
 use Rattle.point_encode.specs.Needs.{need_seen, IsInRange}
 use Rattle.point_query.specs.Answers.{IsFirstClosed, IsProbeAnswer}
 use Rattle.dead_nodes.specs.Why.{Closes}
-use Rattle.dead_nodes.proofs.Reasons.{live_from_one, first_closed}
+use Rattle.cert_rules.proofs.NodeLines.{live_from_one}
+use Rattle.dead_nodes.proofs.Reasons.{first_closed}
 use Rattle.dead_nodes.proofs.why.asked.Goals as goal
 
 pub returns-in-Some-clause-why : goal.returns-in-Some-clause-why

@@ -1,7 +1,7 @@
 use Rattle.std.proofs.Common.{subst}
 use Rattle.std.specs.Prelude.{IfSome}
 use Rattle.dead_nodes.specs.Why.{Closes}
-use Rattle.dead_nodes.proofs.Reasons.{live_from_one}
+use Rattle.cert_rules.proofs.NodeLines.{live_from_one}
 use Rattle.dead_nodes.proofs.why.why_dead.Goals as goal
 
 pub returns-in-Some-clause-why : goal.returns-in-Some-clause-why

@@ -7,7 +7,7 @@ use Rattle.world_model.specs.Alive.{problem_at}
 use Rattle.world_model.proofs.PointOnce.{at_empty}
 use Rattle.cert_model.specs.Clauses.{is_so}
 use Rattle.cert_model.specs.Forced.{region_number, region_with, selectors_of}
-use Rattle.point_pool.specs.Needs.{forced_at}
+use Rattle.world_model.specs.Points.{forced_at}
 use Rattle.point_pool.proofs.Selecting.{empty_is_selector}
 use Rattle.dead_pairs.specs.Lone.{lone_problem}
 use Rattle.dead_pairs.proofs.closes.is_empty_there.Goals as goal

@@ -1,4 +1,4 @@
-use Rattle.std.proofs.Common.{All, map, ap, ◌∙◌}
+use Rattle.std.proofs.Common.{map, ap, ◌∙◌}
 use Rattle.merge_print.proofs.JsonLemmas.{utf8_concepts}
 use Rattle.merge_print.proofs.json.class_names.Goals as goal
 

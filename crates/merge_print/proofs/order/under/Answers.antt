@@ -1,4 +1,4 @@
-use Rattle.std.proofs.Common.{◌≡◌, ◌∙◌, ap, subst, length, arith, ℕ, IfOk}
+use Rattle.std.proofs.Common.{◌≡◌, ◌∙◌, ap, subst, length, ℕ, IfOk}
 use Rattle.merge_print.specs.Merged.{under_of, row_has, is_below}
 use Rattle.merge_print.proofs.MergeLemmas.{under_by_rows, if_ok}
 use Rattle.merge_print.proofs.order.under.Goals as goal

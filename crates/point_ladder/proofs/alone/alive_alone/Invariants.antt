@@ -1,4 +1,3 @@
-use Rattle.std.proofs.Common.{◌≡◌, length}
 use Rattle.point_ladder.specs.Alone.{AreAliveAlone}
 use Rattle.point_ladder.proofs.alone.alive_alone.Given as goal
 

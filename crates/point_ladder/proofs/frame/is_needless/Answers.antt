@@ -1,4 +1,4 @@
-use Rattle.std.proofs.Common.{sym, ◌∙◌}
+use Rattle.std.proofs.Common.{sym, ◌∙◌, arith}
 use Rattle.bit_rows.specs.Rows.{has_bit, bit_in}
 use Rattle.bit_rows.proofs.RowBits.{shown_common}
 use Rattle.point_ladder.proofs.Frames.{needless_by_must, needless_by_other}
@@ -12,5 +12,7 @@ returns-then-have_common c = λ h some s.
 pub returns-then-is_inside : goal.returns-then-is_inside
 returns-then-is_inside c = λ h some s.
     let rows = c.args.frame.now in
-    needless_by_other rows c.args.last c.loop-other.other some c.loop-other.auto.other c.loop-other-test.true
-    (λ k e. sym (c.row-row.ensures.bits k) ∙ c.is_inside.ensures.0 c.if-is_inside.true k (c.row-in-loop-other.ensures.bits k ∙ e)) s
+    let two = c.first_compared-other.ensures in
+    let from = c.loop-other.auto.other in
+    needless_by_other rows c.args.last c.loop-other.other some (omega arith) c.loop-other-test.true
+    (λ k e. sym (c.row-row.ensures.bits k) ∙ c.is_inside.ensures.0 c.if-is_inside.true k (c.row-then-may_be_inside.ensures.bits k ∙ e)) s

@@ -1,6 +1,6 @@
 use Rattle.std.proofs.Common.{◌≡◌, ℕ, ◌<◌, length, get_or}
 use Rattle.rcc5_core.specs.declared.Regions.{Regions}
-use Rattle.point_pool.specs.Needs.{forced_at}
+use Rattle.world_model.specs.Points.{forced_at}
 use Rattle.point_pool.proofs.cursor.forced_alone.Given as goal
 
 abbrev pub invariant-loop-pair : goal.invariant-loop-pair

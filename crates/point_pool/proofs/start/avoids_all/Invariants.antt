@@ -1,6 +1,6 @@
 use Rattle.std.proofs.Common.{◌≡◌, true, take}
 use Rattle.std.specs.List.{list_all}
-use Rattle.point_pool.specs.Starts.{avoids_at}
+use Rattle.world_model.specs.Points.{avoids_at}
 use Rattle.point_pool.proofs.start.avoids_all.Given as goal
 
 abbrev pub invariant-loop-pair : goal.invariant-loop-pair

@@ -3,8 +3,9 @@ use Rattle.std.specs.Prelude.{All, IsTrue}
 use Rattle.std.specs.List.{list_all}
 use Rattle.world_model.specs.Problem.{pair_count, kept_sums}
 use Rattle.world_model.specs.Alive.{point_sums}
-use Rattle.point_pool.specs.Starts.{avoids_at}
-use Rattle.point_pool.proofs.Starting.{start_point, empty_in_range}
+use Rattle.world_model.specs.Points.{avoids_at}
+use Rattle.constraint_set.proofs.PointTests.{empty_in_range}
+use Rattle.point_pool.proofs.Starting.{start_point}
 use Rattle.point_pool.proofs.start.depth_at_start.Goals as goal
 
 pub avoids_all-requires-clause-pairs : goal.avoids_all-requires-clause-pairs

@@ -1,6 +1,6 @@
 use Rattle.std.proofs.Common.{◌∙◌, ap, sym, ◌+◌, ◌&&◌}
-use Rattle.point_pool.specs.Starts.{sums_from}
-use Rattle.point_pool.proofs.Starting.{sums_got, sums_skipped}
+use Rattle.world_model.specs.Points.{sums_from}
+use Rattle.constraint_set.proofs.PointTests.{sums_got, sums_skipped}
 use Rattle.point_pool.proofs.start.holds_if_kept.Goals as goal
 
 pub returns-then-not-is_kept : goal.returns-then-not-is_kept

@@ -1,7 +1,6 @@
 use Rattle.std.proofs.Common.{◌++◌, ◌∷◌, [], ◌∙◌, cond, ap}
-use Rattle.point_pool.specs.Needs.{forced_at}
-use Rattle.point_pool.specs.Starts.{has_empty}
-use Rattle.point_pool.proofs.Starting.{pairs_more}
+use Rattle.world_model.specs.Points.{forced_at, has_empty}
+use Rattle.constraint_set.proofs.PointTests.{pairs_more}
 use Rattle.point_pool.proofs.start.pairs_with_empty.Goals as goal
 
 pub loop-pair-preserved : goal.loop-pair-preserved

@@ -1,7 +1,7 @@
 use Rattle.std.proofs.Common.{◌≡◌, ◌+◌, ◌∙◌, sym, true, ◌&&◌, arith}
 use Rattle.world_model.specs.Problem.{kept_articulations}
-use Rattle.point_pool.specs.Starts.{sums_from}
-use Rattle.point_pool.proofs.Starting.{sums_done, sums_all}
+use Rattle.world_model.specs.Points.{sums_from}
+use Rattle.constraint_set.proofs.PointTests.{sums_done, sums_all}
 use Rattle.point_pool.proofs.start.sums_hold.Goals as goal
 
 pub loop-index-preserved : goal.loop-index-preserved

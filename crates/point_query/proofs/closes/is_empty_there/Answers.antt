@@ -6,7 +6,7 @@ use Rattle.world_model.specs.Problem.{concept_count}
 use Rattle.world_model.specs.Alive.{problem_at}
 use Rattle.cert_model.specs.Clauses.{is_so}
 use Rattle.cert_model.specs.Forced.{region_number, region_with, selectors_of}
-use Rattle.point_pool.specs.Needs.{forced_at}
+use Rattle.world_model.specs.Points.{forced_at}
 use Rattle.point_pool.proofs.Selecting.{empty_is_selector}
 use Rattle.point_query.proofs.closes.is_empty_there.Goals as goal
 

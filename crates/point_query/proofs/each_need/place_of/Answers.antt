@@ -5,11 +5,11 @@ use Rattle.world_model.specs.Alive.{is_point, problem_at}
 use Rattle.point_encode.specs.Needs.{need_seen}
 use Rattle.point_query.specs.Answers.{IsFound}
 use Rattle.point_query.specs.Queries.{ArePoints, asker_with}
-use Rattle.point_query.proofs.Querying.{goes_nowhere}
+use Rattle.point_query.proofs.Querying.{keeps_still}
 use Rattle.point_query.proofs.each_need.place_of.Goals as goal
 
-pub returns-in-Some-clause-kept : goal.returns-in-Some-clause-kept
-returns-in-Some-clause-kept c = goes_nowhere c.args.solver.now
+pub returns-in-Some-clause-solver : goal.returns-in-Some-clause-solver
+returns-in-Some-clause-solver c = keeps_still _ _ c.requires.solver
 
 pub returns-in_ok-push-in-Point-clause-points : goal.returns-in_ok-push-in-Point-clause-points
 returns-in_ok-push-in-Point-clause-points c =

@@ -6,15 +6,14 @@ use Rattle.rcc5_core.specs.RelationSet.{has}
 use Rattle.world_model.specs.Problem.{pair_count}
 use Rattle.world_model.specs.Alive.{all_allow, problem_at, IsAlive}
 use Rattle.point_query.specs.Queries.{IsSolverOf}
-use Rattle.point_query.proofs.Querying.{goes_nowhere, goes_chain}
+use Rattle.point_query.proofs.Querying.{keeps_still, keeps_chain}
 use Rattle.point_query.proofs.Choosing.{last_first, HasThose, one_in, one_out, has_none, one_of_five}
 use Rattle.point_query.proofs.leading.each_tried.Goals as goal
 use Rattle.point_query.proofs.leading.each_tried.Goals.{then-branch, else-branch}
 
 pub loop-rel-init : goal.loop-rel-init
 loop-rel-init c = record {
-  kept = goes_nowhere c.args.solver.now;
-  solver = c.requires.solver;
+  solver = keeps_still _ _ c.requires.solver;
   pool = c.requires.pool;
   problem = refl;
   beyond = c.requires.beyond;
@@ -28,11 +27,12 @@ pub leads_on-requires-clause-allow : goal.leads_on-requires-clause-allow
 leads_on-requires-clause-allow c = subst (λ p. IsTrue (all_allow (problem_at p c.args.prefix.now))) (sym c.loop-rel.invariant.problem) c.requires.allow
 
 pub leads_on-requires-clause-solver : goal.leads_on-requires-clause-solver
-leads_on-requires-clause-solver c = subst (λ p. IsSolverOf p c.loop-rel.solver) (sym c.loop-rel.invariant.problem) c.loop-rel.invariant.solver
+leads_on-requires-clause-solver c = subst (λ p. IsSolverOf p c.loop-rel.solver) (sym c.loop-rel.invariant.problem) c.loop-rel.invariant.solver.solver
 
-pub returns-in_err-leads_on-clause-kept : goal.returns-in_err-leads_on-clause-kept
-returns-in_err-leads_on-clause-kept c =
-    goes_chain c.law_literals_are_sets.ensures c.args.solver.now c.loop-rel.solver c.leads_on.new.solver c.loop-rel.invariant.kept c.leads_on.ensures.kept
+pub returns-in_err-leads_on-clause-solver : goal.returns-in_err-leads_on-clause-solver
+returns-in_err-leads_on-clause-solver c =
+    keeps_chain c.law_literals_are_sets.ensures c.args.pool.now.cursor.problem c.loop-rel.pool.cursor.problem c.args.solver.now c.loop-rel.solver c.leads_on.new.solver
+    c.loop-rel.invariant.problem c.loop-rel.invariant.solver c.leads_on.ensures.solver
 
 pub loop-rel-preserved : goal.loop-rel-preserved
 loop-rel-preserved c =
@@ -44,8 +44,8 @@ loop-rel-preserved c =
     let said = c.in_ok-leads_on.ensures in
     let same = c.loop-rel.invariant.problem in
     record {
-      kept = goes_chain c.law_literals_are_sets.ensures c.args.solver.now c.loop-rel.solver c.leads_on.new.solver c.loop-rel.invariant.kept c.leads_on.ensures.kept;
-      solver = subst (λ q. IsSolverOf q c.leads_on.new.solver) same c.leads_on.ensures.solver;
+      solver = keeps_chain c.law_literals_are_sets.ensures c.args.pool.now.cursor.problem c.loop-rel.pool.cursor.problem c.args.solver.now c.loop-rel.solver c.leads_on.new.solver
+          same c.loop-rel.invariant.solver c.leads_on.ensures.solver;
       pool = said.pool;
       problem = said.problem ∙ same;
       beyond = said.beyond;

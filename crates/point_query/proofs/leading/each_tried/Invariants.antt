@@ -1,16 +1,14 @@
 use Rattle.std.proofs.Common.{◌≡◌, ◌∷◌, ◌++◌, [], take}
-use Rattle.learn_solver.specs.Solving.{GoesTo}
 use Rattle.world_model.specs.Alive.{problem_at, IsAlive}
 use Rattle.point_query.specs.Leading.{BeginsWith}
-use Rattle.point_query.specs.Queries.{IsSolverOf}
+use Rattle.point_query.specs.Queries.{KeepsSolver}
 use Rattle.point_pool.specs.Pools.{IsPool}
 use Rattle.point_query.proofs.Choosing.{HasThose}
 use Rattle.point_query.proofs.leading.each_tried.Given as goal
 
 abbrev pub invariant-loop-rel : goal.invariant-loop-rel
 invariant-loop-rel l = record {
-  kept : GoesTo l.fn.solver l.solver;
-  solver : IsSolverOf l.fn.pool.cursor.problem l.solver;
+  solver : KeepsSolver l.fn.pool.cursor.problem l.fn.solver l.solver;
   pool : IsPool l.pool;
   problem : l.pool.cursor.problem ≡ l.fn.pool.cursor.problem;
   beyond : BeginsWith l.pool.cursor.path l.prefix;

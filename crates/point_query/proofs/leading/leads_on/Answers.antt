@@ -4,15 +4,15 @@ use Rattle.std.proofs.lemmas.Bool.{false≢true}
 use Rattle.rcc5_core.specs.RelationSet.{has}
 use Rattle.world_model.specs.Node.{pair_at}
 use Rattle.world_model.specs.Alive.{all_allow, allowed, problem_at}
-use Rattle.point_query.proofs.Querying.{goes_nowhere}
+use Rattle.point_query.proofs.Querying.{keeps_still}
 use Rattle.point_query.proofs.Following.{child_allows, refused_is_dead}
 use Rattle.point_query.proofs.leading.leads_on.Goals as goal
 
-pub returns-then-not-has-clause-kept : goal.returns-then-not-has-clause-kept
-returns-then-not-has-clause-kept c = goes_nowhere c.args.solver.now
+pub returns-then-not-has-clause-solver : goal.returns-then-not-has-clause-solver
+returns-then-not-has-clause-solver c = keeps_still _ _ c.requires.solver
 
-pub returns-in_err-push-clause-kept : goal.returns-in_err-push-clause-kept
-returns-in_err-push-clause-kept c = goes_nowhere c.args.solver.now
+pub returns-in_err-push-clause-solver : goal.returns-in_err-push-clause-solver
+returns-in_err-push-clause-solver c = keeps_still _ _ c.requires.solver
 
 pub returns-then-not-has-clause-alive : goal.returns-then-not-has-clause-alive
 returns-then-not-has-clause-alive c =

@@ -6,16 +6,16 @@ use Rattle.point_encode.specs.Needs.{need_seen, IsInRange}
 use Rattle.point_pool.specs.Cursors.{IsEmptyPair}
 use Rattle.point_pool.specs.Needs.{need_at}
 use Rattle.point_query.specs.Closing.{IsFirstStuck}
-use Rattle.point_query.proofs.Querying.{goes_nowhere}
+use Rattle.point_query.proofs.Querying.{keeps_still}
 use Rattle.point_pool.proofs.Settling.{cursor_from}
 use Rattle.point_query.proofs.Answering.{closed_at, points_at}
 use Rattle.point_query.proofs.probe.alive.Goals as goal
 
-pub returns-in_err-pair-clause-kept : goal.returns-in_err-pair-clause-kept
-returns-in_err-pair-clause-kept c = goes_nowhere c.args.solver.now
+pub returns-in_err-pair-clause-solver : goal.returns-in_err-pair-clause-solver
+returns-in_err-pair-clause-solver c = keeps_still _ _ c.requires.solver
 
-pub returns-in-Some-clause-kept : goal.returns-in-Some-clause-kept
-returns-in-Some-clause-kept c = goes_nowhere c.args.solver.now
+pub returns-in-Some-clause-solver : goal.returns-in-Some-clause-solver
+returns-in-Some-clause-solver c = keeps_still _ _ c.requires.solver
 
 pub returns-in-Some-2-clause-answer : goal.returns-in-Some-2-clause-answer
 returns-in-Some-2-clause-answer c =

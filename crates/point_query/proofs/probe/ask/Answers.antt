@@ -1,5 +1,5 @@
-use Rattle.point_query.proofs.Querying.{goes_nowhere}
+use Rattle.point_query.proofs.Querying.{keeps_still}
 use Rattle.point_query.proofs.probe.ask.Goals as goal
 
-pub returns-in_err-go_to-clause-kept : goal.returns-in_err-go_to-clause-kept
-returns-in_err-go_to-clause-kept c = goes_nowhere c.args.solver.now
+pub returns-in_err-go_to-clause-solver : goal.returns-in_err-go_to-clause-solver
+returns-in_err-go_to-clause-solver c = keeps_still _ _ c.requires.solver

@@ -4,14 +4,14 @@ use Rattle.world_model.specs.Alive.{problem_at, IsAlive}
 use Rattle.point_query.specs.Closing.{IsFirstStuck}
 use Rattle.point_pool.proofs.Settling.{cursor_from}
 use Rattle.point_query.proofs.Deciding.{lost_is_dead}
-use Rattle.point_query.proofs.Querying.{goes_nowhere}
+use Rattle.point_query.proofs.Querying.{keeps_still}
 use Rattle.point_query.proofs.probe.serving.Goals as goal
 
-pub returns-in_err-go_to-clause-kept : goal.returns-in_err-go_to-clause-kept
-returns-in_err-go_to-clause-kept c = goes_nowhere c.args.solver.now
+pub returns-in_err-go_to-clause-solver : goal.returns-in_err-go_to-clause-solver
+returns-in_err-go_to-clause-solver c = keeps_still _ _ c.requires.solver
 
-pub returns-in-Some-clause-kept : goal.returns-in-Some-clause-kept
-returns-in-Some-clause-kept c = goes_nowhere c.args.solver.now
+pub returns-in-Some-clause-solver : goal.returns-in-Some-clause-solver
+returns-in-Some-clause-solver c = keeps_still _ _ c.requires.solver
 
 pub returns-in-Some-2-clause-none : goal.returns-in-Some-2-clause-none
 returns-in-Some-2-clause-none c = λ alive.

@@ -4,11 +4,11 @@ use Rattle.world_model.specs.Alive.{is_point, is_in_need, problem_at}
 use Rattle.learn_solver.specs.Answers.{IsAnswer}
 use Rattle.point_encode.specs.Needs.{need_seen}
 use Rattle.point_pool.proofs.Settling.{seen_named}
-use Rattle.point_query.proofs.Querying.{goes_nowhere, asked_in_range, asked_consistent, model_is_point, refuted_is_closed, solver_stays}
+use Rattle.point_query.proofs.Querying.{keeps_still, keeps_on, asked_in_range, asked_consistent, model_is_point, refuted_is_closed, solver_stays}
 use Rattle.point_query.proofs.query.query.Goals as goal
 
-pub returns-in_err-more-clause-kept : goal.returns-in_err-more-clause-kept
-returns-in_err-more-clause-kept c = goes_nowhere c.args.solver.now
+pub returns-in_err-more-clause-solver : goal.returns-in_err-more-clause-solver
+returns-in_err-more-clause-solver c = keeps_still _ _ c.requires.solver
 
 pub solve-requires-clause-range : goal.solve-requires-clause-range
 solve-requires-clause-range c =
@@ -50,13 +50,13 @@ returns-clause-found c =
     c.facts.ensures.built s (seen_named c.args.problem.now c.args.need c.requires.range) c.requires.selectors same answer
 
 pub returns-in_err-bits-clause-solver : goal.returns-in_err-bits-clause-solver
-returns-in_err-bits-clause-solver c = solver_stays c.law_derived_clauses_follow.ensures c.args.problem.now c.args.solver.now c.solve.new.self c.requires.solver c.solve.ensures.kept
+returns-in_err-bits-clause-solver c = keeps_on c.law_derived_clauses_follow.ensures c.args.problem.now c.args.solver.now c.solve.new.self c.requires.solver c.solve.ensures.kept
 
 pub returns-in_err-point-in-Bits-clause-solver : goal.returns-in_err-point-in-Bits-clause-solver
-returns-in_err-point-in-Bits-clause-solver c = solver_stays c.law_derived_clauses_follow.ensures c.args.problem.now c.args.solver.now c.solve.new.self c.requires.solver c.solve.ensures.kept
+returns-in_err-point-in-Bits-clause-solver c = keeps_on c.law_derived_clauses_follow.ensures c.args.problem.now c.args.solver.now c.solve.new.self c.requires.solver c.solve.ensures.kept
 
 pub returns-in-Bits-clause-solver : goal.returns-in-Bits-clause-solver
-returns-in-Bits-clause-solver c = solver_stays c.law_derived_clauses_follow.ensures c.args.problem.now c.args.solver.now c.solve.new.self c.requires.solver c.solve.ensures.kept
+returns-in-Bits-clause-solver c = keeps_on c.law_derived_clauses_follow.ensures c.args.problem.now c.args.solver.now c.solve.new.self c.requires.solver c.solve.ensures.kept
 
 pub returns-clause-solver : goal.returns-clause-solver
-returns-clause-solver c = solver_stays c.law_derived_clauses_follow.ensures c.args.problem.now c.args.solver.now c.solve.new.self c.requires.solver c.solve.ensures.kept
+returns-clause-solver c = keeps_on c.law_derived_clauses_follow.ensures c.args.problem.now c.args.solver.now c.solve.new.self c.requires.solver c.solve.ensures.kept

@@ -1,31 +1,37 @@
-use Rattle.std.proofs.Common.{◌≡◌, ◌<◌, ◌∙◌, ℕ, refl, sym, subst}
+use Rattle.std.proofs.Common.{◌≡◌, ◌<◌, ◌∙◌, ℕ, refl, sym, ap, subst}
 use Rattle.std.specs.Prelude.{IsTrue, IfSome, IfNone}
 use Rattle.world_model.specs.Alive.{problem_at, HasPoint}
 use Rattle.point_query.specs.Queries.{IsSolverOf}
 use Rattle.point_pool.specs.Needs.{need_at, is_needed, need_count}
 use Rattle.point_pool.specs.Pools.{IsPool}
 use Rattle.point_query.specs.Closing.{IsStuck}
-use Rattle.point_query.proofs.Querying.{goes_nowhere, goes_chain}
+use Rattle.point_query.proofs.Querying.{keeps_still, keeps_chain}
 use Rattle.point_pool.proofs.Pooling.{popped, put_back, earlier_have}
 use Rattle.point_query.proofs.settle.settle.Goals as goal
 
 pub loop-number-init : goal.loop-number-init
-loop-number-init c = record { pool = c.requires.pool; cursor = refl; kept = goes_nowhere c.args.solver.now; solver = c.requires.solver }
+loop-number-init c = record { pool = c.requires.pool; cursor = refl; solver = keeps_still _ _ c.requires.solver }
 
 pub settle_one-requires-clause-pool : goal.settle_one-requires-clause-pool
 settle_one-requires-clause-pool c = popped c.loop-number.pool c.in-Some.number c.pop.new.self c.loop-number.invariant.pool c.in-Some.ensures.stay
 
-pub returns-in_err-id-clause-kept : goal.returns-in_err-id-clause-kept
-returns-in_err-id-clause-kept c =
-    goes_chain c.law_literals_are_sets.ensures c.args.solver.now c.loop-number.solver c.settle_one.new.solver c.loop-number.invariant.kept c.settle_one.ensures.kept
+pub settle_one-requires-clause-solver : goal.settle_one-requires-clause-solver
+settle_one-requires-clause-solver c = subst (λ s. IsSolverOf s.problem c.loop-number.solver) (sym c.loop-number.invariant.cursor) c.loop-number.invariant.solver.solver
 
-pub returns-in_err-push-clause-kept : goal.returns-in_err-push-clause-kept
-returns-in_err-push-clause-kept c =
-    goes_chain c.law_literals_are_sets.ensures c.args.solver.now c.loop-number.solver c.settle_one.new.solver c.loop-number.invariant.kept c.settle_one.ensures.kept
+pub returns-in_err-id-clause-solver : goal.returns-in_err-id-clause-solver
+returns-in_err-id-clause-solver c =
+    keeps_chain c.law_literals_are_sets.ensures c.args.pool.now.cursor.problem c.loop-number.pool.cursor.problem c.args.solver.now c.loop-number.solver c.settle_one.new.solver
+    (ap (λ s. s.problem) c.loop-number.invariant.cursor) c.loop-number.invariant.solver c.settle_one.ensures.solver
 
-pub returns-in-Some-2-clause-kept : goal.returns-in-Some-2-clause-kept
-returns-in-Some-2-clause-kept c =
-    goes_chain c.law_literals_are_sets.ensures c.args.solver.now c.loop-number.solver c.settle_one.new.solver c.loop-number.invariant.kept c.settle_one.ensures.kept
+pub returns-in_err-push-clause-solver : goal.returns-in_err-push-clause-solver
+returns-in_err-push-clause-solver c =
+    keeps_chain c.law_literals_are_sets.ensures c.args.pool.now.cursor.problem c.loop-number.pool.cursor.problem c.args.solver.now c.loop-number.solver c.settle_one.new.solver
+    (ap (λ s. s.problem) c.loop-number.invariant.cursor) c.loop-number.invariant.solver c.settle_one.ensures.solver
+
+pub returns-in-Some-2-clause-solver : goal.returns-in-Some-2-clause-solver
+returns-in-Some-2-clause-solver c =
+    keeps_chain c.law_literals_are_sets.ensures c.args.pool.now.cursor.problem c.loop-number.pool.cursor.problem c.args.solver.now c.loop-number.solver c.settle_one.new.solver
+    (ap (λ s. s.problem) c.loop-number.invariant.cursor) c.loop-number.invariant.solver c.settle_one.ensures.solver
 
 pub returns-in-Some-2-clause-pool : goal.returns-in-Some-2-clause-pool
 returns-in-Some-2-clause-pool c =
@@ -53,8 +59,8 @@ loop-number-preserved c =
     record {
       pool = settled;
       cursor = c.in_ok-id.ensures.cursor ∙ c.loop-number.invariant.cursor;
-      kept = goes_chain c.law_literals_are_sets.ensures c.args.solver.now c.loop-number.solver c.settle_one.new.solver c.loop-number.invariant.kept c.settle_one.ensures.kept;
-      solver = subst (λ s. IsSolverOf s.problem c.settle_one.new.solver) c.loop-number.invariant.cursor c.settle_one.ensures.solver;
+      solver = keeps_chain c.law_literals_are_sets.ensures c.args.pool.now.cursor.problem c.loop-number.pool.cursor.problem c.args.solver.now c.loop-number.solver c.settle_one.new.solver
+          (ap (λ s. s.problem) c.loop-number.invariant.cursor) c.loop-number.invariant.solver c.settle_one.ensures.solver;
     }
 
 pub returns-clause-settled : goal.returns-clause-settled

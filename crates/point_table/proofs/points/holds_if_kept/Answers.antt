@@ -1,6 +1,6 @@
 use Rattle.std.proofs.Common.{◌∙◌, ap, sym, ◌+◌, ◌&&◌}
-use Rattle.point_table.specs.Points.{sums_from}
-use Rattle.point_table.proofs.PointTests.{sums_got, sums_skipped}
+use Rattle.world_model.specs.Points.{sums_from}
+use Rattle.constraint_set.proofs.PointTests.{sums_got, sums_skipped}
 use Rattle.point_table.proofs.points.holds_if_kept.Goals as goal
 
 pub returns-then-not-is_kept : goal.returns-then-not-is_kept

@@ -2,8 +2,9 @@ use Rattle.std.proofs.Common.{◌<◌, ◌&&◌, ◌∙◌, sym, ap, subst}
 use Rattle.std.specs.Prelude.{All}
 use Rattle.std.specs.List.{list_all}
 use Rattle.world_model.specs.Problem.{pair_count}
-use Rattle.point_table.specs.Points.{avoids_at, empty_pairs}
-use Rattle.point_table.proofs.PointTests.{point_by_pairs, empty_in_range}
+use Rattle.world_model.specs.Points.{avoids_at, empty_pairs}
+use Rattle.constraint_set.proofs.PointTests.{empty_in_range}
+use Rattle.point_table.proofs.PointTests.{point_by_pairs}
 use Rattle.point_table.proofs.points.is_point.Goals as goal
 
 pub avoids_all-requires-clause-pairs : goal.avoids_all-requires-clause-pairs

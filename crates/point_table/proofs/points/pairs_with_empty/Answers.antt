@@ -1,7 +1,7 @@
 use Rattle.std.proofs.Common.{◌<◌, ◌++◌, ◌∷◌, [], ◌∙◌, cond, ap, subst}
 use Rattle.rcc5_core.specs.Region.{forced_regions}
-use Rattle.point_table.specs.Points.{forced_at, has_empty}
-use Rattle.point_table.proofs.PointTests.{pairs_more}
+use Rattle.world_model.specs.Points.{forced_at, has_empty}
+use Rattle.constraint_set.proofs.PointTests.{pairs_more}
 use Rattle.point_table.proofs.points.pairs_with_empty.Goals as goal
 
 pub loop-pair-preserved : goal.loop-pair-preserved

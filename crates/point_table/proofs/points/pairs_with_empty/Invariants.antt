@@ -1,7 +1,7 @@
 use Rattle.std.proofs.Common.{◌≡◌}
 use Rattle.std.specs.Prelude.{filter}
 use Rattle.std.specs.List.{range_with_len}
-use Rattle.point_table.specs.Points.{forced_at, has_empty}
+use Rattle.world_model.specs.Points.{forced_at, has_empty}
 use Rattle.point_table.proofs.points.pairs_with_empty.Given as goal
 
 abbrev pub invariant-loop-pair : goal.invariant-loop-pair

@@ -1,7 +1,7 @@
 use Rattle.std.proofs.Common.{◌≡◌, ◌+◌, ◌∙◌, sym, true, false, ◌&&◌, arith}
 use Rattle.world_model.specs.Problem.{kept_articulations}
-use Rattle.point_table.specs.Points.{sums_from}
-use Rattle.point_table.proofs.PointTests.{sums_done, sums_all}
+use Rattle.world_model.specs.Points.{sums_from}
+use Rattle.constraint_set.proofs.PointTests.{sums_done, sums_all}
 use Rattle.point_table.proofs.points.sums_hold.Goals as goal
 
 pub returns-then-not-holds_if_kept : goal.returns-then-not-holds_if_kept

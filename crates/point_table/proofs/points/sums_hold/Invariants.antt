@@ -1,5 +1,5 @@
 use Rattle.std.proofs.Common.{◌≡◌}
-use Rattle.point_table.specs.Points.{sums_from}
+use Rattle.world_model.specs.Points.{sums_from}
 use Rattle.point_table.proofs.points.sums_hold.Given as goal
 
 -- what is left to test is what there was

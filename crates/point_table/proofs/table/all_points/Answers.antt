@@ -2,7 +2,7 @@ use Rattle.std.proofs.Common.{◌<◌, ◌++◌, [], ◌∙◌, sym, ap, subst}
 use Rattle.std.specs.Prelude.{All}
 use Rattle.world_model.specs.Problem.{pair_count}
 use Rattle.point_table.specs.Growing.{points_below}
-use Rattle.point_table.proofs.PointTests.{empty_in_range}
+use Rattle.constraint_set.proofs.PointTests.{empty_in_range}
 use Rattle.point_table.proofs.Begins.{below_all}
 use Rattle.point_table.proofs.table.all_points.Goals as goal
 

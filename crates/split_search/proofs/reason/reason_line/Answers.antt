@@ -1,7 +1,8 @@
 use Rattle.std.proofs.Common.{◌∙◌, subst}
 use Rattle.point_query.specs.Answers.{IsProbeAnswer}
 use Rattle.split_search.specs.Walking.{split_tree}
-use Rattle.split_search.proofs.Lines.{alive_here, tells_pair, tells_need, live_from_one}
+use Rattle.cert_rules.proofs.NodeLines.{live_from_one}
+use Rattle.split_search.proofs.Lines.{alive_here, tells_pair, tells_need}
 use Rattle.split_search.proofs.reason.reason_line.Goals as goal
 
 pub unreachable-requires : goal.unreachable-requires

@@ -1,6 +1,7 @@
 use Rattle.std.proofs.Common.{◌≡◌, Some}
 use Rattle.cert_rules.specs.Trees.{is_branch}
-use Rattle.split_search.specs.Walking.{next_node, next_if}
+use Rattle.search_log.specs.Logging.{next_if}
+use Rattle.split_search.specs.Walking.{next_node}
 use Rattle.split_search.proofs.Told.{keeps_err, keeps_joins, keeps_put_if, keeps_flushed, tells_same}
 use Rattle.search_log.proofs.Logs.{log_joins}
 use Rattle.split_search.proofs.tell.put_node.Goals as goal

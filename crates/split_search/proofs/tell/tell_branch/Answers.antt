@@ -1,4 +1,4 @@
-use Rattle.split_search.proofs.Lines.{named}
+use Rattle.cert_rules.proofs.NodeLines.{named}
 use Rattle.split_search.proofs.tell.tell_branch.Goals as goal
 
 pub returns-clause-keeps : goal.returns-clause-keeps

@@ -1,7 +1,8 @@
 use Rattle.std.proofs.Common.{◌≡◌, false, Some, sym, ◌∙◌, subst}
 use Rattle.std.proofs.lemmas.Bool.{true≢false}
 use Rattle.search_log.specs.declared.fault.StepFault.TheVariants.{NoMemory}
-use Rattle.split_search.specs.Walking.{next_node, next_if, KeepsPast}
+use Rattle.search_log.specs.Logging.{next_if}
+use Rattle.split_search.specs.Walking.{next_node, KeepsPast}
 use Rattle.split_search.proofs.Told.{keeps_err, keeps_goes, keeps_after, keeps_untold}
 use Rattle.search_log.proofs.Logs.{log_stays_ok, log_memory}
 use Rattle.split_search.proofs.tell.tell_dead.Goals as goal

@@ -1,4 +1,4 @@
-use Rattle.std.proofs.Common.{◌≡◌, ℕ, ◌+◌, ◌-◌, ◌/◌, ◌%◌, ◌<◌, List, IfOk, length, sym, ap, subst, ◌∙◌, arith}
+use Rattle.std.proofs.Common.{◌≡◌, List, IfOk, length, sym, ap, subst, ◌∙◌, arith}
 use Rattle.world_model.specs.Problem.{Problem}
 use Rattle.trial_make.specs.declared.blocks.Block.{Block}
 use Rattle.trial_make.specs.Draws.{blocks_of}

@@ -1,8 +1,8 @@
-use Rattle.std.proofs.Common.{take, ◌≡◌, ◌<◌, ◌∷◌, ◌∙◌, Ok, map, ap, subst, codes, length, sym, get_or, arith}
+use Rattle.std.proofs.Common.{take, ◌≡◌, ◌∷◌, ◌∙◌, Ok, map, ap, codes, sym, arith}
 use Rattle.std.proofs.lemmas.List.{take_all}
 use Rattle.taxon_tree.specs.Row.{add_row}
 use Rattle.taxon_tree.specs.Trees.{Trees, no_trees}
-use Rattle.trial_make.specs.Names.{tops, block_name, kids}
+use Rattle.trial_make.specs.Names.{tops}
 use Rattle.trial_make.proofs.Grown.{grown, first_row, block_row-grown, grown-all}
 use Rattle.trial_make.proofs.taxonomy.taxonomy.Goals as goal
 

@@ -1,4 +1,4 @@
-use Rattle.std.proofs.Common.{◌≡◌, ◌∷◌, [], ◌++◌, map, ap, ◌∙◌, codes, arith}
+use Rattle.std.proofs.Common.{◌∷◌, [], map, ap, ◌∙◌, codes, arith}
 use Rattle.std.proofs.lemmas.List.{map-append}
 use Rattle.trial_make.specs.Names.{block_name, single_name}
 use Rattle.trial_make.proofs.Listed.{number_more}

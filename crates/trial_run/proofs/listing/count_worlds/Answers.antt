@@ -1,4 +1,4 @@
-use Rattle.std.proofs.Common.{◌≡◌, ℕ, Bool, ◌+◌, true, false, None, sym, ap, subst, ◌∙◌}
+use Rattle.std.proofs.Common.{ℕ, Bool, true, false, sym, ap, subst, ◌∙◌}
 use Rattle.world_search.specs.Searching.{SearchState}
 use Rattle.trial_run.specs.Steps.{AreFound}
 use Rattle.trial_run.specs.Searches.{WentPastWorld, CameToEnd, IsFurther}

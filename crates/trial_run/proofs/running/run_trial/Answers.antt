@@ -1,7 +1,7 @@
-use Rattle.std.proofs.Common.{◌≡◌, ℕ, List, sym, subst, ◌∙◌}
+use Rattle.std.proofs.Common.{ℕ, List, sym, subst}
 use Rattle.run_ends.specs.Runs.{sink_state}
 use Rattle.trial_run.specs.Trials.{IsSummary}
-use Rattle.trial_run.proofs.EndLemmas.{trial_done, trial_refused, trial_starved, trial_early}
+use Rattle.trial_run.proofs.EndLemmas.{trial_refused, trial_early}
 use Rattle.trial_run.proofs.running.run_trial.Goals as goal
 
 pub returns-in-Err : goal.returns-in-Err

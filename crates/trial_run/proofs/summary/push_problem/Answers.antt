@@ -1,4 +1,4 @@
-use Rattle.std.proofs.Common.{◌≡◌, ◌∙◌, codes}
+use Rattle.std.proofs.Common.{◌∙◌, codes}
 use Rattle.trial_run.proofs.SummaryLemmas.{three_counts}
 use Rattle.trial_run.proofs.summary.push_problem.Goals as goal
 

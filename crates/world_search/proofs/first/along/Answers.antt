@@ -1,4 +1,4 @@
-use Rattle.std.proofs.Common.{◌≡◌, ◌<◌, Some, length, sym, arith}
+use Rattle.std.proofs.Common.{◌<◌, Some, length, sym, arith}
 use Rattle.world_model.specs.Problem.{pair_count}
 use Rattle.cert_rules.specs.Listings.{listing_next}
 use Rattle.world_search.specs.Walking.{expected}

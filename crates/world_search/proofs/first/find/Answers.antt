@@ -1,11 +1,10 @@
-use Rattle.std.proofs.Common.{◌≡◌, ◌≤◌, Some, length, refl, ◌∙◌, ap, sym, subst, arith}
-use Rattle.point_query.specs.Asking.{AskerState}
+use Rattle.std.proofs.Common.{◌≤◌, Some, length, refl, ◌∙◌, ap, sym, subst, arith}
 use Rattle.world_search.specs.Walking.{place, expects_by, expected, IsOnWay, Follows}
 use Rattle.world_search.proofs.Guiding.{guide_further}
 use Rattle.world_search.proofs.Leading.{leads_to_start, same_way, way_node, way_begins}
 use Rattle.world_search.proofs.Stepping.{expected_same}
-use Rattle.world_search.proofs.Telling.{keeps_same, keeps_before, keeps_after, keeps_joins, keeps_ends}
-use Rattle.search_log.proofs.Logs.{on_err, log_stays_ok, log_memory, log_joins, log_ok_as, log_as, log_then_memory}
+use Rattle.world_search.proofs.Telling.{keeps_same, keeps_before, keeps_joins, keeps_ends}
+use Rattle.search_log.proofs.Logs.{on_err, log_memory, log_joins, log_ok_as, log_as, log_then_memory}
 use Rattle.world_search.proofs.first.find.Goals as goal
 
 pub returns-in_err-settle-clause-err : goal.returns-in_err-settle-clause-err

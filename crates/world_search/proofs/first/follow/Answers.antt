@@ -7,7 +7,7 @@ use Rattle.world_model.specs.Alive.{allowed}
 use Rattle.world_model.specs.Node.{pair_at}
 use Rattle.world_search.specs.Walking.{place, expects_by}
 use Rattle.world_search.specs.declared.walk.Stage.TheVariants.{Standing}
-use Rattle.world_search.proofs.LeastNodes.{child_is_node}
+use Rattle.world_model.proofs.Nodes.{child_is_node}
 use Rattle.world_search.proofs.Leading.{rest_begins, way_node, way_begins, longer_way, leads_to_later, leads_from_behind, none_from_behind}
 use Rattle.world_search.proofs.Telling.{next_on_way, next_off_way, lacks_no_node}
 use Rattle.world_search.proofs.first.follow.Goals as goal

@@ -1,4 +1,4 @@
-use Rattle.std.proofs.Common.{◌≡◌, ◌<◌, List, ◌∷◌, ◌++◌, length, true≢false, false, inl, sym, ap, ◌∙◌, arith, IsTrue}
+use Rattle.std.proofs.Common.{◌≡◌, List, ◌∷◌, ◌++◌, true≢false, false, inl, sym, ap, ◌∙◌}
 use Rattle.rcc5_core.specs.declared.Rel.{Rel}
 use Rattle.cert_rules.specs.Listings.{listing_next}
 use Rattle.world_model.specs.Alive.{problem_at, IsAlive}

@@ -1,4 +1,4 @@
-use Rattle.world_search.proofs.NodeLines.{named}
+use Rattle.cert_rules.proofs.NodeLines.{named}
 use Rattle.world_search.proofs.reasons.branch_line.Goals as goal
 
 pub returns-clause-tells : goal.returns-clause-tells

@@ -1,6 +1,6 @@
-use Rattle.std.proofs.Common.{◌≡◌, length, ap, sym, ◌∙◌}
+use Rattle.std.proofs.Common.{length, sym, ◌∙◌}
 use Rattle.std.proofs.lemmas.Bool.{eqb-true}
-use Rattle.world_search.proofs.NodeLines.{root_last}
+use Rattle.cert_rules.proofs.NodeLines.{root_last}
 use Rattle.world_search.proofs.reasons.last_rel.Goals as goal
 
 pub returns-then-is_empty : goal.returns-then-is_empty

@@ -1,7 +1,7 @@
 use Rattle.std.proofs.Common.{subst}
 use Rattle.dead_nodes.specs.Why.{IsWhy}
 use Rattle.dead_nodes.specs.declared.why.WhyDead.TheVariants.{NoPoint, NoRelation}
-use Rattle.world_search.proofs.NodeLines.{named}
+use Rattle.cert_rules.proofs.NodeLines.{named}
 use Rattle.world_search.proofs.reasons.reason_line.Goals as goal
 
 pub returns-in-NoRelation-clause-tells : goal.returns-in-NoRelation-clause-tells

@@ -1,6 +1,7 @@
-use Rattle.std.proofs.Common.{◌≡◌, sym, subst}
+use Rattle.std.proofs.Common.{sym, subst}
 use Rattle.cert_rules.specs.Writing.{IsWorldBy}
-use Rattle.world_search.proofs.NodeLines.{named, are_sets, below_universe}
+use Rattle.cert_rules.proofs.NodeLines.{named}
+use Rattle.world_search.proofs.NodeLines.{are_sets, below_universe}
 use Rattle.world_search.proofs.reasons.world_line.Goals as goal
 
 pub returns-clause-tells : goal.returns-clause-tells

@@ -6,13 +6,15 @@ use Rattle.world_search.proofs.search.begin_at.Goals as goal
 pub invariant_of-result : goal.invariant_of-result
 invariant_of-result c = record {
   within = subst (λ p. length c.args.from ≤ pair_count p) (sym c.in_ok-problem.ensures) c.requires.from;
-  placed = record {
-    begun = refl;
-    unknown = refl;
-    node = inl (ap (λ m. m ++ []) c.new.ensures);
-    rest = c.args.from;
-    begins = ap (λ m. (m ++ []) ++ c.args.from) (sym c.new.ensures);
+  walk = record {
+    placed = record {
+      begun = refl;
+      unknown = refl;
+      node = inl (ap (λ m. m ++ []) c.new.ensures);
+      rest = c.args.from;
+      begins = ap (λ m. (m ++ []) ++ c.args.from) (sym c.new.ensures);
+    };
+    knows = λ standing. tt;
+    guide = subst (λ m. IsGuideOf c.in_ok-problem.problem m c.args.guide) (sym c.new.ensures) (subst (λ p. IsGuideOf p [] c.args.guide) (sym c.in_ok-problem.ensures) c.requires.guide);
   };
-  knows = λ standing. tt;
-  guided = subst (λ m. IsGuideOf c.in_ok-problem.problem m c.args.guide) (sym c.new.ensures) (subst (λ p. IsGuideOf p [] c.args.guide) (sym c.in_ok-problem.ensures) c.requires.guide);
 }

@@ -5,7 +5,7 @@ use Rattle.world_model.specs.Problem.{concept_count, Problem}
 use Rattle.world_model.specs.Family.{meets, table_of}
 use Rattle.world_model.specs.Alive.{problem_at, family_of}
 use Rattle.point_query.specs.Answers.{IsServedByFew}
-use Rattle.world_search.proofs.Serving.{few_points}
+use Rattle.world_model.proofs.FewPoints.{few_points}
 use Rattle.world_search.proofs.steps.family_of.Goals as goal
 
 pub from_points-requires-clause-few : goal.from_points-requires-clause-few
@@ -13,7 +13,7 @@ from_points-requires-clause-few c =
     let p = c.args.problem.now in
     let t = c.args.table.now in
     let served : IsServedByFew (problem_at p t) c.in-Some.points = subst (λ o. IfSome o (IsServedByFew (problem_at p t))) c.in-Some.is c.in_ok-serving.ensures.some in
-    rw c.list.ensures (few_points p t c.in-Some.points c.facts.ensures.built.concepts served)
+    rw c.list.ensures (few_points (problem_at p t) c.in-Some.points c.facts.ensures.built.concepts served.few)
 
 pub returns-clause-met : goal.returns-clause-met
 returns-clause-met c =

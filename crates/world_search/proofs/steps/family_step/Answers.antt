@@ -1,11 +1,11 @@
-use Rattle.std.proofs.Common.{◌≡◌, [], sym, ap, subst, refl}
+use Rattle.std.proofs.Common.{◌≡◌, [], sym, subst}
 use Rattle.world_search.specs.Searching.{Came}
 use Rattle.world_search.specs.Stopping.{IsAtWorld, IsStop}
 use Rattle.world_search.specs.Walking.{state_of, expected}
-use Rattle.world_search.specs.declared.walk.Walk.{Walk}
 use Rattle.world_search.proofs.Leading.{place_settled}
 use Rattle.world_search.proofs.Stepping.{stepped_err, step_world, placed_world, expected_at, not_below_start, node_at, place_is}
 use Rattle.world_search.proofs.Telling.{keeps_joins, keeps_flushed_if}
+use Rattle.world_search.proofs.UnderWay.{knows_none, way_same}
 use Rattle.search_log.proofs.Logs.{log_joins, log_ok_as, log_as}
 use Rattle.world_search.proofs.steps.family_step.Goals as goal
 
@@ -43,7 +43,7 @@ world_step-requires-clause-node g c =
     let to = c.args.span.now.to in
     let at : IsAtWorld p to c.walk_on.new.walk c.walk_on.new.nodes.left c.in-World.table =
     subst (IsStop p from to c.walk_on.new.walk c.walk_on.new.nodes.left) c.in-World.is c.in_ok-table.ensures.stop in
-    node_at p from to c.walk_on.new.walk c.walk_on.new.nodes.left c.in-World.table at c.walk_on.ensures.placed
+    node_at p from to c.walk_on.new.walk c.walk_on.new.nodes.left c.in-World.table at c.walk_on.ensures.walk.placed
 
 pub world_step-requires-clause-full : goal.world_step-requires-clause-full
 world_step-requires-clause-full g c =
@@ -75,6 +75,11 @@ returns-in_err-family-in-World-clause-step g c =
     (subst (λ left. Came (state_of p from to c.args.walk.now) (state_of p from to c.world_step.new.walk) c.args.nodes.now.left left []) (sym c.in_err-family-in-World.ensures.uncounted)
     (subst (λ w. Came (state_of p from to c.args.walk.now) (state_of p from to w) c.args.nodes.now.left c.walk_on.new.nodes.left []) (sym c.in_err-family-in-World.ensures.err) c.walk_on.ensures.came))
 
+pub returns-in_err-family-in-World-clause-walk : goal.returns-in_err-family-in-World-clause-walk
+returns-in_err-family-in-World-clause-walk g c =
+    way_same c.args.problem.now c.args.span.now.from c.args.span.now.to c.walk_on.new.walk c.world_step.new.walk c.walk_on.new.guide c.world_step.new.guide
+    c.in_err-family-in-World.ensures.err c.walk_on.ensures.walk c.world_step.ensures.guide
+
 pub returns-in_err-family-in-World-clause-keeps : goal.returns-in_err-family-in-World-clause-keeps
 returns-in_err-family-in-World-clause-keeps g c =
     let p = c.args.problem.now in
@@ -83,7 +88,7 @@ returns-in_err-family-in-World-clause-keeps g c =
     let at : IsAtWorld p to c.walk_on.new.walk c.walk_on.new.nodes.left c.in-World.table =
     subst (IsStop p from to c.walk_on.new.walk c.walk_on.new.nodes.left) c.in-World.is c.in_ok-table.ensures.stop in
     keeps_joins p from (g.L.TreeLog.lines c.args.log.now) (g.L.TreeLog.lines c.walk_on.new.log) (g.L.TreeLog.lines c.world_step.new.log) c.args.asker.now c.walk_on.new.asker c.world_step.new.asker
-    (expected c.args.walk.now) (expected c.walk_on.new.walk) (expected c.world_step.new.walk) c.in_ok-table.ensures.log.told c.walk_on.ensures.keeps (c.world_step.ensures.keeps from (not_below_start p from to c.walk_on.new.walk c.walk_on.new.walk.path at.standing c.walk_on.ensures.placed
+    (expected c.args.walk.now) (expected c.walk_on.new.walk) (expected c.world_step.new.walk) c.in_ok-table.ensures.log.told c.walk_on.ensures.keeps (c.world_step.ensures.keeps from (not_below_start p from to c.walk_on.new.walk c.walk_on.new.walk.path at.standing c.walk_on.ensures.walk.placed
     (sym (place_is p to c.walk_on.new.walk c.walk_on.new.nodes.left c.in-World.table at))))
 
 pub returns-in_err-family-in-World-clause-log : goal.returns-in_err-family-in-World-clause-log
@@ -99,17 +104,21 @@ returns-in_ok-family-in-World-clause-step g c =
     subst (IsStop p from to c.walk_on.new.walk c.walk_on.new.nodes.left) c.in-World.is c.in_ok-table.ensures.stop in
     let step =
     step_world p from to (state_of p from to c.args.walk.now) c.walk_on.new.walk c.world_step.new.walk c.args.nodes.now.left c.walk_on.new.nodes.left c.world_step.new.nodes.left
-    c.in-World.table at c.walk_on.ensures.placed c.in_ok-family-in-World.ensures.on c.in_ok-family-in-World.ensures.counted c.walk_on.ensures.came in
+    c.in-World.table at c.walk_on.ensures.walk.placed c.in_ok-family-in-World.ensures.on c.in_ok-family-in-World.ensures.counted c.walk_on.ensures.came in
     (step, c.in_ok-family-in-World.ensures.met, c.in_ok-family-in-World.ensures.shown)
 
-pub returns-in_ok-family-in-World-clause-placed : goal.returns-in_ok-family-in-World-clause-placed
-returns-in_ok-family-in-World-clause-placed g c =
+pub returns-in_ok-family-in-World-clause-walk : goal.returns-in_ok-family-in-World-clause-walk
+returns-in_ok-family-in-World-clause-walk g c =
     let p = c.args.problem.now in
     let from = c.args.span.now.from in
     let to = c.args.span.now.to in
     let at : IsAtWorld p to c.walk_on.new.walk c.walk_on.new.nodes.left c.in-World.table =
     subst (IsStop p from to c.walk_on.new.walk c.walk_on.new.nodes.left) c.in-World.is c.in_ok-table.ensures.stop in
-    placed_world p from to c.walk_on.new.walk c.world_step.new.walk c.walk_on.new.nodes.left c.in-World.table at c.walk_on.ensures.placed c.in_ok-family-in-World.ensures.on
+    record {
+      placed = placed_world p from to c.walk_on.new.walk c.world_step.new.walk c.walk_on.new.nodes.left c.in-World.table at c.walk_on.ensures.walk.placed c.in_ok-family-in-World.ensures.on;
+      knows = knows_none p c.world_step.new.walk c.in_ok-family-in-World.ensures.unknown;
+      guide = c.world_step.ensures.guide;
+    }
 
 pub returns-in_ok-family-in-World-clause-keeps : goal.returns-in_ok-family-in-World-clause-keeps
 returns-in_ok-family-in-World-clause-keeps g c =
@@ -119,7 +128,7 @@ returns-in_ok-family-in-World-clause-keeps g c =
     let at : IsAtWorld p to c.walk_on.new.walk c.walk_on.new.nodes.left c.in-World.table =
     subst (IsStop p from to c.walk_on.new.walk c.walk_on.new.nodes.left) c.in-World.is c.in_ok-table.ensures.stop in
     keeps_joins p from (g.L.TreeLog.lines c.args.log.now) (g.L.TreeLog.lines c.walk_on.new.log) (g.L.TreeLog.lines c.world_step.new.log) c.args.asker.now c.walk_on.new.asker c.world_step.new.asker
-    (expected c.args.walk.now) (expected c.walk_on.new.walk) (expected c.world_step.new.walk) c.in_ok-table.ensures.log.told c.walk_on.ensures.keeps (c.world_step.ensures.keeps from (not_below_start p from to c.walk_on.new.walk c.walk_on.new.walk.path at.standing c.walk_on.ensures.placed
+    (expected c.args.walk.now) (expected c.walk_on.new.walk) (expected c.world_step.new.walk) c.in_ok-table.ensures.log.told c.walk_on.ensures.keeps (c.world_step.ensures.keeps from (not_below_start p from to c.walk_on.new.walk c.walk_on.new.walk.path at.standing c.walk_on.ensures.walk.placed
     (sym (place_is p to c.walk_on.new.walk c.walk_on.new.nodes.left c.in-World.table at))))
 
 pub returns-in_ok-family-in-World-clause-log : goal.returns-in_ok-family-in-World-clause-log

@@ -44,10 +44,8 @@ loop-alloc-preserved g c =
     let to = c.args.span.now.to in
     record {
       shape = c.tidy_by_turns.ensures.kept.shape ∙ c.turn.ensures.shape ∙ c.loop-alloc.invariant.shape;
-      placed = c.turn.ensures.placed;
-      knows = c.turn.ensures.knows;
+      walk = c.turn.ensures.walk;
       begun = c.turn.ensures.begun;
-      guided = c.turn.ensures.guide;
       came =
           came_join (state_of p from to c.args.walk.now) (state_of p from to c.loop-alloc.walk) (state_of p from to c.turn.new.walk)
           c.args.nodes.now.left c.loop-alloc.nodes.left c.turn.new.nodes.left [] [] c.loop-alloc.invariant.came c.turn.ensures.came;

@@ -1,7 +1,6 @@
-use Rattle.std.proofs.Common.{◌≡◌, false, Some, inr, sym, ap, ◌∙◌, subst}
+use Rattle.std.proofs.Common.{◌≡◌, false, Some, inr, sym, ap, ◌∙◌}
 use Rattle.cert_rules.specs.Listings.{listing_next}
 use Rattle.world_search.specs.Walking.{place, expected}
-use Rattle.world_search.proofs.LeastNodes.{node_within}
 use Rattle.world_search.proofs.Telling.{next_standing, keeps_goes, keeps_after, keeps_ends}
 use Rattle.search_log.proofs.Logs.{log_memory, log_ok_as, log_as}
 use Rattle.world_search.proofs.steps.world_step.Goals as goal

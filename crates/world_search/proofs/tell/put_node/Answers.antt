@@ -1,8 +1,8 @@
-use Rattle.std.proofs.Common.{◌≡◌, Some, sym, ap, subst}
+use Rattle.std.proofs.Common.{◌≡◌, Some, sym, subst}
 use Rattle.cert_rules.specs.Trees.{is_branch}
 use Rattle.cert_rules.specs.Listings.{listing_next}
 use Rattle.cert_rules.specs.Writing.{TellsOf}
-use Rattle.world_search.specs.Logging.{next_if}
+use Rattle.search_log.specs.Logging.{next_if}
 use Rattle.world_search.proofs.Telling.{keeps_err, keeps_joins, keeps_put_if, keeps_flushed_if}
 use Rattle.search_log.proofs.Logs.{log_joins}
 use Rattle.world_search.proofs.tell.put_node.Goals as goal

@@ -1,4 +1,4 @@
-use Rattle.std.proofs.Common.{◌≡◌, subst}
+use Rattle.std.proofs.Common.{subst}
 use Rattle.world_search.specs.Logging.{KeepsPast}
 use Rattle.world_search.proofs.tell.tell_branch.Goals as goal
 

@@ -1,7 +1,8 @@
-use Rattle.std.proofs.Common.{◌≡◌, false, Some, refl, sym, ◌∙◌, subst}
+use Rattle.std.proofs.Common.{◌≡◌, false, Some, sym, ◌∙◌, subst}
 use Rattle.cert_rules.specs.Listings.{listing_next}
 use Rattle.search_log.specs.declared.fault.StepFault.TheVariants.{NoMemory}
-use Rattle.world_search.specs.Logging.{KeepsPast, next_if}
+use Rattle.search_log.specs.Logging.{next_if}
+use Rattle.world_search.specs.Logging.{KeepsPast}
 use Rattle.world_search.proofs.Telling.{keeps_err, keeps_goes, keeps_after, keeps_untold}
 use Rattle.search_log.proofs.Logs.{log_stays_ok, log_memory}
 use Rattle.world_search.proofs.tell.tell_dead.Goals as goal

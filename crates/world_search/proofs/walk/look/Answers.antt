@@ -1,7 +1,6 @@
-use Rattle.std.proofs.Common.{◌≡◌, length, true≢false, refl, sym, ◌∙◌, arith}
+use Rattle.std.proofs.Common.{◌≡◌, length, true≢false, sym, ◌∙◌, arith}
 use Rattle.world_model.specs.Problem.{pair_count}
-use Rattle.world_search.proofs.LeastNodes.{node_within}
-use Rattle.search_log.proofs.Logs.{asker_joins}
+use Rattle.world_model.proofs.Nodes.{node_within}
 use Rattle.world_search.proofs.walk.look.Goals as goal
 
 pub returns-then-not-branch-clause-found : goal.returns-then-not-branch-clause-found

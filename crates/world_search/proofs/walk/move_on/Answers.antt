@@ -2,7 +2,7 @@ use Rattle.std.proofs.Common.{◌≡◌, Some, sym, subst}
 use Rattle.cert_rules.specs.Listings.{listing_next}
 use Rattle.world_search.specs.Logging.{IsInnerOrDead}
 use Rattle.world_search.specs.Walking.{place, expected}
-use Rattle.world_search.proofs.LeastNodes.{node_within}
+use Rattle.world_model.proofs.Nodes.{node_within}
 use Rattle.world_search.proofs.Telling.{open_inner, inner_branches, next_standing, keeps_ends}
 use Rattle.world_search.proofs.walk.move_on.Goals as goal
 

@@ -1,4 +1,4 @@
-use Rattle.std.proofs.Common.{◌≡◌, true≢false, refl, sym, subst}
+use Rattle.std.proofs.Common.{true≢false, refl, sym, subst}
 use Rattle.world_search.specs.Walking.{IsFoundAt, expected}
 use Rattle.world_search.proofs.Telling.{keeps_goes, keeps_after}
 use Rattle.search_log.proofs.Logs.{log_stays_ok, log_memory, log_ok_as, log_as}

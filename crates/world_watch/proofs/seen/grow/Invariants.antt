@@ -1,4 +1,4 @@
-use Rattle.std.proofs.Common.{◌≡◌, ◌≤◌, ◌+◌, ℕ, length}
+use Rattle.std.proofs.Common.{◌≡◌, ◌≤◌, ℕ, length}
 use Rattle.world_watch.specs.Kinds.{set_at}
 use Rattle.world_watch.proofs.seen.grow.Given as goal
 

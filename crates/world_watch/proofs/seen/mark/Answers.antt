@@ -1,4 +1,4 @@
-use Rattle.std.proofs.Common.{◌≡◌, length, ap, ◌∙◌, arith}
+use Rattle.std.proofs.Common.{ap, ◌∙◌, arith}
 use Rattle.std.proofs.lemmas.List.{length-set}
 use Rattle.rcc5_core.specs.declared.Rel.TheVariants.{Disjoint}
 use Rattle.rcc5_core.specs.RelationSet.{adding, no_rels}

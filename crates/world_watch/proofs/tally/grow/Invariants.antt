@@ -1,4 +1,4 @@
-use Rattle.std.proofs.Common.{◌≡◌, ◌≤◌, ◌+◌, ℕ, length}
+use Rattle.std.proofs.Common.{◌≡◌, ◌≤◌, ℕ, length}
 use Rattle.world_watch.specs.Counts.{counts_at}
 use Rattle.world_watch.proofs.tally.grow.Given as goal
 

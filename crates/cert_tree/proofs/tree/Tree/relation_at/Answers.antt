@@ -1,6 +1,4 @@
-use Rattle.std.proofs.Common.{◌≡◌, ◌<◌, ℕ, List, Option, Some, None, length, refl, sym, ap, ◌∙◌, subst, arith}
-use Rattle.std.specs.Prelude.{slice_get}
-use Rattle.std.proofs.lemmas.Option.{slice_get_read}
+use Rattle.std.proofs.Common.{◌≡◌, ◌<◌, ℕ, List, Option, Some, None, sym, ap, ◌∙◌, subst}
 use Rattle.rcc5_core.specs.declared.Rel.{Rel}
 use Rattle.world_model.specs.Problem.{pair_count}
 use Rattle.world_model.specs.Alive.{allowed}
@@ -17,22 +15,16 @@ Narrows k rel m t = narrowed_set (allowed t.subject (pair_at t.subject k)) rel �
 pub returns-in-Some : goal.returns-in-Some
 returns-in-Some c =
     let q = c.self.inside.subject in
-    let list = c.self.inside.levels.list.items in
-    let depths = c.self.inside.levels.depths.items in
     let inside : c.args.pair < pair_count q = subst (λ t. c.args.pair < pair_count t.subject) (sym c.self.view_is) c.requires.pair in
-    let got : slice_get depths c.args.pair ≡ Some (Some c.in-Some.depth) =
-    slice_get_read depths (length depths) c.args.pair c.index.result.now refl (omega (arith, inside, c.self.invariant.counted)) c.index.ensures ∙ ap Some c.in-Some.is in
     subst (Narrows c.args.pair c.rel_at.result c.args.path.now) c.self.view_is
     (ap (narrowed_set (allowed q (pair_at q c.args.pair))) c.rel_at.ensures
-    ∙ allowed_by_depth c.pairs_stand_once.ensures q list depths c.args.path.now c.args.pair (Some c.in-Some.depth) c.self.invariant inside got)
+    ∙ allowed_by_depth c.pairs_stand_once.ensures q c.self.inside.levels.list.items c.self.inside.levels.depths.items c.args.path.now c.args.pair (Some c.in-Some.depth) c.self.invariant inside
+    (sym c.depth_of.ensures ∙ c.in-Some.is))
 
 pub returns-in-None : goal.returns-in-None
 returns-in-None c =
     let q = c.self.inside.subject in
-    let list = c.self.inside.levels.list.items in
-    let depths = c.self.inside.levels.depths.items in
     let inside : c.args.pair < pair_count q = subst (λ t. c.args.pair < pair_count t.subject) (sym c.self.view_is) c.requires.pair in
-    let got : slice_get depths c.args.pair ≡ Some None =
-    slice_get_read depths (length depths) c.args.pair c.index.result.now refl (omega (arith, inside, c.self.invariant.counted)) c.index.ensures ∙ ap Some c.in-None.is in
     subst (Narrows c.args.pair None c.args.path.now) c.self.view_is
-    (allowed_by_depth c.pairs_stand_once.ensures q list depths c.args.path.now c.args.pair None c.self.invariant inside got)
+    (allowed_by_depth c.pairs_stand_once.ensures q c.self.inside.levels.list.items c.self.inside.levels.depths.items c.args.path.now c.args.pair None c.self.invariant inside
+    (sym c.depth_of.ensures ∙ c.in-None.is))

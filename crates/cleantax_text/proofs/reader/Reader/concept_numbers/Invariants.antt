@@ -1,6 +1,7 @@
 use Rattle.std.proofs.Common.{◌≡◌, drop}
 use Rattle.cleantax_text.specs.Reading.{concept_numbers}
-use Rattle.cleantax_text.specs.Views.{references_meant, onto_numbers}
+use Rattle.text_words.specs.Views.{references_meant}
+use Rattle.cleantax_text.specs.Views.{onto_numbers}
 use Rattle.cleantax_text.specs.Kept.{meant}
 use Rattle.cleantax_text.proofs.reader.Reader.concept_numbers.Given as goal
 

@@ -1,6 +1,6 @@
 use Rattle.std.proofs.Common.{◌≡◌, ◌<◌, subst, sym, ◌∙◌}
 use Rattle.world_model.specs.Problem.{pair_count}
-use Rattle.point_pool.specs.Needs.{forced_at}
+use Rattle.world_model.specs.Points.{forced_at}
 use Rattle.point_pool.proofs.cursor.Cursor.start_at.Goals as goal
 
 pub returns : goal.returns

@@ -18,12 +18,12 @@ pub invariant_of-self : goal.invariant_of-self
 invariant_of-self c =
     let s = c.self.inside in
     let shape = ap (λ a. a.shape) (c.self.view_is ∙ c.in_ok-pool.ensures.same) ∙ c.requires.shape in
-    keeps_pool s.shape c.args.problem.now c.alive.new.solver s.pool shape (subst (λ q. IsSolverOf q c.alive.new.solver) c.in_ok-pool.ensures.pool.problem c.alive.ensures.solver) c.self.invariant.walked
+    keeps_pool s.shape c.args.problem.now c.alive.new.solver s.pool shape (subst (λ q. IsSolverOf q c.alive.new.solver) c.in_ok-pool.ensures.pool.problem c.alive.ensures.solver.solver) c.self.invariant.walked
 
 pub invariant_of-self-2 : goal.invariant_of-self-2
 invariant_of-self-2 c =
     let s = c.self.inside in
     let shape = ap (λ a. a.shape) (c.self.view_is ∙ c.in_ok-pool.ensures.same) ∙ c.requires.shape in
     let problem = c.in_ok-answer.ensures.problem ∙ c.in_ok-pool.ensures.pool.problem in
-    keeps_pool s.shape c.args.problem.now c.alive.new.solver _ shape (subst (λ q. IsSolverOf q c.alive.new.solver) c.in_ok-pool.ensures.pool.problem c.alive.ensures.solver)
+    keeps_pool s.shape c.args.problem.now c.alive.new.solver _ shape (subst (λ q. IsSolverOf q c.alive.new.solver) c.in_ok-pool.ensures.pool.problem c.alive.ensures.solver.solver)
     (c.in_ok-answer.ensures.pool, ap shape_of problem ∙ sym shape)

@@ -1,11 +1,11 @@
 use Rattle.std.proofs.Common.{◌∙◌, sym, ap, subst}
 use Rattle.std.specs.Prelude.{Contains}
 use Rattle.cert_model.specs.Forced.{selectors_of}
-use Rattle.point_query.proofs.Querying.{goes_nowhere}
+use Rattle.point_query.proofs.Querying.{keeps_still}
 use Rattle.point_query.proofs.closer.Closer.ask_at.Goals as goal
 
-pub returns-in_err-selectors-clause-kept : goal.returns-in_err-selectors-clause-kept
-returns-in_err-selectors-clause-kept c = goes_nowhere c.args.self.now
+pub returns-in_err-selectors-clause-solver : goal.returns-in_err-selectors-clause-solver
+returns-in_err-selectors-clause-solver c = keeps_still _ _ c.requires.solver
 
 pub query-requires-clause-selectors : goal.query-requires-clause-selectors
 query-requires-clause-selectors c =

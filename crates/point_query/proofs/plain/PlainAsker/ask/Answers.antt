@@ -11,4 +11,4 @@ query-requires-clause-solver c =
 
 pub invariant_of-self : goal.invariant_of-self
 invariant_of-self c =
-    solver_moves c.args.problem.now c.self.inside.shape c.query.new.solver (sym (ap (λ a. a.shape) c.self.view_is ∙ c.requires.shape)) c.query.ensures.solver
+    solver_moves c.args.problem.now c.self.inside.shape c.query.new.solver (sym (ap (λ a. a.shape) c.self.view_is ∙ c.requires.shape)) c.query.ensures.solver.solver

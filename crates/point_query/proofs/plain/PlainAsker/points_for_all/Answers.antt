@@ -14,4 +14,4 @@ points_for_all-requires-clause-solver c =
 
 pub invariant_of-self : goal.invariant_of-self
 invariant_of-self c =
-    solver_moves c.args.problem.now c.self.inside.shape c.points_for_all.new.solver (sym (ap (λ a. a.shape) c.self.view_is ∙ c.requires.shape)) c.points_for_all.ensures.solver
+    solver_moves c.args.problem.now c.self.inside.shape c.points_for_all.new.solver (sym (ap (λ a. a.shape) c.self.view_is ∙ c.requires.shape)) c.points_for_all.ensures.solver.solver

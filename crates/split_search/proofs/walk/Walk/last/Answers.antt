@@ -1,6 +1,6 @@
 use Rattle.std.proofs.Common.{length, sym, ◌∙◌}
 use Rattle.std.proofs.lemmas.Bool.{eqb-true}
-use Rattle.split_search.proofs.Lines.{root_last}
+use Rattle.cert_rules.proofs.NodeLines.{root_last}
 use Rattle.split_search.proofs.walk.Walk.last.Goals as goal
 
 pub returns-then-is_empty : goal.returns-then-is_empty

@@ -1,4 +1,4 @@
-use Rattle.std.proofs.Common.{◌<◌, get_or, sym, subst, ap, ◌∙◌, arith}
+use Rattle.std.proofs.Common.{◌<◌, get_or, sym, subst, ap, ◌∙◌}
 use Rattle.rcc5_core.specs.declared.Rel.TheVariants.{Disjoint}
 use Rattle.rcc5_core.specs.RelationSet.{adding}
 use Rattle.world_watch.specs.Kinds.{set_at}

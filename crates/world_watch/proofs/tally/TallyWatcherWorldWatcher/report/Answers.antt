@@ -1,7 +1,6 @@
 use Rattle.std.proofs.Common.{◌++◌, ap, ◌∙◌}
-use Rattle.std.specs.Prelude.{flat_map}
 use Rattle.world_watch.specs.Counts.{count_in, counts_at}
-use Rattle.world_watch.specs.Kinds.{tally_line, tally_lines}
+use Rattle.world_watch.specs.Kinds.{tally_lines}
 use Rattle.world_watch.proofs.PairLemmas.{tally_end}
 use Rattle.world_watch.proofs.tally.TallyWatcherWorldWatcher.report.Goals as goal
 

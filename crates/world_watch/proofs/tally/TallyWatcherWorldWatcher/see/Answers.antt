@@ -1,4 +1,4 @@
-use Rattle.std.proofs.Common.{◌<◌, get_or, sym, subst, ap, ◌∙◌, arith}
+use Rattle.std.proofs.Common.{◌<◌, get_or, sym, subst, ap, ◌∙◌}
 use Rattle.rcc5_core.specs.declared.Rel.TheVariants.{Disjoint}
 use Rattle.world_watch.specs.Counts.{counting, counts_at}
 use Rattle.world_watch.proofs.PairLemmas.{tally_more}

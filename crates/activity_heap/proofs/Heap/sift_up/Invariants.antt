@@ -1,0 +1,4 @@
+use Rattle.activity_heap.proofs.Heap.sift_up.Given as goal
+
+abbrev pub decreases-loop-at : goal.decreases-loop-at
+decreases-loop-at l = l.at
