@@ -1,11 +1,10 @@
 #!/usr/bin/env bash
 # Lists the worlds of the furniture example, of generated problems and of flat ones, and prints how many there are, the
-# processor time, the peak memory (by Debian's time), and the nodes where a walk by crates/measure counts them soon.
+# processor time and the peak memory (by Debian's time).
 # Words choose among them: sizes to generate (14 24 48 96 160 256, or another one),
 # flat ones (2x3 3x4 3x5 3x6 4x5), furniture; without any, all are listed, the last of which takes most of a minute.
 # shellcheck source=/dev/null
 . "$(git rev-parse --show-toplevel)/bench/built.sh"
-[ -x ../measure/out/measure ] || (cd ../measure && rt run >/dev/null)
 [ $# -gt 0 ] || set -- furniture 14 24 48 96 160 256 2x3 3x4 3x5 3x6 4x5
 for one in "$@"; do
   case $one in
@@ -14,10 +13,5 @@ for one in "$@"; do
     *) name=generated_$one; python3 ../../bench/problems.py generated 7 "$one" > "$folder/problem.txt" ;;
   esac
   last=$(/usr/bin/time -f "%U %S %M" -o "$folder/used" out/euler_align align "in=$folder/problem.txt" | tail -n 1)
-  nodes=""
-  case $one in
-    *x*) ;;
-    *) nodes=$(../measure/out/measure alive "$folder/problem.txt" 1 | awk '{ print ", " $2 " nodes" }') ;;
-  esac
-  awk -v name="$name" -v last="$last" -v nodes="$nodes" '{ printf "%s: %s, %.2f s, %.1f MiB%s\n", name, last, $1 + $2, $3 / 1024, nodes }' "$folder/used"
+  awk -v name="$name" -v last="$last" '{ printf "%s: %s, %.2f s, %.1f MiB\n", name, last, $1 + $2, $3 / 1024 }' "$folder/used"
 done

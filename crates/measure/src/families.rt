@@ -102,7 +102,7 @@ fn times_met(alloc: Global, problem: &Problem, times: u32) -> Result<u32, AllocE
 }
 
 /// All rules on.
-pub fn all_on() -> Switches {
+fn all_on() -> Switches {
     Switches {
         nonempty: true,
         sibling: true,

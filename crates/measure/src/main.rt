@@ -5,8 +5,6 @@
 //! - `write FILE PIECES` makes the file of so many pieces;
 //! - `derive lines LINES` checks a derivation of so many lines, each with ten hints of five literals;
 //! - `problem FILE 1` reads the problem in the file;
-//! - `probe FILE 1` probes all nodes of the problem in the file, in order, by `Asker::probe`, and `alive FILE 1` by
-//!   `Asker::is_alive`;
 //! - `family FILE TIMES` asks so many times whether a family of 1,000 elements meets the problem in the file and has its table;
 //! - `chain TIMES VARIABLES` propagates so many times along a chain of so many variables, each of which implies the next;
 //! - `random TIMES VARIABLES` assumes random literals over random clauses until one is false, so many times;
@@ -17,11 +15,9 @@
 mod derive;
 mod families;
 mod files;
-mod nodes;
 mod propagation;
 mod solving;
 
-use nodes::Call;
 use outer_store::FileStore;
 use std::alloc::AllocError;
 use std::env;
@@ -44,8 +40,6 @@ fn answer(rt: &HostRuntime, command: &str, name: &str, count: &str) -> Result<St
         "write" => files::write(alloc, &mut FileStore::new(alloc, rt), name, count),
         "derive" => derive::check(alloc, count),
         "problem" => families::read(alloc, &mut FileStore::new(alloc, rt), name),
-        "probe" => nodes::probe(alloc, &mut FileStore::new(alloc, rt), name, Call::Probe),
-        "alive" => nodes::probe(alloc, &mut FileStore::new(alloc, rt), name, Call::IsAlive),
         "family" => families::meet(alloc, &mut FileStore::new(alloc, rt), name, count),
         "chain" => propagation::follow_chain(alloc, files::number(name), count),
         "random" => propagation::follow_random(alloc, files::number(name), count),

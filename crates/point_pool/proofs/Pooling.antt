@@ -14,6 +14,7 @@ use Rattle.world_model.specs.Alive.{point_sums, meets_structure, is_point, is_in
 use Rattle.world_model.specs.Laws.{PositionsNarrow}
 use Rattle.rcc5_core.specs.Region.{row_of}
 use Rattle.constraint_set.specs.Shape.{shape_of}
+use Rattle.point_draft.specs.declared.drafts.Drafts.{Drafts}
 use Rattle.point_pool.specs.declared.pool.Pool.{Pool}
 use Rattle.point_pool.specs.declared.waiting.Numbers.{Numbers}
 use Rattle.point_pool.specs.Cursors.{CursorState, IsOpen}
@@ -182,12 +183,19 @@ but_waiting w low high waiting is stay = record {
 pub but_none : (w : Pool) (low high : ℕ) → high ≤ low → IsPoolBut w low high → IsPool w
 but_none w low high done is = record { kept = is.kept; watched = λ number within needed. is.watched number within (needed, λ above below. absurd (omega arith)) }
 
+-- with another draft
+pub pool_drafted : (w : Pool) (drafts : Drafts) (low high : ℕ) → IsPoolBut w low high → IsPoolBut (record w { drafts = drafts }) low high
+pool_drafted w drafts low high is = record {
+  kept = record { pooled = is.kept.pooled; counted = is.kept.counted; numbered = is.kept.numbered; slotted = is.kept.slotted; places = is.kept.places };
+  watched = is.watched;
+}
+
 -- with fewer relations, and what was struck out beyond them taken back
-pub pool_back : PositionsNarrow → (w : Pool) (n : ℕ) (cursor : CursorState) (depths : Vec (Option ℕ) Global) (struck : Vec ℕ Global) → IsPool w → IsOpen w.cursor.problem w.cursor.path →
+pub pool_back : PositionsNarrow → (w : Pool) (n : ℕ) (cursor : CursorState) (depths : Vec (Option ℕ) Global) (struck : Vec ℕ Global) (drafts : Drafts) → IsPool w → IsOpen w.cursor.problem w.cursor.path →
     n ≤ length w.cursor.path → cursor ≡ record w.cursor { path = take n w.cursor.path } → length depths.items ≡ length w.depths.items →
     ((place : ℕ) → IsUndone n (depth_at w.depths.items place) (depth_at depths.items place)) → All (λ place. place < length w.depths.items) struck.items →
-    IsPool (record w { cursor = cursor; depths = depths; struck = struck })
-pool_back law w n cursor depths struck is o fewer same counted undone places =
+    IsPool (record w { cursor = cursor; depths = depths; struck = struck; drafts = drafts })
+pool_back law w n cursor depths struck drafts is o fewer same counted undone places =
     let p = w.cursor.problem in
     let m = w.cursor.path in
     let short : length (take n m) ≡ n = length-take-le n m fewer in

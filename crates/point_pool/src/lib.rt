@@ -5,6 +5,7 @@ mod alike;
 mod copies;
 mod cursor;
 mod depths;
+mod drafting;
 mod needs;
 mod pool;
 mod selectors;

@@ -18,6 +18,7 @@ use crate::start::depths_at_start;
 use crate::waiting::{Numbers, Waiting};
 use constraint_set::Problem;
 use lits_core::Bits;
+use point_draft::Drafts;
 use rcc5_core::{Position, Rel, RelSet};
 use std::alloc::{AllocError, Global};
 use world_model::positions_narrow;
@@ -26,7 +27,7 @@ use world_model::positions_narrow;
 ///
 /// A point that was never struck out, or at a depth beyond the prefix, is a point of the prefix. A point has the numbers of
 /// the needs that it serves; where it is struck out they wait for another. The needs' places are hints: a need is served
-/// where it has its slot in the list of the point at its place.
+/// where it has its slot in the list of the point at its place. What is drafted is a hint too.
 #[derive(Drop)]
 pub struct Pool {
     pub cursor: Cursor,
@@ -37,6 +38,7 @@ pub struct Pool {
     pub(crate) slots: Vec<usize>,
     pub(crate) serves: Vec<Numbers>,
     pub waiting: Waiting,
+    pub(crate) drafts: Drafts,
     pub(crate) alloc: Global,
 }
 
@@ -62,6 +64,7 @@ impl Pool {
             slots: vec![in alloc; 0; count as usize]?,
             serves,
             waiting,
+            drafts: Drafts::new(alloc),
             alloc,
         })
     }
@@ -106,6 +109,7 @@ impl Pool {
         self.cursor.facts();
         unstrike(&mut self.depths, &mut self.struck, count);
         self.cursor.back_to(count);
+        self.drafts.back_to(count);
     }
 
     /// Adds a relation that the problem allows the next pair.

@@ -1,7 +1,6 @@
 pub mod Querying
 pub mod Ranges
 pub mod Answering
-pub mod Seeking
 pub mod Deciding
 pub mod Following
 pub mod Choosing

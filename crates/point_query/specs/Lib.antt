@@ -3,5 +3,4 @@ pub mod Answers
 pub mod Queries
 pub mod Leading
 pub mod Closing
-pub mod Seeking
 pub mod Remembered

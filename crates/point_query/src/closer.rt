@@ -13,11 +13,13 @@ ghost use Rattle.world_model.specs.Problem.{pair_count};
 use crate::answers::Found;
 use crate::closes::closes;
 use crate::closings::{Closings, forget_idle};
-use crate::query::query;
+use crate::drafted::add_steps;
+use crate::question::query;
 use cert_model::{clauses_are_points, needs_are_literals};
 use constraint_set::Problem;
 use learn_solver::Solver;
 use lits_core::{Line, Lit, law_literals_are_sets};
+use point_draft::Draft;
 use point_encode::{Need, selectors_of};
 use point_pool::{Cursor, count_needs, need_of};
 use rcc5_core::Position;
@@ -59,21 +61,63 @@ impl Closer {
         })
     }
 
-    // A point of the prefix in the need with a number, or the clause that shows that there is none.
-    pub(crate) fn ask(&mut self, cursor: &Cursor, number: u32) -> Result<Found, AllocError>
+    // A point of the prefix in the need with a number, or the clause that shows that there is none. What is drafted is tried first.
+    pub(crate) fn ask(
+        &mut self,
+        cursor: &Cursor,
+        number: u32,
+        draft: Draft,
+    ) -> Result<Found, AllocError>
         requires within { number < need_count cursor.now.problem }
         requires solver { IsSolverOf cursor.now.problem self.old }
         ensures solver { KeepsSolver cursor.now.problem self.old self.new }
         ensures found { IfOk result (IsFound (asker_with cursor.now.problem self.new) cursor.now.problem cursor.now.path (need_at cursor.now.problem number)) }
     {
-        if let Some(id) = self.known(cursor, number) {
+        law_literals_are_sets();
+        if let Some(id) = self.drafted(cursor, number, draft)? {
             return Ok(Found::Closed(id));
         }
+        self.asked(cursor, number)
+    }
+
+    // The same, by the solver, and the clause is noted.
+    fn asked(&mut self, cursor: &Cursor, number: u32) -> Result<Found, AllocError>
+        requires within { number < need_count cursor.now.problem }
+        requires solver { IsSolverOf cursor.now.problem self.old }
+        ensures solver { KeepsSolver cursor.now.problem self.old self.new }
+        ensures found { IfOk result (IsFound (asker_with cursor.now.problem self.new) cursor.now.problem cursor.now.path (need_at cursor.now.problem number)) }
+    {
         let found = self.question(cursor, number)?;
         if let Found::Closed(id) = &found {
             self.closings.note(number, *id)?;
         }
         Ok(found)
+    }
+
+    // A clause that closes the need with a number, drafted and then added.
+    fn drafted(
+        &mut self,
+        cursor: &Cursor,
+        number: u32,
+        draft: Draft,
+    ) -> Result<Option<u64>, AllocError>
+        requires within { number < need_count cursor.now.problem }
+        requires solver { IsSolverOf cursor.now.problem self.old }
+        ensures solver { KeepsSolver cursor.now.problem self.old self.new }
+        ensures closed { IfOk result (λ found. IfSome found (IsClosed (asker_with cursor.now.problem self.new) cursor.now.problem cursor.now.path (need_at cursor.now.problem number))) }
+    {
+        let Draft::Empty(steps) = draft else {
+            return Ok(None);
+        };
+        let Some(id) = add_steps(self.alloc, cursor.problem(), &mut self.solver, &steps)? else {
+            return Ok(None);
+        };
+        if !closes(&self.solver, cursor, number, id) {
+            return Ok(None);
+        }
+        self.closings.note(number, id)?;
+        self.shows(cursor, number, id);
+        Ok(Some(id))
     }
 
     // The same, by the solver alone.
@@ -121,7 +165,7 @@ impl Closer {
     }
 
     // A clause that closes the need with a number, among those that closed it before.
-    fn known(&self, cursor: &Cursor, number: u32) -> Option<u64>
+    pub(crate) fn known(&self, cursor: &Cursor, number: u32) -> Option<u64>
         requires within { number < need_count cursor.now.problem }
         requires solver { IsSolverOf cursor.now.problem self.now }
         ensures { IfSome result (IsClosed (asker_with cursor.now.problem self.now) cursor.now.problem cursor.now.path (need_at cursor.now.problem number)) }

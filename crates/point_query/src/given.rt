@@ -11,8 +11,8 @@ use lits_core::Clause;
 use point_encode::{given_clauses, variable_count};
 use std::alloc::{AllocError, Global};
 
-// A solver to which the given clauses of a problem are added, and which was asked nothing yet.
-pub(crate) fn solver_of(alloc: Global, problem: &Problem) -> Result<Solver, AllocError>
+/// A solver to which the given clauses of a problem are added, and which was asked nothing yet.
+pub fn solver_of(alloc: Global, problem: &Problem) -> Result<Solver, AllocError>
     ensures { IfOk result (λ solver. IsNewAsker problem.now (asker_with problem.now solver)) }
 {
     let clauses = given_clauses(alloc, problem)?;

@@ -6,14 +6,14 @@ mod asker;
 mod closer;
 mod closes;
 mod closings;
-mod each_need;
+mod drafted;
 mod given;
 mod leading;
-mod plain;
 mod probe;
-mod query;
+mod question;
 mod settle;
 
 pub use answers::{Alive, Found, Points, Probe};
 pub use asker::Asker;
-pub use plain::PlainAsker;
+pub use given::solver_of;
+pub use question::query;

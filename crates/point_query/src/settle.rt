@@ -31,7 +31,11 @@ pub(crate) fn serve(
         pool.assign(number, place)?;
         return Ok(None);
     }
-    match solver.ask(&pool.cursor, number)? {
+    if let Some(id) = solver.known(&pool.cursor, number) {
+        return Ok(Some(id));
+    }
+    let draft = pool.draft(number)?;
+    match solver.ask(&pool.cursor, number, draft)? {
         Found::Point(bits) => {
             let place = pool.add(bits)?;
             pool.assign(number, place)?;

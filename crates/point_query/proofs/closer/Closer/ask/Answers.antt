@@ -1,5 +1,10 @@
-use Rattle.point_query.proofs.Querying.{keeps_still}
+use Rattle.std.proofs.Common.{refl}
+use Rattle.point_query.proofs.Querying.{keeps_chain}
 use Rattle.point_query.proofs.closer.Closer.ask.Goals as goal
 
-pub returns-in-Some-clause-solver : goal.returns-in-Some-clause-solver
-returns-in-Some-clause-solver c = keeps_still _ _ c.requires.solver
+pub asked-requires-clause-solver : goal.asked-requires-clause-solver
+asked-requires-clause-solver c = c.drafted.ensures.solver.solver
+
+pub returns-clause-solver : goal.returns-clause-solver
+returns-clause-solver c =
+    keeps_chain c.law_literals_are_sets.ensures c.args.cursor.now.problem c.args.cursor.now.problem c.args.self.now c.drafted.new.self c.asked.new.self refl c.drafted.ensures.solver c.asked.ensures.solver
