@@ -66,9 +66,9 @@ impl Board {
         for _mark in count..self.marks.len() {
             if let Some(mark) = self.marks.pop() {
                 if mark.value {
-                    self.with.unset(mark.concept);
+                    self.with.unset(mark.concept as usize);
                 } else {
-                    self.without.unset(mark.concept);
+                    self.without.unset(mark.concept as usize);
                 }
             }
         }
@@ -86,9 +86,9 @@ impl Board {
         }
         self.marks.push(mark)?;
         if mark.value {
-            self.with.set(concept);
+            self.with.set(concept as usize);
         } else {
-            self.without.set(concept);
+            self.without.set(concept as usize);
         }
         Ok(None)
     }

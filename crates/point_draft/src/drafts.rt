@@ -1,6 +1,7 @@
 //! A search for a point in a need, or for clauses that show that there is none.
 use crate::board::{Board, Mark, Why};
 use crate::given::Given;
+use crate::places::Places;
 use crate::rules::Rules;
 use crate::shown::{Hint, Step, Terms, step_of};
 use constraint_set::Problem;
@@ -23,8 +24,8 @@ const FEW: u32 = 4;
 pub enum Draft {
     /// These clauses show in turn that the need has no point; the last one of them speaks of nothing but the need and the path.
     Empty(Vec<Step>),
-    /// This is a point in the need.
-    Point(Bits),
+    /// This is a point in the need, by a bit for each concept.
+    Point(Vec<bool>),
     /// Nothing was found.
     Unknown,
 }
@@ -38,10 +39,13 @@ struct Desk {
 }
 
 /// Searches for points of a problem at a path that grows and shrinks, by rows of bits.
+///
+/// It notes the points that were found too, by their places, and which of them were struck out at which length of the path.
 #[derive(Drop)]
 pub struct Drafts {
     desk: Option<Desk>,
     asked: u32,
+    places: Places,
     alloc: Global,
 }
 
@@ -122,12 +126,13 @@ impl Desk {
     }
 
     // The point that the marks are: what has no mark is without it.
-    fn point(&self, alloc: Global, count: u32) -> Result<Bits, AllocError> {
-        let mut bits = Bits::new(alloc, count as usize)?;
+    fn point(&self, alloc: Global, count: u32) -> Result<Vec<bool>, AllocError> {
+        let mut bits = vec![in alloc; false; count as usize]?;
         for mark in &self.board.marks {
-            let place = mark.concept as usize;
-            if mark.value && place < bits.len() {
-                bits.set(place, true);
+            if mark.value {
+                if let Some(bit) = bits.get_mut(mark.concept as usize) {
+                    *bit = true;
+                }
             }
         }
         Ok(bits)
@@ -241,15 +246,32 @@ impl Drafts {
         Drafts {
             desk: None,
             asked: 0,
+            places: Places::new(alloc),
             alloc,
         }
     }
 
-    /// The path is taken back to its first relations.
+    /// The path is taken back to its first relations, and what was struck out beyond them is a point again.
     pub fn back_to(&mut self, count: usize) {
+        self.places.back_to(count);
         if let Some(desk) = &mut self.desk {
             desk.rules.back_to(count);
         }
+    }
+
+    /// Notes a point by its place.
+    pub fn note(&mut self, place: usize, bits: &Bits) -> Result<(), AllocError> {
+        self.places.add(place, bits)
+    }
+
+    /// The point at a place is struck out where the path has this length.
+    pub fn strike(&mut self, place: usize, length: usize) -> Result<(), AllocError> {
+        self.places.strike(place, length)
+    }
+
+    /// The first place of a point, not struck out, that a concept has, and that the other one has or has not, as is said.
+    pub fn find(&self, concept: u32, other: Option<(u32, bool)>) -> Option<usize> {
+        self.places.find(concept, other)
     }
 
     /// A point in a need at a path of a problem, or clauses that show that there is none, or nothing.

@@ -1,9 +1,10 @@
-//! Drafts of clauses that show that a need has no point: what follows from the need, by rows of bits.
+//! Hints by rows of bits: what follows from a need, so that it has no point or this one, and which points that were found lie in it.
 #![tactic(auto)]
 
 mod board;
 mod drafts;
 mod given;
+mod places;
 mod row;
 mod rules;
 mod shown;

@@ -15,6 +15,22 @@ impl Row {
         Ok(Row { words })
     }
 
+    // Without room.
+    pub(crate) fn empty(alloc: Global) -> Row {
+        Row {
+            words: Vec::new(alloc),
+        }
+    }
+
+    // Sets a bit, for which there is room then.
+    pub(crate) fn put(&mut self, place: usize) -> Result<(), AllocError> {
+        for _word in self.words.len()..=place / 64 {
+            self.words.push(0)?;
+        }
+        self.set(place);
+        Ok(())
+    }
+
     pub(crate) fn words(&self) -> &[u64] {
         &self.words
     }
@@ -28,15 +44,13 @@ impl Row {
         has_bit(&self.words, place as usize)
     }
 
-    pub(crate) fn set(&mut self, place: u32) {
-        let at = place as usize;
+    pub(crate) fn set(&mut self, at: usize) {
         if let Some(word) = self.words.get_mut(at / 64) {
             *word |= 1 << (at % 64);
         }
     }
 
-    pub(crate) fn unset(&mut self, place: u32) {
-        let at = place as usize;
+    pub(crate) fn unset(&mut self, at: usize) {
         if let Some(word) = self.words.get_mut(at / 64) {
             *word &= !(1 << (at % 64));
         }

@@ -74,9 +74,9 @@ fn has_in(rows: &[Row], row: u32, place: u32) -> bool {
 fn put_in(rows: &mut Vec<Row>, row: u32, place: u32, on: bool) {
     if let Some(row) = rows.get_mut(row as usize) {
         if on {
-            row.set(place);
+            row.set(place as usize);
         } else {
-            row.unset(place);
+            row.unset(place as usize);
         }
     }
 }
@@ -193,7 +193,7 @@ impl Rules {
         let number = self.covers.len();
         let mut row = Row::new(alloc, problem.concept_count() as usize)?;
         for part in parts {
-            row.set(*part);
+            row.set(*part as usize);
             self.note_cover(*part, number)?;
         }
         self.note_cover(head, number)?;

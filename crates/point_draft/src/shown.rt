@@ -201,7 +201,7 @@ impl Story {
     // It rests on a concept other than this one.
     fn rest_on(&mut self, other: u32, concept: u32) {
         if other != concept {
-            self.rests.set(other);
+            self.rests.set(other as usize);
         }
     }
 
@@ -210,7 +210,7 @@ impl Story {
         match mark.why {
             Why::Asked => self.say(mark.concept, mark.value),
             Why::From(other, true) => {
-                self.rests.set(other);
+                self.rests.set(other as usize);
                 if mark.value {
                     self.tell_within(terms, other, mark.concept)
                 } else {
@@ -218,7 +218,7 @@ impl Story {
                 }
             }
             Why::From(other, false) => {
-                self.rests.set(other);
+                self.rests.set(other as usize);
                 self.tell_within(terms, mark.concept, other)
             }
             Why::Cover(number) => self.tell_cover(terms, mark.concept, number),
@@ -246,7 +246,7 @@ pub(crate) fn step_of(alloc: Global, terms: &Terms, clash: Mark) -> Result<Step,
         hints: Vec::new(alloc),
     };
     story.tell(terms, clash)?;
-    story.rests.set(clash.concept);
+    story.rests.set(clash.concept as usize);
     for mark in terms.board.marks.iter().rev() {
         if story.rests.has(mark.concept) {
             story.tell(terms, *mark)?;

@@ -10,3 +10,4 @@ pub mod Sameness
 pub mod Pooling
 pub mod Settling
 pub mod Gathering
+pub mod Drafted

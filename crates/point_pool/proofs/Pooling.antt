@@ -328,11 +328,11 @@ pub trees_of_point : (p : Problem) (bits : List Bool) → is_point p bits ≡ tr
 trees_of_point p bits h = (and_parts (meets_trees p bits) (list_all (point_sums bits) (kept_sums p)) (and_parts (meets_structure p bits) (list_all (avoids bits) (forced_pairs p)) h).0).0
 
 -- a point of the prefix is added
-pub point_added : PositionsNarrow → (w : Pool) (bits : List Bool) (low high : ℕ) (points : Vec Bits Global) (depths : Vec (Option ℕ) Global) (serves : Vec Numbers Global) →
+pub point_added : PositionsNarrow → (w : Pool) (bits : List Bool) (low high : ℕ) (points : Vec Bits Global) (depths : Vec (Option ℕ) Global) (serves : Vec Numbers Global) (drafts : Drafts) →
     IsPoolBut w low high → IsOpen w.cursor.problem w.cursor.path → is_point (problem_at w.cursor.problem w.cursor.path) bits ≡ true →
     points.items ≡ w.points.items ++ bits ∷ [] → depths.items ≡ w.depths.items ++ None ∷ [] → serves.items ≡ w.serves.items ++ [] ∷ [] →
-    IsPoolBut (record w { points = points; depths = depths; serves = serves }) low high × IsAdded (record w { points = points; depths = depths; serves = serves }) bits (length w.points.items)
-point_added law w bits low high points depths serves is o point by deep lists =
+    IsPoolBut (record w { points = points; depths = depths; serves = serves; drafts = drafts }) low high × IsAdded (record w { points = points; depths = depths; serves = serves; drafts = drafts }) bits (length w.points.items)
+point_added law w bits low high points depths serves drafts is o point by deep lists =
     let p = w.cursor.problem in
     let m = w.cursor.path in
     let k = length w.points.items in

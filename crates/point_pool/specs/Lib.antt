@@ -2,3 +2,4 @@ pub mod Needs
 pub mod Cursors
 pub mod Pools
 pub mod Starts
+pub mod Drafted

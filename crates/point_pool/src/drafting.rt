@@ -1,12 +1,90 @@
 //! What is drafted for a need at the prefix.
-ghost use Rattle.point_pool.specs.Needs.{need_count};
-ghost use Rattle.point_pool.specs.Pools.{IsPoolBut};
-ghost use Rattle.std.specs.Prelude.{ℕ, ◌<◌, ◌≡◌};
+ghost use Rattle.point_pool.specs.Drafted.{AvoidsPair, AvoidsPairsOf};
+ghost use Rattle.point_pool.specs.Needs.{need_at, need_count};
+ghost use Rattle.point_pool.specs.Pools.{HasWitness, IsPool, IsPoolBut};
+ghost use Rattle.std.specs.Prelude.{IfOk, IsTrue, OnOk, length, true, ℕ, ◌+◌, ◌<◌, ◌≡◌};
+ghost use Rattle.world_model.specs.Alive.{bit_of, is_in_need, is_point, problem_at};
+ghost use Rattle.world_model.specs.Problem.{concept_count};
 
-use crate::needs::need_of;
+use crate::cursor::Cursor;
+use crate::depths::is_out;
+use crate::needs::{by_concepts, is_in, need_of};
 use crate::pool::Pool;
 use point_draft::Draft;
+use point_table::{bits_of, meets_structure};
 use std::alloc::AllocError;
+
+impl Cursor {
+    // Whether bits are in no region of the pair of two concepts, the lower number first, that is forced empty at the prefix.
+    fn avoids_two(&self, bits: &[bool], x: u32, y: u32) -> bool
+        requires length { length bits.now ≡ concept_count self.now.problem }
+        requires order { x < y }
+        requires within { y < concept_count self.now.problem }
+        ensures { result ≡ true → AvoidsPair (problem_at self.now.problem self.now.path) bits.now x y }
+    {
+        let regions = self.forced_at(self.problem().pair_index(x, y));
+        let left = bits[x as usize];
+        let right = bits[y as usize];
+        !is_out(regions, left, right)
+    }
+
+    // The same, whichever comes first. A concept makes no pair with itself.
+    fn avoids_pair(&self, bits: &[bool], one: u32, other: u32) -> bool
+        requires length { length bits.now ≡ concept_count self.now.problem }
+        requires one { one < concept_count self.now.problem }
+        requires other { other < concept_count self.now.problem }
+        ensures { result ≡ true → AvoidsPair (problem_at self.now.problem self.now.path) bits.now one other }
+    {
+        if one < other {
+            return self.avoids_two(bits, one, other);
+        }
+        if other < one {
+            return self.avoids_two(bits, other, one);
+        }
+        true
+    }
+
+    // The same of all pairs of a concept.
+    fn avoids_pairs_of(&self, bits: &[bool], concept: u32) -> bool
+        requires length { length bits.now ≡ concept_count self.now.problem }
+        requires concept { concept < concept_count self.now.problem }
+        ensures { result ≡ true → AvoidsPairsOf (problem_at self.now.problem self.now.path) bits.now concept }
+    {
+        for other in 0..self.problem().concept_count() {
+            if !self.avoids_pair(bits, concept, other) {
+                return false;
+            }
+        }
+        true
+    }
+
+    // The same, unless the concept is without the point.
+    fn avoids_if_there(&self, bits: &[bool], concept: u32) -> bool
+        requires length { length bits.now ≡ concept_count self.now.problem }
+        requires concept { concept < concept_count self.now.problem }
+        ensures { result ≡ true → bit_of bits.now concept ≡ true → AvoidsPairsOf (problem_at self.now.problem self.now.path) bits.now concept }
+    {
+        if !bits[concept as usize] {
+            return true;
+        }
+        self.avoids_pairs_of(bits, concept)
+    }
+
+    // Whether bits are a point of the prefix. A pair without a concept that has the point has none in its regions.
+    fn has_point(&self, bits: &[bool]) -> bool
+        ensures { result ≡ true → IsTrue (is_point (problem_at self.now.problem self.now.path) bits.now) }
+    {
+        if !meets_structure(self.problem(), bits) {
+            return false;
+        }
+        for concept in 0..self.problem().concept_count() {
+            if !self.avoids_if_there(bits, concept) {
+                return false;
+            }
+        }
+        true
+    }
+}
 
 impl Pool {
     /// What a search by the rules at the prefix finds for the need with a number: a hint.
@@ -19,5 +97,29 @@ impl Pool {
         let need = need_of(self.cursor.problem(), number);
         self.drafts
             .search(self.cursor.problem(), self.cursor.path(), need)
+    }
+
+    /// Makes a drafted point the witness of a need, if it is a point of the prefix in it.
+    pub fn take(&mut self, number: u32, draft: &Draft) -> Result<bool, AllocError>
+        requires pool { IsPoolBut self.old number (number + 1) }
+        requires within { number < need_count self.old.cursor.problem }
+        ensures pool { OnOk result (IsPoolBut self.new number (number + 1)) }
+        ensures cursor { OnOk result (self.new.cursor ≡ self.old.cursor) }
+        ensures waiting { OnOk result (self.new.waiting ≡ self.old.waiting) }
+        ensures served { IfOk result (λ taken. taken ≡ true → IsPool self.new × HasWitness self.new number) }
+    {
+        let Draft::Point(bits) = draft else {
+            return Ok(false);
+        };
+        if !self.cursor.has_point(bits) {
+            return Ok(false);
+        }
+        let point = bits_of(self.alloc, bits)?;
+        if !is_in(by_concepts(self.cursor.problem(), number), &point) {
+            return Ok(false);
+        }
+        let place = self.add(point)?;
+        self.assign(number, place)?;
+        Ok(true)
     }
 }

@@ -52,6 +52,7 @@ impl Pool {
         positions_narrow();
         let cursor = Cursor::new(alloc, problem)?;
         let depths = depths_at_start(alloc, &cursor, &points)?;
+        let drafts = noted(alloc, &points, &depths)?;
         let serves = no_numbers(alloc, points.len())?;
         let count = count_needs(cursor.problem());
         let waiting = all_needed(alloc, &cursor, count)?;
@@ -64,7 +65,7 @@ impl Pool {
             slots: vec![in alloc; 0; count as usize]?,
             serves,
             waiting,
-            drafts: Drafts::new(alloc),
+            drafts,
             alloc,
         })
     }
@@ -177,6 +178,18 @@ fn push_if_needed(waiting: &mut Waiting, cursor: &Cursor, number: u32) -> Result
         waiting.push(number)?;
     }
     Ok(())
+}
+
+// Hints that know some points, and which of them are struck out from the start.
+fn noted(alloc: Global, points: &[Bits], depths: &[Option<usize>]) -> Result<Drafts, AllocError> {
+    let mut drafts = Drafts::new(alloc);
+    for (place, bits) in points.iter().enumerate() {
+        drafts.note(place, bits)?;
+        if let Some(Some(depth)) = depths.get(place) {
+            drafts.strike(place, *depth)?;
+        }
+    }
+    Ok(drafts)
 }
 
 // So many empty lists.

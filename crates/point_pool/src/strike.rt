@@ -51,6 +51,7 @@ impl Pool {
         requires serves { length self.old.serves.items ≡ length self.old.points.items }
         ensures out { OnOk result (StrikesOut self.old self.new place depth) }
     {
+        self.drafts.strike(place, depth)?;
         self.struck.push(place)?;
         self.depths[place] = Some(depth);
         self.serves[place].release(&mut self.waiting)?;

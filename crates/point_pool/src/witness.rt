@@ -47,7 +47,7 @@ impl Pool {
         place < self.serves.len() && self.serves[place].has_at(self.slots[number as usize], number)
     }
 
-    /// The place of a point of the prefix that is in a need: that of the last witness, or else the first.
+    /// The place of a point of the prefix that is in a need: that of the last witness, or else the first by what the hints say.
     pub fn find(&self, number: u32) -> Option<usize>
         requires kept { IsKept self.now }
         requires within { number < need_count self.now.cursor.problem }
@@ -58,12 +58,21 @@ impl Pool {
         if self.is_fit(witness, wanted) {
             return Some(witness);
         }
-        for place in 0..self.points.len() {
-            if self.is_fit(place, wanted) {
-                return Some(place);
-            }
+        let place = self.noted(wanted)?;
+        if self.is_fit(place, wanted) {
+            return Some(place);
         }
         None
+    }
+
+    // The place of a point that may be in a need.
+    fn noted(&self, wanted: Wanted) -> Option<usize> {
+        match wanted {
+            Wanted::Concept(concept) => self.drafts.find(concept, None),
+            Wanted::Region { x, y, part: 0 } => self.drafts.find(x, Some((y, false))),
+            Wanted::Region { x, y, part: 1 } => self.drafts.find(x, Some((y, true))),
+            Wanted::Region { x, y, .. } => self.drafts.find(y, Some((x, false))),
+        }
     }
 
     /// Makes a point the witness of a need.
@@ -95,6 +104,7 @@ impl Pool {
         positions_narrow();
         self.cursor.facts();
         let place = self.points.len();
+        self.drafts.note(place, &bits)?;
         self.points.push(bits)?;
         self.depths.push(None)?;
         self.serves.push(Numbers::new(self.alloc))?;

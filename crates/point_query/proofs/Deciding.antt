@@ -10,6 +10,8 @@ use Rattle.world_model.specs.Alive.{Need, allowed, needs, problem_at, HasPoint, 
 use Rattle.world_model.proofs.Members.{here, In-right, contains_from_in, all_at, In-get_or}
 use Rattle.point_query.specs.Asking.{AskerState}
 use Rattle.point_pool.specs.Needs.{need_at, is_needed, need_count}
+use Rattle.point_pool.specs.declared.pool.Pool.{Pool}
+use Rattle.point_pool.specs.Pools.{IsPool, IsPoolBut}
 use Rattle.point_pool.proofs.Numbering.{need_in}
 use Rattle.point_pool.specs.Cursors.{IsFirstEmpty}
 use Rattle.point_query.specs.Answers.{IsFirstClosed}
@@ -25,6 +27,10 @@ pub closed_is_dead : (asker : AskerState) (p : Problem) (m : List Rel) (need : N
 closed_is_dead asker p m need id closed alive =
     let among : Contains (needs (problem_at p m)) need = subst (λ ns. Contains ns need) (sym closed.among) (contains_from_in (In-right closed.before (here refl))) in
     closed.closed.no_point (alive.points need among)
+
+-- where each need waits or is served, so does each but one
+pub pool_but : (w : Pool) (low high : ℕ) → IsPool w → IsPoolBut w low high
+pool_but w low high is = record { kept = is.kept; watched = λ number within counts. is.watched number within counts.0 }
 
 -- a need that no point of the prefix is in
 pub lost_is_dead : (p : Problem) (m : List Rel) (number : ℕ) → number < need_count p → is_needed (problem_at p m) number ≡ true → (HasPoint (problem_at p m) (need_at p number) → ⊥) → IsAlive (problem_at p m) → ⊥

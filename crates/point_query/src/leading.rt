@@ -5,15 +5,17 @@ ghost use Rattle.point_query.specs.Queries.{IsSolverOf, KeepsSolver};
 ghost use Rattle.rcc5_core.specs.RelationSet.{has};
 ghost use Rattle.rcc5_core.specs.declared.Rel.{Rel};
 ghost use Rattle.std.specs.Prelude.{IfOk, IsTrue, OnOk, [], length, ◌++◌, ◌+◌, ◌<◌, ◌↔◌, ◌∷◌, ◌≡◌};
-ghost use Rattle.world_model.specs.Alive.{IsAlive, all_allow, problem_at};
+ghost use Rattle.world_model.specs.Alive.{IsAlive, all_allow, allowed, problem_at};
+ghost use Rattle.world_model.specs.Node.{pair_at};
 ghost use Rattle.world_model.specs.Problem.{pair_count};
 
 use crate::closer::Closer;
-use crate::settle::is_settled;
+use crate::settle::{is_settled, serve};
 use lits_core::law_literals_are_sets;
-use point_pool::Pool;
-use rcc5_core::{Position, Rel, RelSet};
+use point_pool::{Pool, word_of};
+use rcc5_core::{Occupancy, Position, Rel, RelSet};
 use std::alloc::AllocError;
+use world_model::positions_narrow;
 
 // The relations, the last first: so a pool ends at the first of those that it tries, to which a pool over nodes goes on.
 const LAST_FIRST: [Rel; 5] = [
@@ -85,10 +87,68 @@ fn leads_on(
     ensures beyond { OnOk result (BeginsWith pool.new.cursor.path prefix.now) }
     ensures alive { IfOk result (λ yes. IsTrue yes ↔ IsAlive (problem_at pool.old.cursor.problem (prefix.now ++ rel ∷ []))) }
 {
+    law_literals_are_sets();
     pool.back_to(prefix.len());
     if !pool.next_set().has(rel) {
         return Ok(false);
     }
+    let bare = lacks_point(pool, solver, rel)?;
+    if bare {
+        return Ok(false);
+    }
     pool.push(rel)?;
-    is_settled(pool, solver)
+    let alive = is_settled(pool, solver)?;
+    Ok(alive)
+}
+
+// Whether a relation occupies a region of the next pair in which no point of the prefix is, so that none is there below it either.
+fn lacks_point(pool: &mut Pool, solver: &mut Closer, rel: Rel) -> Result<bool, AllocError>
+    requires pool { IsPool pool.old }
+    requires within { length pool.old.cursor.path < pair_count pool.old.cursor.problem }
+    requires allowed { IsTrue (has (allowed pool.old.cursor.problem (pair_at pool.old.cursor.problem (length pool.old.cursor.path))) rel) }
+    requires solver { IsSolverOf pool.old.cursor.problem solver.old }
+    ensures solver { KeepsSolver pool.old.cursor.problem solver.old solver.new }
+    ensures pool { OnOk result (IsPool pool.new) }
+    ensures cursor { OnOk result (pool.new.cursor ≡ pool.old.cursor) }
+    ensures dead { IfOk result (λ bare. IsTrue bare → IsAlive (problem_at pool.old.cursor.problem (pool.old.cursor.path ++ rel ∷ [])) → ⊥) }
+{
+    law_literals_are_sets();
+    for part in 0..3 {
+        let bare = is_bare(pool, solver, rel, part)?;
+        if bare {
+            return Ok(true);
+        }
+    }
+    Ok(false)
+}
+
+// The same of one region, by its number among the three.
+fn is_bare(pool: &mut Pool, solver: &mut Closer, rel: Rel, part: u32) -> Result<bool, AllocError>
+    requires pool { IsPool pool.old }
+    requires within { length pool.old.cursor.path < pair_count pool.old.cursor.problem }
+    requires allowed { IsTrue (has (allowed pool.old.cursor.problem (pair_at pool.old.cursor.problem (length pool.old.cursor.path))) rel) }
+    requires part { part < 3 }
+    requires solver { IsSolverOf pool.old.cursor.problem solver.old }
+    ensures solver { KeepsSolver pool.old.cursor.problem solver.old solver.new }
+    ensures pool { OnOk result (IsPool pool.new) }
+    ensures cursor { OnOk result (pool.new.cursor ≡ pool.old.cursor) }
+    ensures dead { IfOk result (λ bare. IsTrue bare → IsAlive (problem_at pool.old.cursor.problem (pool.old.cursor.path ++ rel ∷ [])) → ⊥) }
+{
+    positions_narrow();
+    pool.cursor.facts();
+    let Occupancy::Occupied = word_of(rel.row(), part) else {
+        return Ok(false);
+    };
+    pool.cursor.problem().facts();
+    let pair = pool.cursor.len();
+    let number = 3 * pair + part;
+    if pool.is_served(number) {
+        return Ok(false);
+    }
+    let closed = serve(pool, solver, number)?;
+    if let Some(_id) = closed {
+        pool.waiting.push(number)?;
+        return Ok(true);
+    }
+    Ok(false)
 }

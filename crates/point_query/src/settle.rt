@@ -35,6 +35,10 @@ pub(crate) fn serve(
         return Ok(Some(id));
     }
     let draft = pool.draft(number)?;
+    let taken = pool.take(number, &draft)?;
+    if taken {
+        return Ok(None);
+    }
     match solver.ask(&pool.cursor, number, draft)? {
         Found::Point(bits) => {
             let place = pool.add(bits)?;

@@ -30,8 +30,8 @@ pub(crate) struct Search {
     pub(crate) tries: usize,
 }
 
-// The bits as a point.
-fn bits_of(alloc: Global, tried: &[bool]) -> Result<Bits, AllocError>
+/// Bits of a list.
+pub fn bits_of(alloc: Global, tried: &[bool]) -> Result<Bits, AllocError>
     ensures { IfOk result (λ bits. bits ≡ tried.now) }
 {
     let mut bits = Bits::new(alloc, tried.len())?;

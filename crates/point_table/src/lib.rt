@@ -7,5 +7,6 @@ mod points;
 mod rules;
 mod table;
 
-pub use points::allowed_sets;
+pub use grow::bits_of;
+pub use points::{allowed_sets, meets_structure};
 pub use table::{PointTable, all_points, rows_of};

@@ -225,8 +225,8 @@ fn avoids_all(problem: &Problem, sets: &[RelSet], pairs: &[u32], bits: &[bool]) 
     true
 }
 
-// Whether bits meet the rules on a point that speak of the concepts alone.
-fn meets_structure(problem: &Problem, bits: &[bool]) -> bool
+/// Whether bits, one a concept, meet the rules on a point that speak of the concepts alone: trees and kept sums.
+pub fn meets_structure(problem: &Problem, bits: &[bool]) -> bool
     ensures { result ≡ meets_structure problem.now bits.now }
 {
     let switches = problem.switches();
