@@ -109,26 +109,6 @@ alive_sets_are_possible p sets valid whole are = record {
       );
 }
 
--- the pairs that were looked at, and one more
-pub whole_more : (p : Problem) (n : ℕ) → ((k : ℕ) → k < n → is_whole_set (allowed p (pair_at p k)) ≡ true) → is_whole_set (allowed p (pair_at p n)) ≡ true → (k : ℕ) → k < n + 1 →
-    is_whole_set (allowed p (pair_at p k)) ≡ true
-whole_more p n each next k within = elim (cases_eq k n) [
-  | inl last ↦ subst (λ j. is_whole_set (allowed p (pair_at p j)) ≡ true) (sym last) next
-  | inr before ↦ each k (omega (arith, within, before))
-]
-
--- a default does not matter within a list
-any_default : {X : Type 0} (xs : List X) (k : ℕ) (d e : X) → k < length xs → get_or xs k d ≡ get_or xs k e
-any_default [] k d e h = absurd (omega arith)
-any_default (x ∷ xs) zero d e h = refl
-any_default (x ∷ xs) (suc k) d e h = any_default xs k d e (omega (arith, h))
-
--- all pairs allow whole sets where each by its number does
-pub whole_from : (p : Problem) → ((k : ℕ) → k < pair_count p → is_whole_set (allowed p (pair_at p k)) ≡ true) → all_whole p ≡ true
-whole_from p each = all_from (λ pair. is_whole_set (allowed p pair)) (pairs p) (λ pair i.
-    let c = contains_from_in i in
-    subst (λ q. is_whole_set (allowed p q) ≡ true) (any_default (pairs p) c.0 (0, 0) pair c.1 ∙ c.2) (each c.0 c.1))
-
 -- the pairs across taxonomies are some of all
 cross_few : (p : Problem) → length (cross_pairs p) ≤ pair_count p
 cross_few p = let all = length-append (cross_pairs p) (filter (λ pair. not (is_cross p pair)) (all_pairs p)) in omega (arith, all)

@@ -1,36 +1,24 @@
 //! The possible relations where nobody reads the claims.
-ghost use Rattle.std.specs.Prelude.{◌≡◌, ◌<◌, ◌↔◌, length, All, IfOk, OnOk, IsTrue};
-ghost use Rattle.std.specs.Bool.{OnTrue};
+ghost use Rattle.std.specs.Prelude.{◌≡◌, ◌<◌, ◌↔◌, length, All, IfOk, IfSome, OnOk, IsTrue};
 ghost use Rattle.world_model.specs.Problem.{pair_count, cross_pairs};
-ghost use Rattle.world_model.specs.Alive.{all_whole};
 ghost use Rattle.world_model.specs.Questions.{IsPossibleRelation};
 ghost use Rattle.constraint_set.specs.Shape.{shape_of};
 ghost use Rattle.split_search.specs.Choosing.{IsMetBy};
 ghost use Rattle.mir_report.specs.Possible.{IsPossibleSet, ArePossibleSets};
 ghost use Rattle.mir_report.specs.Steps.{HasPossible, AreCandidates};
 
-use crate::found::put;
+use crate::found::{put, shown_by};
 use crate::possible::{MirSets, RELS, settle_rel};
 use cert_text::NoLog;
 use constraint_set::Problem;
 use dead_pairs::Hints;
+use pick_search::{are_whole, choose_by_picks};
 use point_ladder::{MOST_POINTS, MOST_TRIES, alive_alone};
 use point_query::Asker;
 use rcc5_core::{Rel, RelSet};
 use set_family::Family;
+use split_search::Choice;
 use std::alloc::{AllocError, Global};
-
-// Whether each pair allows a whole set.
-fn are_whole(problem: &Problem) -> bool
-    ensures { OnTrue result (IsTrue (all_whole problem.now)) }
-{
-    for pair in 0..problem.pair_count() {
-        if !problem.allowed(pair).is_whole() {
-            return false;
-        }
-    }
-    true
-}
 
 // What the pairs across taxonomies allow.
 fn allowed_sets(alloc: Global, problem: &Problem) -> Result<Vec<RelSet>, AllocError>
@@ -41,6 +29,36 @@ fn allowed_sets(alloc: Global, problem: &Problem) -> Result<Vec<RelSet>, AllocEr
         sets.push(problem.allowed(pair))?;
     }
     Ok(sets)
+}
+
+// Whether a relation is possible at a pair, by picks. A family that was found for it is kept with the others.
+fn ask_by_picks(
+    alloc: Global,
+    problem: &Problem,
+    pair: u32,
+    rel: Rel,
+    families: &mut Vec<Family>,
+    asker: &mut Asker,
+) -> Result<Option<bool>, AllocError>
+    requires shape { asker.old.shape ≡ shape_of problem.now }
+    requires within { pair < pair_count problem.now }
+    requires families { All (IsMetBy problem.now) families.old.items }
+    ensures shape { asker.new.shape ≡ asker.old.shape }
+    ensures families { OnOk result (All (IsMetBy problem.now) families.new.items) }
+    ensures answer { IfOk result (λ found. IfSome found (λ some. IsTrue some ↔ IsPossibleRelation problem.now pair rel)) }
+{
+    let narrowed = problem.narrowed(alloc, pair, RelSet::one(rel))?;
+    let found = choose_by_picks(alloc, &narrowed, asker)?;
+    let Some(choice) = found else {
+        return Ok(None);
+    };
+    match choice {
+        Choice::Refuted => Ok(Some(false)),
+        Choice::Met(family) => {
+            put(families, family)?;
+            Ok(Some(true))
+        }
+    }
 }
 
 // Whether a relation is possible at a pair, whose possible ones are among some.
@@ -63,6 +81,13 @@ fn ask_if_among(
 {
     if !among.has(rel) {
         return Ok(false);
+    }
+    if let Some(_family) = shown_by(families, problem, pair, rel) {
+        return Ok(true);
+    }
+    let found = ask_by_picks(alloc, problem, pair, rel, families, asker)?;
+    if let Some(some) = found {
+        return Ok(some);
     }
     let mut log = NoLog::new();
     let mut hints = Hints::none(alloc);

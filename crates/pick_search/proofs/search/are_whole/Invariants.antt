@@ -2,7 +2,7 @@ use Rattle.std.proofs.Common.{◌≡◌, ℕ, ◌<◌, true}
 use Rattle.rcc5_core.specs.Region.{is_whole_set}
 use Rattle.world_model.specs.Alive.{allowed}
 use Rattle.world_model.specs.Node.{pair_at}
-use Rattle.mir_report.proofs.bare.are_whole.Given as goal
+use Rattle.pick_search.proofs.search.are_whole.Given as goal
 
 -- the pairs so far allow whole sets
 abbrev pub invariant-loop-pair : goal.invariant-loop-pair

@@ -1,7 +1,7 @@
 use Rattle.std.proofs.Common.{◌∙◌, sym, ap, arith}
 use Rattle.rcc5_core.specs.Region.{is_whole_set}
-use Rattle.mir_report.proofs.Unasked.{whole_more, whole_from}
-use Rattle.mir_report.proofs.bare.are_whole.Goals as goal
+use Rattle.pick_search.proofs.Deciding.{whole_more, whole_from}
+use Rattle.pick_search.proofs.search.are_whole.Goals as goal
 
 pub loop-pair-preserved : goal.loop-pair-preserved
 loop-pair-preserved c = whole_more c.args.problem.now c.loop-pair.pair c.loop-pair.invariant (ap is_whole_set (sym c.allowed.ensures) ∙ sym c.is_whole.ensures ∙ c.if-not-is_whole.false)

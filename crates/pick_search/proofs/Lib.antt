@@ -1,0 +1,3 @@
+pub mod Narrowing
+pub mod Ruling
+pub mod Deciding

@@ -1,0 +1,9 @@
+//! Whether a family meets a problem, by a solver that picks a relation for each split pair.
+#![tactic(auto)]
+
+mod blame;
+mod picks;
+mod rules;
+mod search;
+
+pub use search::{are_whole, choose_by_picks};
