@@ -15,6 +15,7 @@ ghost use Rattle.claim_blocks.specs.Steps.{LineLeads, LeadsIf, MayEndAt};
 
 use cert_text::{CertLine, Subject, TreeLog, copy_subject};
 use constraint_set::Problem;
+use pick_search::choose_by_picks;
 use point_query::Asker;
 use search_log::{StepFault, put_one, put_waiting, raw_family};
 use set_family::Family;
@@ -137,6 +138,7 @@ fn end_tree<L: TreeLog>(
 /// Whether a family meets the problem of a subject, and the claim that says so.
 ///
 /// The tree of the subject is put while it is searched: where it turns out that a family meets the problem, it is left, and claims nothing.
+/// Where nobody reads the log no tree is walked.
 pub fn settle<L: TreeLog>(
     alloc: Global,
     subject: &Subject,
@@ -153,7 +155,7 @@ pub fn settle<L: TreeLog>(
     ensures log { LogGoes L.drops L.lines L.faults L.steady L.quiet result log.old log.new }
 {
     if log.is_dropping() {
-        return choose(alloc, problem, asker, log);
+        return Ok(choose_by_picks(alloc, problem, asker)?);
     }
     begin_tree(alloc, subject, asker, log)?;
     let choice = choose(alloc, problem, asker, log)?;

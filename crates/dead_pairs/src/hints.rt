@@ -209,16 +209,6 @@ pub struct Hints {
 }
 
 impl Hints {
-    /// No hints.
-    pub fn none(alloc: Global) -> Hints {
-        Hints {
-            table: None,
-            first: 0,
-            turns: 0,
-            alloc,
-        }
-    }
-
     /// By all points of a problem; none where there are more than `most`, or finding them takes more than `tries` steps.
     pub fn new(
         alloc: Global,

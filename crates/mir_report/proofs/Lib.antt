@@ -3,3 +3,4 @@ pub mod Laws
 pub mod Subjects
 pub mod Told
 pub mod Unasked
+pub mod Showing

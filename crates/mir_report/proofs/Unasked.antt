@@ -1,5 +1,5 @@
 -- Which relations are asked for where nobody reads the claims.
-use Rattle.std.proofs.Common.{◌≡◌, ℕ, zero, suc, ◌+◌, ◌<◌, ◌≤◌, ◌⊎◌, true, false, not, List, [], ◌∷◌, ◌++◌, length, get_or, inl, inr, refl, sym, ap, ap₂, subst, ◌∙◌, arith}
+use Rattle.std.proofs.Common.{◌≡◌, ℕ, ◌+◌, ◌<◌, ◌≤◌, ◌⊎◌, true, false, not, List, [], ◌∷◌, ◌++◌, length, get_or, inl, inr, refl, sym, ap, ap₂, subst, ◌∙◌, arith}
 use Rattle.std.specs.Prelude.{nat_lt, filter}
 use Rattle.std.specs.List.{list_all}
 use Rattle.std.proofs.lemmas.Bool.{and_from, and_parts, cases_eq, cases_Bool, not-true, lt-ltb}
@@ -14,7 +14,7 @@ use Rattle.rcc5_core.specs.RelationSet.{has, only, is_empty_set, both_of}
 use Rattle.world_model.specs.Problem.{Problem, Constraint, concept_count, pairs, pair_count, cross_pairs, narrowed, is_problem, is_about_pair, is_concept, all_pairs, is_cross}
 use Rattle.world_model.specs.Alive.{allowed, all_whole, IsAlive}
 use Rattle.world_model.specs.Node.{pair_at}
-use Rattle.world_model.proofs.Members.{In, In-get_or, all_at, all_from, contains_from_in}
+use Rattle.world_model.proofs.Members.{In, In-get_or, all_at, all_from}
 use Rattle.world_model.proofs.PointPairs.{from_pairs}
 use Rattle.world_model.proofs.PointAlive.{met_is_alive}
 use Rattle.world_model.proofs.PointServed.{alive_is_met}

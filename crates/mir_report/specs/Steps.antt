@@ -35,6 +35,15 @@ claim_if_allowed p pair rel some = if has (allowed p (pair_at p pair)) rel then 
 abbrev pub claim_if_refuted : ℕ → Rel → Bool → List Claim
 claim_if_refuted pair rel done = if done then claimed (Narrowed pair rel) false else []
 
+-- each relation of a set is possible at a pair
+abbrev pub AllPossible : Problem → ℕ → RelSet → Type 0
+AllPossible p pair set = (rel : Rel) → IsTrue (has set rel) → IsPossibleRelation p pair rel
+
+-- there is such a set for each of the first so many pairs
+pub record AreSeen (p : Problem) (count : ℕ) (sets : List RelSet) : Type 0 where
+  pub counted : length sets ≡ count
+  pub each : (pair : ℕ) (d : RelSet) → pair < count → AllPossible p pair (slice_index_or sets pair d)
+
 -- a set has each relation that is possible at a pair
 abbrev pub HasPossible : Problem → ℕ → RelSet → Type 0
 HasPossible p pair set = (rel : Rel) → IsPossibleRelation p pair rel → IsTrue (has set rel)

@@ -1,17 +1,16 @@
 //! The possible relations where nobody reads the claims.
-ghost use Rattle.std.specs.Prelude.{◌≡◌, ◌<◌, ◌↔◌, length, All, IfOk, IfSome, OnOk, IsTrue};
-ghost use Rattle.world_model.specs.Problem.{pair_count, cross_pairs};
+ghost use Rattle.std.specs.Prelude.{◌≡◌, ◌<◌, ◌↔◌, length, IfOk, OnOk, IsTrue};
+ghost use Rattle.world_model.specs.Problem.{cross_pairs};
 ghost use Rattle.world_model.specs.Questions.{IsPossibleRelation};
 ghost use Rattle.constraint_set.specs.Shape.{shape_of};
 ghost use Rattle.split_search.specs.Choosing.{IsMetBy};
 ghost use Rattle.mir_report.specs.Possible.{IsPossibleSet, ArePossibleSets};
-ghost use Rattle.mir_report.specs.Steps.{HasPossible, AreCandidates};
+ghost use Rattle.mir_report.specs.Steps.{AreCandidates, AreSeen, HasPossible};
 
-use crate::found::{put, shown_by};
-use crate::possible::{MirSets, RELS, settle_rel};
-use cert_text::NoLog;
+use crate::found::put;
+use crate::possible::{MirSets, RELS};
+use crate::seen::{none_seen, seen_with};
 use constraint_set::Problem;
-use dead_pairs::Hints;
 use pick_search::{are_whole, choose_by_picks};
 use point_ladder::{MOST_POINTS, MOST_TRIES, alive_alone};
 use point_query::Asker;
@@ -31,32 +30,29 @@ fn allowed_sets(alloc: Global, problem: &Problem) -> Result<Vec<RelSet>, AllocEr
     Ok(sets)
 }
 
-// Whether a relation is possible at a pair, by picks. A family that was found for it is kept with the others.
-fn ask_by_picks(
+// Searches for a family that shows a relation at a pair. What one that is found shows at the other pairs is seen too.
+fn ask_for(
     alloc: Global,
     problem: &Problem,
     pair: u32,
     rel: Rel,
-    families: &mut Vec<Family>,
+    seen: &mut Vec<RelSet>,
     asker: &mut Asker,
-) -> Result<Option<bool>, AllocError>
+) -> Result<bool, AllocError>
     requires shape { asker.old.shape ≡ shape_of problem.now }
-    requires within { pair < pair_count problem.now }
-    requires families { All (IsMetBy problem.now) families.old.items }
+    requires cross { pair < length (cross_pairs problem.now) }
+    requires seen { AreSeen problem.now (length (cross_pairs problem.now)) seen.old.items }
     ensures shape { asker.new.shape ≡ asker.old.shape }
-    ensures families { OnOk result (All (IsMetBy problem.now) families.new.items) }
-    ensures answer { IfOk result (λ found. IfSome found (λ some. IsTrue some ↔ IsPossibleRelation problem.now pair rel)) }
+    ensures seen { OnOk result (AreSeen problem.now (length (cross_pairs problem.now)) seen.new.items) }
+    ensures answer { IfOk result (λ some. IsTrue some ↔ IsPossibleRelation problem.now pair rel) }
 {
     let narrowed = problem.narrowed(alloc, pair, RelSet::one(rel))?;
-    let found = choose_by_picks(alloc, &narrowed, asker)?;
-    let Some(choice) = found else {
-        return Ok(None);
-    };
+    let choice = choose_by_picks(alloc, &narrowed, asker)?;
     match choice {
-        Choice::Refuted => Ok(Some(false)),
+        Choice::Refuted => Ok(false),
         Choice::Met(family) => {
-            put(families, family)?;
-            Ok(Some(true))
+            *seen = seen_with(alloc, problem, seen, &family)?;
+            Ok(true)
         }
     }
 }
@@ -68,35 +64,24 @@ fn ask_if_among(
     pair: u32,
     among: RelSet,
     rel: Rel,
-    families: &mut Vec<Family>,
+    seen: &mut Vec<RelSet>,
     asker: &mut Asker,
 ) -> Result<bool, AllocError>
     requires shape { asker.old.shape ≡ shape_of problem.now }
-    requires within { pair < pair_count problem.now }
+    requires cross { pair < length (cross_pairs problem.now) }
     requires among { HasPossible problem.now pair among }
-    requires families { All (IsMetBy problem.now) families.old.items }
+    requires seen { AreSeen problem.now (length (cross_pairs problem.now)) seen.old.items }
     ensures shape { asker.new.shape ≡ asker.old.shape }
-    ensures families { OnOk result (All (IsMetBy problem.now) families.new.items) }
+    ensures seen { OnOk result (AreSeen problem.now (length (cross_pairs problem.now)) seen.new.items) }
     ensures answer { IfOk result (λ some. IsTrue some ↔ IsPossibleRelation problem.now pair rel) }
 {
     if !among.has(rel) {
         return Ok(false);
     }
-    if let Some(_family) = shown_by(families, problem, pair, rel) {
+    if seen[pair as usize].has(rel) {
         return Ok(true);
     }
-    let found = ask_by_picks(alloc, problem, pair, rel, families, asker)?;
-    if let Some(some) = found {
-        return Ok(some);
-    }
-    let mut log = NoLog::new();
-    let mut hints = Hints::none(alloc);
-    match settle_rel(
-        alloc, problem, pair, rel, families, &mut hints, asker, &mut log,
-    ) {
-        Ok(some) => Ok(some),
-        Err(_) => Err(AllocError),
-    }
+    ask_for(alloc, problem, pair, rel, seen, asker)
 }
 
 // The possible relations of a pair, which are among some.
@@ -105,28 +90,53 @@ fn ask_pair(
     problem: &Problem,
     pair: u32,
     among: RelSet,
-    families: &mut Vec<Family>,
+    seen: &mut Vec<RelSet>,
     asker: &mut Asker,
 ) -> Result<RelSet, AllocError>
     requires shape { asker.old.shape ≡ shape_of problem.now }
-    requires within { pair < pair_count problem.now }
+    requires cross { pair < length (cross_pairs problem.now) }
     requires among { HasPossible problem.now pair among }
-    requires families { All (IsMetBy problem.now) families.old.items }
+    requires seen { AreSeen problem.now (length (cross_pairs problem.now)) seen.old.items }
     ensures shape { asker.new.shape ≡ asker.old.shape }
-    ensures families { OnOk result (All (IsMetBy problem.now) families.new.items) }
+    ensures seen { OnOk result (AreSeen problem.now (length (cross_pairs problem.now)) seen.new.items) }
     ensures answer { IfOk result (IsPossibleSet problem.now pair) }
 {
     let mut set = RelSet::none();
     'rels: for rel in RELS {
-        if ask_if_among(alloc, problem, pair, among, rel, families, asker)? {
+        if ask_if_among(alloc, problem, pair, among, rel, seen, asker)? {
             set = set.with(rel);
         }
     }
     Ok(set)
 }
 
-// The possible relations of each pair, which are among some.
+// The possible relations of each pair, which are among some, where a family is found that meets the problem.
 fn ask_all(
+    alloc: Global,
+    problem: &Problem,
+    among: &[RelSet],
+    family: Family,
+    asker: &mut Asker,
+) -> Result<MirSets, AllocError>
+    requires shape { asker.old.shape ≡ shape_of problem.now }
+    requires met { IsMetBy problem.now family }
+    requires among { AreCandidates problem.now (length (cross_pairs problem.now)) among.now }
+    ensures shape { asker.new.shape ≡ asker.old.shape }
+    ensures sets { IfOk result (λ mir. ArePossibleSets problem.now mir.sets.items) }
+{
+    let none = none_seen(alloc, problem)?;
+    let mut seen = seen_with(alloc, problem, &none, &family)?;
+    let mut sets = Vec::new(alloc);
+    'pairs: for pair in 0..problem.cross_count() {
+        let some = among[pair as usize];
+        let set = ask_pair(alloc, problem, pair, some, &mut seen, asker)?;
+        put(&mut sets, set)?;
+    }
+    Ok(MirSets { sets })
+}
+
+// The possible relations of each pair, which are among some. Where no family meets the problem, none is possible.
+fn ask_among(
     alloc: Global,
     problem: &Problem,
     among: &[RelSet],
@@ -137,14 +147,14 @@ fn ask_all(
     ensures shape { asker.new.shape ≡ asker.old.shape }
     ensures sets { IfOk result (λ mir. ArePossibleSets problem.now mir.sets.items) }
 {
-    let mut families = Vec::new(alloc);
-    let mut sets = Vec::new(alloc);
-    'pairs: for pair in 0..problem.cross_count() {
-        let some = among[pair as usize];
-        let set = ask_pair(alloc, problem, pair, some, &mut families, asker)?;
-        put(&mut sets, set)?;
+    let choice = choose_by_picks(alloc, problem, asker)?;
+    match choice {
+        Choice::Refuted => {
+            let sets = none_seen(alloc, problem)?;
+            Ok(MirSets { sets })
+        }
+        Choice::Met(family) => ask_all(alloc, problem, among, family, asker),
     }
-    Ok(MirSets { sets })
 }
 
 /// The possible relations of each pair across taxonomies. By a table of all points, where there is one, just those are asked for with
@@ -168,10 +178,10 @@ pub(crate) fn bare_sets(
     )?
     else {
         let among = allowed_sets(alloc, problem)?;
-        return ask_all(alloc, problem, &among, asker);
+        return ask_among(alloc, problem, &among, asker);
     };
     if are_whole(problem) {
         return Ok(MirSets { sets: alive });
     }
-    ask_all(alloc, problem, &alive, asker)
+    ask_among(alloc, problem, &alive, asker)
 }

@@ -4,5 +4,6 @@
 mod bare;
 mod found;
 mod possible;
+mod seen;
 
 pub use possible::{MirSets, has_world, mir};

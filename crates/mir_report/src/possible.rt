@@ -97,7 +97,7 @@ fn search_rel<L: TreeLog>(
 /// Whether a relation is possible at a pair, and the claim that says so. A family that was found for it is kept with the others.
 ///
 /// First the families are looked at, and then why no other can show it; only where both come to nothing one is searched for.
-pub(crate) fn settle_rel<L: TreeLog>(
+fn settle_rel<L: TreeLog>(
     alloc: Global,
     problem: &Problem,
     pair: u32,

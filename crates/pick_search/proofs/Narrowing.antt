@@ -1,13 +1,12 @@
 -- Problems where the pairs of picks are narrowed.
-use Rattle.std.proofs.Common.{◌≡◌, ℕ, ◌+◌, ◌<◌, List, [], ◌∷◌, ◌++◌, length, get_or, take, inl, inr, refl, sym, ap, ◌∙◌, subst, arith}
+use Rattle.std.proofs.Common.{◌≡◌, ℕ, ◌<◌, List, [], ◌∷◌, ◌++◌, length, get_or, refl, sym, ap, ◌∙◌, subst, arith}
 use Rattle.std.specs.Prelude.{All, IsTrue}
-use Rattle.std.proofs.lemmas.Bool.{cases_lt}
 use Rattle.std.proofs.lemmas.List.{get_or_append_left, get_or_push, length-append}
 use Rattle.rcc5_core.specs.Relation.{relation_of}
 use Rattle.rcc5_core.specs.RelationSet.{only}
 use Rattle.rcc5_core.specs.declared.RelSet.{RelSet}
 use Rattle.constraint_set.specs.Shape.{SameShape}
-use Rattle.world_model.specs.Family.{Family, meets, set_of}
+use Rattle.world_model.specs.Family.{meets, set_of}
 use Rattle.world_model.specs.Node.{pair_at}
 use Rattle.world_model.specs.Problem.{Problem, narrowed, pair_count}
 use Rattle.cert_rules.proofs.Narrowing.{met_is_shown, shown_is_met}

@@ -5,20 +5,46 @@ ghost use Rattle.std.specs.Prelude.{◌≡◌};
 use crate::picks::Pick;
 use constraint_set::Problem;
 use point_encode::Need;
+use point_pool::word_of;
 use point_query::{Asker, Probe};
-use rcc5_core::Position;
+use rcc5_core::{Occupancy, Position, forced};
 use std::alloc::{AllocError, Global};
 
-// Notes the pair of a region's selector.
-fn note(spoken: &mut Vec<u32>, problem: &Problem, variable: u32) -> Result<(), AllocError> {
-    if variable >= problem.concept_count() {
-        spoken.push((variable - problem.concept_count()) / 3)?;
+// Notes a pair, unless the problem alone says of its region what a reason takes: then no pick is to blame for it.
+fn note(
+    spoken: &mut Vec<u32>,
+    problem: &Problem,
+    pair: u32,
+    part: u32,
+    word: Occupancy,
+) -> Result<(), AllocError> {
+    if pair < problem.pair_count() && word_of(forced(problem.allowed(pair)), part) != word {
+        spoken.push(pair)?;
     }
     Ok(())
 }
 
-// The pairs that the reason speaks of why a problem is dead.
-fn spoken_of(alloc: Global, node: &Problem, asker: &mut Asker) -> Result<Vec<u32>, AllocError>
+// Notes the pair of a region's selector.
+fn note_selector(
+    spoken: &mut Vec<u32>,
+    problem: &Problem,
+    variable: u32,
+) -> Result<(), AllocError> {
+    let concepts = problem.concept_count();
+    if variable >= concepts {
+        let region = variable - concepts;
+        note(spoken, problem, region / 3, region % 3, Occupancy::Empty)?;
+    }
+    Ok(())
+}
+
+// The pairs that the reason speaks of why a problem is dead, where the unnarrowed problem does not say as much.
+fn spoken_of(
+    alloc: Global,
+    problem: &Problem,
+    node: &Problem,
+    asker: &mut Asker,
+) -> Result<Vec<u32>, AllocError>
     requires { asker.old.shape ≡ shape_of node.now }
     ensures { asker.new.shape ≡ asker.old.shape }
 {
@@ -27,12 +53,13 @@ fn spoken_of(alloc: Global, node: &Problem, asker: &mut Asker) -> Result<Vec<u32
         Probe::Alive => {}
         Probe::EmptyPair(pair) => spoken.push(pair)?,
         Probe::Closed(need, id) => {
-            if let Need::Region { pair, .. } = need {
-                spoken.push(pair)?;
+            if let Need::Region { pair, part } = need {
+                let part = u32::from(part);
+                note(&mut spoken, problem, pair, part, Occupancy::Occupied)?;
             }
             if let Some(lits) = asker.clause(id) {
                 for place in 0..lits.count() {
-                    note(&mut spoken, node, lits.lit(place).variable())?;
+                    note_selector(&mut spoken, problem, lits.lit(place).variable())?;
                 }
             }
         }
@@ -43,6 +70,7 @@ fn spoken_of(alloc: Global, node: &Problem, asker: &mut Asker) -> Result<Vec<u32
 // The picks to blame, if not all.
 pub(crate) fn blamed(
     alloc: Global,
+    problem: &Problem,
     node: &Problem,
     pairs: &[u32],
     picks: &[Pick],
@@ -51,7 +79,7 @@ pub(crate) fn blamed(
     requires { asker.old.shape ≡ shape_of node.now }
     ensures { asker.new.shape ≡ asker.old.shape }
 {
-    let spoken = spoken_of(alloc, node, asker)?;
+    let spoken = spoken_of(alloc, problem, node, asker)?;
     let mut few = Vec::new(alloc);
     for pick in picks {
         if let Some(pair) = pairs.get(pick.place) {

@@ -2,7 +2,7 @@
 ghost use Rattle.constraint_set.specs.Shape.{SameShape, shape_of};
 ghost use Rattle.pick_search.specs.Picking.{AreClashes, IsClash, IsPicked, IsTurn};
 ghost use Rattle.point_query.specs.Asking.{AskerGoes};
-ghost use Rattle.split_search.specs.Choosing.{IsChoice, IsMetBy};
+ghost use Rattle.split_search.specs.Choosing.{IsChoice, IsMetBy, IsTidy};
 ghost use Rattle.std.specs.Bool.{OnTrue};
 ghost use Rattle.std.specs.Prelude.{All, IfNone, IfOk, IfSome, IsTrue, OnOk, [], length, ◌<◌, ◌≡◌, ◌≤◌};
 ghost use Rattle.world_model.specs.Alive.{IsAlive, all_whole};
@@ -11,16 +11,21 @@ ghost use Rattle.world_model.specs.Problem.{pair_count};
 use crate::blame::blamed;
 use crate::picks::{Clash, Pick, picked};
 use crate::rules::next_picks;
+use cert_text::NoLog;
 use constraint_set::{MAX_PAIRS, Problem};
 use point_query::Asker;
 use rcc5_core::Position;
+use search_log::tidy;
 use set_family::Family;
-use split_search::Choice;
+use split_search::{Choice, choose};
 use std::alloc::{AllocError, Global};
 use world_model::whole_sets_are_decided;
 
-/// So many times picks are tried at most.
+/// So many times picks are tried at most: by then all clashes are given to a new solver at each turn for minutes.
 const MOST_TURNS: usize = 100_000;
+
+/// Between two looks at how many clauses of the asker are idle there are so many turns, since a look goes over all of them.
+const TIDY_TURNS: usize = 64;
 
 /// What a turn comes to.
 #[derive(Drop)]
@@ -101,7 +106,10 @@ fn clash_of(
     ensures clash { IfOk result (λ clash. IsClash problem.now pairs.now clash.picks.items) }
 {
     whole_sets_are_decided();
-    let few = blamed(alloc, node, pairs, &picks, asker)?;
+    let few = blamed(alloc, problem, node, pairs, &picks, asker)?;
+    if few.len() == picks.len() {
+        return Ok(Clash { picks });
+    }
     let smaller = picked(alloc, problem, pairs, &few)?;
     let alive = asker.is_alive(&smaller, &Position::new(alloc))?;
     if alive {
@@ -145,8 +153,29 @@ fn try_next(
     }
 }
 
-/// Whether a family meets a problem; no answer comes where that takes too many turns.
-pub fn choose_by_picks(
+// Drops the lines of the asker, which nobody reads, and forgets its idle clauses where they are many.
+fn clean(asker: &mut Asker) -> Result<(), AllocError>
+    ensures shape { asker.new.shape ≡ asker.old.shape }
+    ensures ready { OnOk result (IsTidy asker.new) }
+{
+    tidy(asker)?;
+    asker.clear_lines();
+    Ok(())
+}
+
+// Drops the lines before a turn, and at some turns forgets the idle clauses too.
+fn clean_at(asker: &mut Asker, turn: usize) -> Result<(), AllocError>
+    ensures { asker.new.shape ≡ asker.old.shape }
+{
+    if turn % TIDY_TURNS == TIDY_TURNS - 1 {
+        return clean(asker);
+    }
+    asker.clear_lines();
+    Ok(())
+}
+
+// Whether a family meets a problem; no answer comes where that takes too many turns.
+fn take_turns(
     alloc: Global,
     problem: &Problem,
     asker: &mut Asker,
@@ -157,13 +186,75 @@ pub fn choose_by_picks(
 {
     let pairs = split_pairs(alloc, problem)?;
     let mut clashes = Vec::new(alloc);
-    for _turn in 0..MOST_TURNS {
-        let turn = try_next(alloc, problem, &pairs, &mut clashes, asker)?;
-        match turn {
+    for turn in 0..MOST_TURNS {
+        clean_at(asker, turn)?;
+        let next = try_next(alloc, problem, &pairs, &mut clashes, asker)?;
+        match next {
             Turn::Done(choice) => return Ok(Some(choice)),
             Turn::On => {}
             Turn::Lost => return Ok(None),
         }
     }
     Ok(None)
+}
+
+// The same where all sets are whole: then no pair is picked for.
+fn choose_at_once(alloc: Global, problem: &Problem, asker: &mut Asker) -> Result<Choice, AllocError>
+    requires shape { asker.old.shape ≡ shape_of problem.now }
+    requires whole { IsTrue (all_whole problem.now) }
+    ensures shape { asker.new.shape ≡ asker.old.shape }
+    ensures choice { IfOk result (IsChoice problem.now) }
+{
+    whole_sets_are_decided();
+    let found = family_of(alloc, problem, asker)?;
+    match found {
+        Some(family) => Ok(Choice::Met(family)),
+        None => Ok(Choice::Refuted),
+    }
+}
+
+// The same by a walk.
+fn choose_by_walk(alloc: Global, problem: &Problem, asker: &mut Asker) -> Result<Choice, AllocError>
+    requires shape { asker.old.shape ≡ shape_of problem.now }
+    ensures shape { asker.new.shape ≡ asker.old.shape }
+    ensures choice { IfOk result (IsChoice problem.now) }
+{
+    match choose(alloc, problem, asker, &mut NoLog::new()) {
+        Ok(choice) => Ok(choice),
+        Err(_fault) => Err(AllocError),
+    }
+}
+
+// The same by picks, and where these take too many turns by a walk.
+fn decide(alloc: Global, problem: &Problem, asker: &mut Asker) -> Result<Choice, AllocError>
+    requires shape { asker.old.shape ≡ shape_of problem.now }
+    ensures shape { asker.new.shape ≡ asker.old.shape }
+    ensures choice { IfOk result (IsChoice problem.now) }
+{
+    if are_whole(problem) {
+        return choose_at_once(alloc, problem, asker);
+    }
+    let found = take_turns(alloc, problem, asker)?;
+    match found {
+        Some(choice) => Ok(choice),
+        None => choose_by_walk(alloc, problem, asker),
+    }
+}
+
+/// A family that meets the problem, where one does.
+///
+/// The lines that the asker derives meanwhile are dropped.
+pub fn choose_by_picks(
+    alloc: Global,
+    problem: &Problem,
+    asker: &mut Asker,
+) -> Result<Choice, AllocError>
+    requires shape { asker.old.shape ≡ shape_of problem.now }
+    ensures shape { asker.new.shape ≡ asker.old.shape }
+    ensures choice { IfOk result (IsChoice problem.now) }
+    ensures ready { OnOk result (IsTidy asker.new) }
+{
+    let choice = decide(alloc, problem, asker)?;
+    clean(asker)?;
+    Ok(choice)
 }

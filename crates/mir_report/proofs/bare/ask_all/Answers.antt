@@ -1,10 +1,7 @@
-use Rattle.std.proofs.Common.{◌≡◌, ◌∙◌, ◌∷◌, [], ℕ, length, slice_get, Some, All, refl, sym, ap, subst, arith}
+use Rattle.std.proofs.Common.{◌≡◌, ◌∙◌, ◌∷◌, [], ℕ, length, slice_get, Some, refl, sym, ap, subst, arith}
 use Rattle.std.proofs.lemmas.List.{length-append}
-use Rattle.std.proofs.lemmas.List.Elements.{All-nil}
 use Rattle.rcc5_core.specs.declared.RelSet.{RelSet}
-use Rattle.split_search.specs.Choosing.{IsMetBy}
 use Rattle.mir_report.specs.Possible.{IsPossibleSet}
-use Rattle.mir_report.proofs.Laws.{cross_within}
 use Rattle.mir_report.proofs.Claims.{sets_more}
 use Rattle.mir_report.proofs.bare.ask_all.Goals as goal
 
@@ -13,13 +10,10 @@ pairs-init c =
     let p = c.args.problem.now in
     record {
       shape = refl;
-      families = subst (All (IsMetBy p)) (sym c.new-families.ensures.items) (All-nil (IsMetBy p));
+      seen = c.in_ok-seen.ensures;
       count = ap length c.new-sets.ensures.items;
       each = subst (λ sets. (k : ℕ) (one : RelSet) → slice_get sets k ≡ Some one → IsPossibleSet p k one) (sym c.new-sets.ensures.items) (λ k one e. cc);
     }
-
-pub ask_pair-requires-clause-within : goal.ask_pair-requires-clause-within
-ask_pair-requires-clause-within c = cross_within c.args.problem.now c.pairs.pair (omega arith)
 
 pub pairs-preserved : goal.pairs-preserved
 pairs-preserved c =
@@ -30,7 +24,7 @@ pairs-preserved c =
     let more = c.in_ok-put.ensures in
     record {
       shape = c.ask_pair.ensures.shape ∙ c.pairs.invariant.shape;
-      families = c.in_ok-set.ensures.families;
+      seen = c.in_ok-set.ensures.seen;
       count =
           let long = ap length more in
           let all = length-append sets (set ∷ []) in

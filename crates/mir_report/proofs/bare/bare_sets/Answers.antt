@@ -12,8 +12,8 @@ returns-then-are_whole-clause-sets c =
     let told = subst (λ found. IfSome found (λ sets. AreAliveAlone p c.cross_count.result sets.items)) c.in-Some.is c.in_ok-alive.ensures in
     alive_sets_are_possible p c.in-Some.alive.items c.facts.ensures.built.valid c.if-are_whole.ensures (told_alive p c.cross_count.result c.in-Some.alive.items c.cross_count.ensures told)
 
-pub ask_all-requires-2-clause-among : goal.ask_all-requires-2-clause-among
-ask_all-requires-2-clause-among c =
+pub ask_among-requires-2-clause-among : goal.ask_among-requires-2-clause-among
+ask_among-requires-2-clause-among c =
     let p = c.args.problem.now in
     let told = subst (λ found. IfSome found (λ sets. AreAliveAlone p c.cross_count.result sets.items)) c.in-Some.is c.in_ok-alive.ensures in
     subst (AreCandidates p (length (cross_pairs p))) (sym c.deref-2.ensures.value) (told_candidates p c.cross_count.result c.in-Some.alive.items c.cross_count.ensures told)

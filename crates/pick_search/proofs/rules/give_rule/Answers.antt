@@ -1,4 +1,4 @@
-use Rattle.std.proofs.Common.{refl, sym, subst}
+use Rattle.std.proofs.Common.{refl, subst}
 use Rattle.learn_solver.specs.Solving.{AddsGiven}
 use Rattle.pick_search.proofs.Ruling.{ready_more, rule_true}
 use Rattle.pick_search.proofs.rules.give_rule.Goals as goal

@@ -5,6 +5,9 @@ use Rattle.pick_search.specs.Picking.{IsPicked}
 use Rattle.pick_search.proofs.Deciding.{at_root, dead_clash}
 use Rattle.pick_search.proofs.search.clash_of.Goals as goal
 
+pub returns-then-len-clause-clash : goal.returns-then-len-clause-clash
+returns-then-len-clause-clash c = dead_clash c.whole_sets_are_decided.ensures c.args.problem.now c.args.node.now c.args.pairs.now c.args.picks.items c.requires.node c.requires.dead
+
 pub returns-then-alive-clause-clash : goal.returns-then-alive-clause-clash
 returns-then-alive-clause-clash c = dead_clash c.whole_sets_are_decided.ensures c.args.problem.now c.args.node.now c.args.pairs.now c.args.picks.items c.requires.node c.requires.dead
 

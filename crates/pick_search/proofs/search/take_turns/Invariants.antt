@@ -1,6 +1,6 @@
 use Rattle.std.proofs.Common.{◌≡◌}
 use Rattle.pick_search.specs.Picking.{AreClashes}
-use Rattle.pick_search.proofs.search.choose_by_picks.Given as goal
+use Rattle.pick_search.proofs.search.take_turns.Given as goal
 
 abbrev pub invariant-loop-turn : goal.invariant-loop-turn
 invariant-loop-turn l = record {
