@@ -1,12 +1,12 @@
 -- Lists of flags: which keep fewer than others, and the places of those that are true.
-use Rattle.std.proofs.Common.{◌≡◌, ℕ, zero, suc, ◌+◌, ◌<◌, Bool, true, false, List, [], ◌∷◌, ◌++◌, map, length, get_or, take, drop, set, length-take-le, refl, sym, ap, ◌∙◌, subst, arith, is_lt}
+use Rattle.std.proofs.Common.{◌≡◌, ℕ, zero, suc, ◌+◌, ◌<◌, ◌≤◌, Bool, true, false, List, [], ◌∷◌, ◌++◌, map, length, get_or, take, drop, set, length-take-le, refl, sym, ap, ◌∙◌, subst, arith, is_lt}
 use Rattle.std.specs.Prelude.{Some, slice_get}
 use Rattle.std.proofs.lemmas.Bool.{false≢true}
 use Rattle.std.proofs.lemmas.List.{take_more}
 use Rattle.std.proofs.lemmas.Option.{same_Some}
 use Rattle.world_model.specs.Questions.{flags_cmp}
 use Rattle.conflict_min.specs.Conflicts.{places_from}
-use Rattle.conflict_min.specs.Shrinking.{IsWithin}
+use Rattle.conflict_min.specs.Shrinking.{cut, IsWithin}
 
 -- all flags true, one for each of a list
 abbrev trues : {X : Type 0} → List X → List Bool
@@ -105,3 +105,40 @@ item_beside [] ys m x n h = absurd (cc)
 item_beside (x ∷ xs) [] m z n h = absurd (omega arith)
 item_beside (x ∷ xs) (y ∷ ys) zero z n h = (y, refl)
 item_beside (x ∷ xs) (y ∷ ys) (suc m) z n h = item_beside xs ys m z (omega arith) h
+
+-- none taken off
+pub cut_none : (kept : List Bool) (place : ℕ) → cut kept place 0 ≡ kept
+cut_none [] place = refl
+cut_none (b ∷ kept) zero = refl
+cut_none (b ∷ kept) (suc place) = ap (λ flags. b ∷ flags) (cut_none kept place)
+
+-- there are as many flags when some are taken off
+pub length_cut : (kept : List Bool) (place count : ℕ) → length (cut kept place count) ≡ length kept
+length_cut [] place count = refl
+length_cut (b ∷ kept) (suc place) count = ap suc (length_cut kept place count)
+length_cut (b ∷ kept) zero (suc count) = ap suc (length_cut kept 0 count)
+length_cut (b ∷ kept) zero zero = refl
+
+-- one more taken off
+pub cut_more : (kept : List Bool) (place count : ℕ) → place + count < length kept → set (cut kept place count) (place + count) false ≡ cut kept place (suc count)
+cut_more [] place count low = absurd (omega arith)
+cut_more (b ∷ kept) (suc place) count low =
+    let next : suc place + count ≡ suc (place + count) = omega arith in
+    ap (λ k. set (b ∷ cut kept place count) k false) next ∙ ap (λ flags. b ∷ flags) (cut_more kept place count (omega arith))
+cut_more (b ∷ kept) zero zero low = ap (λ flags. false ∷ flags) (sym (cut_none kept 0))
+cut_more (b ∷ kept) zero (suc count) low =
+    let next : 0 + suc count ≡ suc (0 + count) = omega arith in ap (λ k. set (false ∷ cut kept 0 count) k false) next ∙ ap (λ flags. false ∷ flags) (cut_more kept 0 count (omega arith))
+
+-- where more are taken off, fewer are kept
+within_false : (b : Bool) (fewer more : List Bool) → IsWithin fewer more → IsWithin (false ∷ fewer) (b ∷ more)
+within_false b fewer more within zero h = let no : Some false ≡ Some true = h in absurd (cc)
+within_false b fewer more within (suc k) h = within k h
+
+pub cut_within : (kept : List Bool) (place few many : ℕ) → few ≤ many → IsWithin (cut kept place many) (cut kept place few)
+cut_within [] place few many h k at = at
+cut_within (b ∷ kept) (suc place) few many h k at = within_cons b (cut kept place many) (cut kept place few) (cut_within kept place few many h) k at
+cut_within (b ∷ kept) zero zero zero h k at = at
+cut_within (b ∷ kept) zero zero (suc many) h k at =
+    within_false b (cut kept 0 many) kept (subst (IsWithin (cut kept 0 many)) (cut_none kept 0) (cut_within kept 0 0 many (omega arith))) k at
+cut_within (b ∷ kept) zero (suc few) zero h k at = absurd (omega arith)
+cut_within (b ∷ kept) zero (suc few) (suc many) h k at = within_cons false (cut kept 0 many) (cut kept 0 few) (cut_within kept 0 few many (omega arith)) k at

@@ -1,5 +1,5 @@
 -- What a pass over the articulations leaves: the least conflict.
-use Rattle.std.proofs.Common.{◌≡◌, ℕ, zero, suc, ◌+◌, ◌<◌, Bool, true, false, not, List, [], ◌∷◌, ◌++◌, ◌⊎◌, inl, inr, length, get_or, take, drop, set, refl, sym, ap, ◌∙◌, subst, arith, is_lt, IsTrue, add-one, length-set, length-take-le, drop-drop, take_all, set-set}
+use Rattle.std.proofs.Common.{◌≡◌, ℕ, zero, suc, ◌+◌, ◌<◌, ◌≤◌, Bool, true, false, not, List, [], ◌∷◌, ◌++◌, ◌⊎◌, inl, inr, length, get_or, take, drop, set, refl, sym, ap, ◌∙◌, subst, arith, is_lt, IsTrue, add-one, length-set, length-take-le, drop-drop, take_all, set-set}
 use Rattle.std.specs.Prelude.{Some, slice_get}
 use Rattle.std.proofs.lemmas.Bool.{cases_Bool}
 use Rattle.std.proofs.lemmas.List.{set_split, take-set, take-set-le, get_or-set_same, drop-set-lt, length_push, length-map}
@@ -9,9 +9,9 @@ use Rattle.world_model.specs.Family.{Family}
 use Rattle.world_model.specs.Questions.{HasFlags, IsConsistent, IsLeastConflict, flags_cmp}
 use Rattle.split_search.specs.Choosing.{IsMetBy}
 use Rattle.conflict_min.specs.Conflicts.{all_kept, places_from, AreLosses}
-use Rattle.conflict_min.specs.Shrinking.{without_at, IsShrunk, IsWithin}
-use Rattle.conflict_min.proofs.Fewer.{met_by_fewer}
-use Rattle.conflict_min.proofs.Flags.{within_cut, IsBefore, is_before, set_back, places_more, places_less, places_within, place_found, item_beside}
+use Rattle.conflict_min.specs.Shrinking.{cut, without_at, IsShrunk, IsWithin}
+use Rattle.conflict_min.proofs.Fewer.{consistent_fewer, met_by_fewer}
+use Rattle.conflict_min.proofs.Flags.{cut_none, cut_more, cut_within, within_cut, IsBefore, is_before, set_back, places_more, places_less, places_within, place_found, item_beside}
 
 -- before any is tried
 pub shrunk_none : (p : Problem) → (IsConsistent p (all_kept p) → ⊥) → IsShrunk p 0 (all_kept p) []
@@ -93,6 +93,21 @@ module _ (p : Problem) (place : ℕ) (kept : List Bool) (families : List Family)
             subst (λ k. IsMetBy (restricted p (without_at p kept k)) g) new.0
             (subst (λ g. IsMetBy (restricted p (without_at p kept place)) g) new.1 (subst (λ flags. IsMetBy (restricted p flags) f) tried_is met))
       ]
+
+-- several that are dropped together could have been dropped one after the other
+pub shrunk_cut : (p : Problem) (place count : ℕ) (kept : List Bool) (families : List Family) → IsShrunk p place kept families → place + count ≤ length p.articulations →
+    (IsConsistent p (cut kept place count) → ⊥) → IsShrunk p (place + count) (cut kept place count) families
+shrunk_cut p place zero kept families so upto inconsistent =
+    subst (λ n. IsShrunk p n (cut kept place 0) families) (omega arith) (subst (λ flags. IsShrunk p place flags families) (sym (cut_none kept place)) so)
+shrunk_cut p place (suc count) kept families so upto inconsistent =
+    let before =
+    shrunk_cut p place count kept families so (omega (arith, upto))
+    (λ consistent. inconsistent (consistent_fewer p (cut kept place (suc count)) (cut kept place count) (cut_within kept place count (suc count) (omega arith)) consistent))
+    in
+    let one = cut_more kept place count (omega (arith, upto, so.flags)) in
+    subst (λ n. IsShrunk p n (cut kept place (suc count)) families) (omega arith)
+    (subst (λ flags. IsShrunk p (place + count + 1) flags families) one
+    (shrunk_dropped p (place + count) (cut kept place count) families before (omega (arith, upto)) (subst (λ flags. IsConsistent p flags → ⊥) (sym one) inconsistent)))
 
 -- where all are gone through, those that are kept are the least conflict
 pub least_of : (p : Problem) (kept : List Bool) (families : List Family) → IsShrunk p (length p.articulations) kept families → IsLeastConflict p kept × AreLosses p kept families

@@ -1,5 +1,5 @@
 -- How far the articulations have been gone through.
-use Rattle.std.specs.Prelude.{◌≡◌, ℕ, ◌+◌, ◌≤◌, Bool, true, false, List, ◌∷◌, ◌++◌, length, take, drop, Some, slice_get, Contains, ◌⊎◌}
+use Rattle.std.specs.Prelude.{◌≡◌, ℕ, ◌+◌, ◌≤◌, zero, suc, Bool, true, false, List, [], ◌∷◌, ◌++◌, length, take, drop, Some, slice_get, Contains, ◌⊎◌}
 use Rattle.world_model.specs.Problem.{Problem, restricted}
 use Rattle.world_model.specs.Family.{Family}
 use Rattle.world_model.specs.Questions.{HasFlags, IsConsistent}
@@ -7,6 +7,18 @@ use Rattle.cert_text.specs.declared.line.Subject.TheVariants.{Kept}
 use Rattle.cert_rules.specs.ClaimLists.{Claim}
 use Rattle.split_search.specs.Choosing.{IsMetBy}
 use Rattle.conflict_min.specs.Conflicts.{all_kept, places_from}
+
+-- so many flags from a place on are taken off
+abbrev pub cut : List Bool → ℕ → ℕ → List Bool
+cut [] place count = []
+cut (b ∷ kept) (suc place) count = b ∷ cut kept place count
+cut (b ∷ kept) zero (suc count) = false ∷ cut kept zero count
+cut (b ∷ kept) zero zero = b ∷ kept
+
+-- so many articulations from a place on were dropped together, and no family meets what is kept
+pub record IsCut (p : Problem) (place : ℕ) (old new : List Bool) (count : ℕ) : Type 0 where
+  pub without : new ≡ cut old place count
+  pub inconsistent : IsConsistent p new → ⊥
 
 -- the flags that were tried without an articulation: those before it as they came out, and all behind it
 abbrev pub without_at : Problem → List Bool → ℕ → List Bool

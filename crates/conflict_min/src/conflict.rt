@@ -43,8 +43,8 @@ pub(crate) enum Found {
 /// The inconsistent subset of the articulations whose list of flags, in input order, is the least.
 ///
 /// The articulations are gone through in input order, and each is dropped without which those left are still in conflict. Whether
-/// the problem keeps all of them itself doesn't matter. A log is told the claims of the answer, with one more for each articulation
-/// that was tried, and no tree is left open.
+/// the problem keeps all of them itself doesn't matter. A log is told the claims of the answer, with one more for each set that was
+/// tried, and no tree is left open.
 pub fn least_conflict<L: TreeLog>(
     alloc: Global,
     problem: &Problem,

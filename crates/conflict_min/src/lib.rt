@@ -3,5 +3,6 @@
 
 mod conflict;
 mod shrink;
+mod tries;
 
 pub use conflict::{Conflict, ConflictFault, least_conflict};

@@ -1,18 +1,19 @@
-//! Articulations dropped one after the other.
-ghost use Rattle.std.specs.Prelude.{◌≡◌, ◌+◌, ◌<◌, true, false, [], ◌∷◌, ◌++◌, length, set, IfOk, OnOk};
+//! A pass over the articulations, by which those are dropped that are not needed.
+ghost use Rattle.std.specs.Prelude.{◌≡◌, ◌+◌, ◌<◌, ◌≤◌, true, false, length, set, IfOk, OnOk};
 ghost use Rattle.world_model.specs.Problem.{restricted};
 ghost use Rattle.world_model.specs.Questions.{HasFlags, IsConsistent};
 ghost use Rattle.constraint_set.specs.Shape.{shape_of};
 ghost use Rattle.cert_text.specs.declared.line.Subject.TheVariants.{Kept};
 ghost use Rattle.search_log.specs.Logging.{LogGoes};
-ghost use Rattle.split_search.specs.Choosing.{IsChoice, IsMetBy};
-ghost use Rattle.claim_blocks.specs.Blocks.{claimed, settled, KeepsClaims};
+ghost use Rattle.split_search.specs.Choosing.{IsMetBy};
+ghost use Rattle.claim_blocks.specs.Blocks.{claimed, KeepsClaims};
 ghost use Rattle.conflict_min.specs.Conflicts.{all_kept, places_from, loss_claims, IsLeast, IsFound, IsClaimedOf};
 ghost use Rattle.conflict_min.specs.Shrinking.{IsShrunk, IsDropped};
 
 use crate::conflict::{Conflict, Found};
+use crate::tries::{drop_some, settle_kept, try_without};
 use cert_text::{Flags, Subject, TreeLog};
-use claim_blocks::{settle, show};
+use claim_blocks::show;
 use constraint_set::Problem;
 use point_query::Asker;
 use search_log::StepFault;
@@ -20,40 +21,64 @@ use set_family::Family;
 use split_search::Choice;
 use std::alloc::{AllocError, Global};
 
-// Whether the articulations with these flags hold together, and the claim that says so.
-fn settle_kept<L: TreeLog>(
-    alloc: Global,
-    problem: &Problem,
-    kept: &[bool],
-    asker: &mut Asker,
-    log: &mut L,
-) -> Result<Choice, StepFault>
-    requires shape { asker.old.shape ≡ shape_of problem.now }
-    requires flags { HasFlags problem.now kept.now }
-    ensures shape { asker.new.shape ≡ asker.old.shape }
-    ensures answer { IfOk result (IsChoice (restricted problem.now kept.now)) }
-    ensures keeps { KeepsClaims problem.now result (λ choice more. more ≡ settled (Kept kept.now) choice) (L.lines log.old) (L.lines log.new) asker.old asker.new }
-    ensures log { LogGoes L.drops L.lines L.faults L.steady L.quiet result log.old log.new }
-{
-    let subject = Subject::Kept(Flags::new(Vec::from_slice(alloc, kept)?));
-    let restricted = problem.restricted(alloc, kept)?;
-    settle(alloc, &subject, &restricted, asker, log)
+/// How far a pass over the articulations is.
+#[derive(Drop)]
+pub(crate) struct Pass {
+    /// The place of the articulation that is tried next.
+    pub(crate) next: usize,
+    /// At most so many are tried together then.
+    pub(crate) most: usize,
 }
 
-// One more family.
-fn add_family(families: &mut Vec<Family>, family: Family) -> Result<(), AllocError>
-    ensures { OnOk result (families.new.items ≡ families.old.items ++ family ∷ []) }
-{
-    families.push(family)?;
-    Ok(())
+// How many articulations are tried together next: after one that is kept a single one; else twice as many where all were dropped
+// together, and half as many where they were not.
+fn most_after(most: usize, passed: usize, is_kept: bool) -> usize {
+    if is_kept {
+        return 1;
+    }
+    if passed == most {
+        most.saturating_mul(2)
+    } else {
+        most / 2
+    }
 }
 
-// Tries without the articulation at a place: it is dropped where those left are in conflict still, and else kept with a family
-// that shows why.
-fn try_without<L: TreeLog>(
+// Goes on from a place: drops at most so many articulations together, and where not all of these can be dropped, tries without the
+// first of them alone. How many were gone through.
+fn pass_some<L: TreeLog>(
     alloc: Global,
     problem: &Problem,
     place: usize,
+    most: usize,
+    kept: &mut Vec<bool>,
+    families: &mut Vec<Family>,
+    asker: &mut Asker,
+    log: &mut L,
+) -> Result<usize, StepFault>
+    requires shape { asker.old.shape ≡ shape_of problem.now }
+    requires within { place < length problem.now.articulations }
+    requires upto { place + most ≤ length problem.now.articulations }
+    requires before { IsShrunk problem.now place kept.old.items families.old.items }
+    ensures shape { asker.new.shape ≡ asker.old.shape }
+    ensures some { IfOk result (λ passed. 0 < passed) }
+    ensures after { IfOk result (λ passed. IsShrunk problem.now (place + passed) kept.new.items families.new.items) }
+    ensures keeps { KeepsClaims problem.now result (λ _ more. IsDropped kept.old.items kept.new.items more) (L.lines log.old) (L.lines log.new) asker.old asker.new }
+    ensures log { LogGoes L.drops L.lines L.faults L.steady L.quiet result log.old log.new }
+{
+    let dropped = drop_some(alloc, problem, place, most, kept, asker, log)?;
+    if dropped > 0 {
+        return Ok(dropped);
+    }
+    try_without(alloc, problem, place, kept, families, asker, log)?;
+    Ok(1)
+}
+
+// Goes on from a place that is not gone through yet.
+fn go_on<L: TreeLog>(
+    alloc: Global,
+    problem: &Problem,
+    place: usize,
+    pass: &mut Pass,
     kept: &mut Vec<bool>,
     families: &mut Vec<Family>,
     asker: &mut Asker,
@@ -61,21 +86,22 @@ fn try_without<L: TreeLog>(
 ) -> Result<(), StepFault>
     requires shape { asker.old.shape ≡ shape_of problem.now }
     requires within { place < length problem.now.articulations }
-    requires before { IsShrunk problem.now place kept.old.items families.old.items }
+    requires upto { place ≤ pass.old.next }
+    requires before { IsShrunk problem.now pass.old.next kept.old.items families.old.items }
     ensures shape { asker.new.shape ≡ asker.old.shape }
-    ensures after { OnOk result (IsShrunk problem.now (place + 1) kept.new.items families.new.items) }
+    ensures further { OnOk result (place < pass.new.next) }
+    ensures after { OnOk result (IsShrunk problem.now pass.new.next kept.new.items families.new.items) }
     ensures keeps { KeepsClaims problem.now result (λ _ more. IsDropped kept.old.items kept.new.items more) (L.lines log.old) (L.lines log.new) asker.old asker.new }
     ensures log { LogGoes L.drops L.lines L.faults L.steady L.quiet result log.old log.new }
 {
-    kept[place] = false;
-    match settle_kept(alloc, problem, kept, asker, log)? {
-        Choice::Refuted => Ok(()),
-        Choice::Met(family) => {
-            kept[place] = true;
-            add_family(families, family)?;
-            Ok(())
-        }
+    if place < pass.next {
+        return Ok(());
     }
+    let most = pass.most.min(kept.len() - place);
+    let passed = pass_some(alloc, problem, place, most, kept, families, asker, log)?;
+    pass.most = most_after(pass.most, passed, kept[place]);
+    pass.next = place + passed;
+    Ok(())
 }
 
 // Goes through all articulations, which are in conflict.
@@ -96,8 +122,18 @@ fn shrink<L: TreeLog>(
 {
     let mut kept = all;
     let mut families = Vec::new(alloc);
+    let mut pass = Pass { next: 0, most: 1 };
     'places: for place in 0..kept.len() {
-        try_without(alloc, problem, place, &mut kept, &mut families, asker, log)?;
+        go_on(
+            alloc,
+            problem,
+            place,
+            &mut pass,
+            &mut kept,
+            &mut families,
+            asker,
+            log,
+        )?;
     }
     Ok(Conflict { kept, families })
 }

@@ -2,7 +2,7 @@ use Rattle.std.proofs.Common.{◌≡◌, ◌∙◌, subst}
 use Rattle.cert_text.specs.declared.line.Subject.TheVariants.{Kept}
 use Rattle.claim_blocks.specs.Blocks.{settled, KeepsClaims}
 use Rattle.conflict_min.proofs.Claims.{untouched, kept_subject}
-use Rattle.conflict_min.proofs.shrink.settle_kept.Goals as goal
+use Rattle.conflict_min.proofs.tries.settle_kept.Goals as goal
 
 pub returns-in_err-from_slice-clause-keeps : goal.returns-in_err-from_slice-clause-keeps
 returns-in_err-from_slice-clause-keeps g c =

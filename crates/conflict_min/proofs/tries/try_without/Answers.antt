@@ -8,7 +8,7 @@ use Rattle.cert_text.specs.declared.line.Subject.TheVariants.{Kept}
 use Rattle.conflict_min.specs.Shrinking.{IsShrunk}
 use Rattle.conflict_min.proofs.Claims.{made_told, refuted_dropped, kept_undropped}
 use Rattle.conflict_min.proofs.Passes.{put_back, shrunk_dropped, shrunk_kept}
-use Rattle.conflict_min.proofs.shrink.try_without.Goals as goal
+use Rattle.conflict_min.proofs.tries.try_without.Goals as goal
 
 pub returns-in-Refuted-clause-after : goal.returns-in-Refuted-clause-after
 returns-in-Refuted-clause-after g c =
