@@ -4,6 +4,7 @@ ghost use Rattle.world_model.specs.Problem.{cross_pairs};
 ghost use Rattle.world_model.specs.Questions.{IsPossibleRelation};
 ghost use Rattle.constraint_set.specs.Shape.{shape_of};
 ghost use Rattle.split_search.specs.Choosing.{IsMetBy};
+ghost use Rattle.pick_search.specs.Picking.{IsKnown};
 ghost use Rattle.mir_report.specs.Possible.{IsPossibleSet, ArePossibleSets};
 ghost use Rattle.mir_report.specs.Steps.{AreCandidates, AreSeen, HasPossible};
 
@@ -11,7 +12,7 @@ use crate::found::put;
 use crate::possible::{MirSets, RELS};
 use crate::seen::{none_seen, seen_with};
 use constraint_set::Problem;
-use pick_search::{are_whole, choose_by_picks};
+use pick_search::{Known, are_whole, choose_part};
 use point_ladder::{MOST_POINTS, MOST_TRIES, alive_alone};
 use point_query::Asker;
 use rcc5_core::{Rel, RelSet};
@@ -37,17 +38,20 @@ fn ask_for(
     pair: u32,
     rel: Rel,
     seen: &mut Vec<RelSet>,
+    known: &mut Known,
     asker: &mut Asker,
 ) -> Result<bool, AllocError>
     requires shape { asker.old.shape ≡ shape_of problem.now }
+    requires known { IsKnown problem.now known.old }
     requires cross { pair < length (cross_pairs problem.now) }
     requires seen { AreSeen problem.now (length (cross_pairs problem.now)) seen.old.items }
     ensures shape { asker.new.shape ≡ asker.old.shape }
+    ensures known { OnOk result (IsKnown problem.now known.new) }
     ensures seen { OnOk result (AreSeen problem.now (length (cross_pairs problem.now)) seen.new.items) }
     ensures answer { IfOk result (λ some. IsTrue some ↔ IsPossibleRelation problem.now pair rel) }
 {
     let narrowed = problem.narrowed(alloc, pair, RelSet::one(rel))?;
-    let choice = choose_by_picks(alloc, &narrowed, asker)?;
+    let choice = choose_part(alloc, problem, &narrowed, known, asker)?;
     match choice {
         Choice::Refuted => Ok(false),
         Choice::Met(family) => {
@@ -65,13 +69,16 @@ fn ask_if_among(
     among: RelSet,
     rel: Rel,
     seen: &mut Vec<RelSet>,
+    known: &mut Known,
     asker: &mut Asker,
 ) -> Result<bool, AllocError>
     requires shape { asker.old.shape ≡ shape_of problem.now }
+    requires known { IsKnown problem.now known.old }
     requires cross { pair < length (cross_pairs problem.now) }
     requires among { HasPossible problem.now pair among }
     requires seen { AreSeen problem.now (length (cross_pairs problem.now)) seen.old.items }
     ensures shape { asker.new.shape ≡ asker.old.shape }
+    ensures known { OnOk result (IsKnown problem.now known.new) }
     ensures seen { OnOk result (AreSeen problem.now (length (cross_pairs problem.now)) seen.new.items) }
     ensures answer { IfOk result (λ some. IsTrue some ↔ IsPossibleRelation problem.now pair rel) }
 {
@@ -81,7 +88,7 @@ fn ask_if_among(
     if seen[pair as usize].has(rel) {
         return Ok(true);
     }
-    ask_for(alloc, problem, pair, rel, seen, asker)
+    ask_for(alloc, problem, pair, rel, seen, known, asker)
 }
 
 // The possible relations of a pair, which are among some.
@@ -91,19 +98,22 @@ fn ask_pair(
     pair: u32,
     among: RelSet,
     seen: &mut Vec<RelSet>,
+    known: &mut Known,
     asker: &mut Asker,
 ) -> Result<RelSet, AllocError>
     requires shape { asker.old.shape ≡ shape_of problem.now }
+    requires known { IsKnown problem.now known.old }
     requires cross { pair < length (cross_pairs problem.now) }
     requires among { HasPossible problem.now pair among }
     requires seen { AreSeen problem.now (length (cross_pairs problem.now)) seen.old.items }
     ensures shape { asker.new.shape ≡ asker.old.shape }
+    ensures known { OnOk result (IsKnown problem.now known.new) }
     ensures seen { OnOk result (AreSeen problem.now (length (cross_pairs problem.now)) seen.new.items) }
     ensures answer { IfOk result (IsPossibleSet problem.now pair) }
 {
     let mut set = RelSet::none();
     'rels: for rel in RELS {
-        if ask_if_among(alloc, problem, pair, among, rel, seen, asker)? {
+        if ask_if_among(alloc, problem, pair, among, rel, seen, known, asker)? {
             set = set.with(rel);
         }
     }
@@ -116,12 +126,15 @@ fn ask_all(
     problem: &Problem,
     among: &[RelSet],
     family: Family,
+    known: &mut Known,
     asker: &mut Asker,
 ) -> Result<MirSets, AllocError>
     requires shape { asker.old.shape ≡ shape_of problem.now }
+    requires known { IsKnown problem.now known.old }
     requires met { IsMetBy problem.now family }
     requires among { AreCandidates problem.now (length (cross_pairs problem.now)) among.now }
     ensures shape { asker.new.shape ≡ asker.old.shape }
+    ensures known { OnOk result (IsKnown problem.now known.new) }
     ensures sets { IfOk result (λ mir. ArePossibleSets problem.now mir.sets.items) }
 {
     let none = none_seen(alloc, problem)?;
@@ -129,7 +142,7 @@ fn ask_all(
     let mut sets = Vec::new(alloc);
     'pairs: for pair in 0..problem.cross_count() {
         let some = among[pair as usize];
-        let set = ask_pair(alloc, problem, pair, some, &mut seen, asker)?;
+        let set = ask_pair(alloc, problem, pair, some, &mut seen, known, asker)?;
         put(&mut sets, set)?;
     }
     Ok(MirSets { sets })
@@ -147,13 +160,14 @@ fn ask_among(
     ensures shape { asker.new.shape ≡ asker.old.shape }
     ensures sets { IfOk result (λ mir. ArePossibleSets problem.now mir.sets.items) }
 {
-    let choice = choose_by_picks(alloc, problem, asker)?;
+    let mut known = Known::new(alloc, problem)?;
+    let choice = choose_part(alloc, problem, problem, &mut known, asker)?;
     match choice {
         Choice::Refuted => {
             let sets = none_seen(alloc, problem)?;
             Ok(MirSets { sets })
         }
-        Choice::Met(family) => ask_all(alloc, problem, among, family, asker),
+        Choice::Met(family) => ask_all(alloc, problem, among, family, &mut known, asker),
     }
 }
 

@@ -1,5 +1,5 @@
 -- Picks: a relation for a pair, by the pair's place in a list of pairs.
-use Rattle.std.specs.Prelude.{All, Bool, Contains, IsTrue, List, [], ℕ, length, map, slice_index_or, ◌%◌, ◌*◌, ◌+◌, ◌/◌, ◌==◌, ◌≡◌}
+use Rattle.std.specs.Prelude.{All, Bool, Contains, IsTrue, List, [], ℕ, length, map, slice_index_or, ◌%◌, ◌*◌, ◌+◌, ◌/◌, ◌<◌, ◌==◌, ◌≡◌, ◌≤◌}
 use Rattle.std.specs.List.{range_with_len}
 use Rattle.cert_model.specs.Clauses.{is_not, is_so}
 use Rattle.learn_solver.specs.Solving.{SolverState}
@@ -12,12 +12,13 @@ use Rattle.rcc5_core.specs.declared.Rel.{Rel}
 use Rattle.rcc5_core.specs.declared.Rel.TheVariants.{Disjoint, Equals, IncludedIn, Includes, Overlaps}
 use Rattle.pick_search.specs.declared.picks.Clash.{Clash}
 use Rattle.pick_search.specs.declared.picks.Pick.{Pick}
+use Rattle.pick_search.specs.declared.known.Known.{Known}
 use Rattle.pick_search.specs.declared.search.Turn.{Turn}
 use Rattle.pick_search.specs.declared.search.Turn.TheVariants.{Done, Lost, On}
 use Rattle.split_search.specs.Choosing.{IsChoice}
 use Rattle.world_model.specs.Family.{Family, meets, set_of}
 use Rattle.world_model.specs.Node.{pair_at}
-use Rattle.world_model.specs.Problem.{Problem}
+use Rattle.world_model.specs.Problem.{Problem, pair_count}
 use Rattle.constraint_set.specs.Shape.{SameShape}
 
 -- the relation that a family has at a place in a list of pairs
@@ -77,6 +78,17 @@ pub record IsReady (p : Problem) (pairs : List ℕ) (s : SolverState) : Type 0 w
 -- each of some picks clash
 abbrev pub AreClashes : Problem → List ℕ → List Clash → Type 0
 AreClashes p pairs clashes = All (λ clash. IsClash p pairs clash.picks.items) clashes
+
+-- each family that meets a part of a problem meets it too
+pub record IsPartOf (p wide : Problem) : Type 0 where
+  pub shape : SameShape p wide
+  pub within : (f : Family) → IsTrue (meets p f) → IsTrue (meets wide f)
+
+-- what is known of a problem: some of its pairs, and picks for them that clash
+pub record IsKnown (p : Problem) (known : Known) : Type 0 where
+  pub few : length known.pairs.items ≤ pair_count p
+  pub within : All (λ pair. pair < pair_count p) known.pairs.items
+  pub clashes : AreClashes p known.pairs.items known.clashes.items
 
 -- what a turn is done with is right
 abbrev pub IsTurn : Problem → Turn → Type 0

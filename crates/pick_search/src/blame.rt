@@ -67,6 +67,24 @@ fn spoken_of(
     Ok(spoken)
 }
 
+// Whether each of some pairs is among others.
+fn are_among(few: &[u32], pairs: &[u32]) -> bool {
+    for pair in few {
+        if !pairs.contains(pair) {
+            return false;
+        }
+    }
+    true
+}
+
+/// Which picks may be to blame.
+#[derive(Drop)]
+pub(crate) struct Blame {
+    pub(crate) picks: Vec<Pick>,
+    /// Whether the reason speaks of no other pairs than theirs.
+    pub(crate) is_theirs: bool,
+}
+
 // The picks to blame, if not all.
 pub(crate) fn blamed(
     alloc: Global,
@@ -75,11 +93,12 @@ pub(crate) fn blamed(
     pairs: &[u32],
     picks: &[Pick],
     asker: &mut Asker,
-) -> Result<Vec<Pick>, AllocError>
+) -> Result<Blame, AllocError>
     requires { asker.old.shape ≡ shape_of node.now }
     ensures { asker.new.shape ≡ asker.old.shape }
 {
     let spoken = spoken_of(alloc, problem, node, asker)?;
+    let is_theirs = are_among(&spoken, pairs);
     let mut few = Vec::new(alloc);
     for pick in picks {
         if let Some(pair) = pairs.get(pick.place) {
@@ -88,5 +107,8 @@ pub(crate) fn blamed(
             }
         }
     }
-    Ok(few)
+    Ok(Blame {
+        picks: few,
+        is_theirs,
+    })
 }

@@ -2,8 +2,10 @@
 #![tactic(auto)]
 
 mod blame;
+mod known;
 mod picks;
 mod rules;
 mod search;
 
-pub use search::{are_whole, choose_by_picks};
+pub use known::Known;
+pub use search::{are_whole, choose_by_picks, choose_part};

@@ -186,18 +186,21 @@ pub(crate) fn next_picks(
     alloc: Global,
     problem: &Problem,
     pairs: &[u32],
-    clashes: &[Clash],
+    known: &[Clash],
+    own: &[Clash],
 ) -> Result<Option<Vec<Pick>>, AllocError>
     requires few { length pairs.now ≤ MAX_PAIRS }
     requires pairs { All (λ pair. pair < pair_count problem.now) pairs.now }
-    requires clashes { AreClashes problem.now pairs.now clashes.now }
+    requires known { AreClashes problem.now pairs.now known.now }
+    requires own { AreClashes problem.now pairs.now own.now }
     ensures none { IfOk result (λ found. IfNone found (IsMet problem.now → ⊥)) }
 {
     law_literals_are_sets();
     law_derived_clauses_follow();
     let mut solver = Solver::new(alloc, 5 * pairs.len() as u32)?;
     give_rules(alloc, &mut solver, problem, pairs)?;
-    give_bans(alloc, &mut solver, problem, pairs, clashes)?;
+    give_bans(alloc, &mut solver, problem, pairs, known)?;
+    give_bans(alloc, &mut solver, problem, pairs, own)?;
     let answer = solver.solve(&[], &[])?;
     match answer {
         Answer::Refuted(_id) => Ok(None),

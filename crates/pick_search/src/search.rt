@@ -1,6 +1,6 @@
 //! The search: picks are tried, and what clashes is not picked again.
-ghost use Rattle.constraint_set.specs.Shape.{SameShape, shape_of};
-ghost use Rattle.pick_search.specs.Picking.{AreClashes, IsClash, IsPicked, IsTurn};
+ghost use Rattle.constraint_set.specs.Shape.{shape_of};
+ghost use Rattle.pick_search.specs.Picking.{AreClashes, IsKnown, IsPartOf, IsTurn};
 ghost use Rattle.point_query.specs.Asking.{AskerGoes};
 ghost use Rattle.split_search.specs.Choosing.{IsChoice, IsMetBy, IsTidy};
 ghost use Rattle.std.specs.Bool.{OnTrue};
@@ -8,8 +8,8 @@ ghost use Rattle.std.specs.Prelude.{All, IfNone, IfOk, IfSome, IsTrue, OnOk, [],
 ghost use Rattle.world_model.specs.Alive.{IsAlive, all_whole};
 ghost use Rattle.world_model.specs.Problem.{pair_count};
 
-use crate::blame::blamed;
-use crate::picks::{Clash, Pick, picked};
+use crate::known::{Known, note_clash};
+use crate::picks::{Clash, picked};
 use crate::rules::next_picks;
 use cert_text::NoLog;
 use constraint_set::{MAX_PAIRS, Problem};
@@ -50,22 +50,6 @@ pub fn are_whole(problem: &Problem) -> bool
     true
 }
 
-// The pairs that allow neither none nor a whole set, by their numbers.
-fn split_pairs(alloc: Global, problem: &Problem) -> Result<Vec<u32>, AllocError>
-    ensures few { IfOk result (λ pairs. length pairs.items ≤ MAX_PAIRS) }
-    ensures within { IfOk result (λ pairs. All (λ pair. pair < pair_count problem.now) pairs.items) }
-{
-    problem.facts();
-    let mut pairs = Vec::new(alloc);
-    for pair in 0..problem.pair_count() {
-        let set = problem.allowed(pair);
-        if !set.is_empty() && !set.is_whole() {
-            pairs.push(pair)?;
-        }
-    }
-    Ok(pairs)
-}
-
 // A family that meets a problem where all sets are whole, if it is alive.
 fn family_of(
     alloc: Global,
@@ -89,52 +73,28 @@ fn family_of(
     }
 }
 
-// Of picks that make a problem dead those that clash: the few that are to blame, if these do, and else all.
-fn clash_of(
-    alloc: Global,
-    problem: &Problem,
-    pairs: &[u32],
-    picks: Vec<Pick>,
-    node: &Problem,
-    asker: &mut Asker,
-) -> Result<Clash, AllocError>
-    requires shape { asker.old.shape ≡ shape_of problem.now }
-    requires pairs { All (λ pair. pair < pair_count problem.now) pairs.now }
-    requires node { IsPicked problem.now pairs.now picks.items node.now }
-    requires dead { IsAlive node.now → ⊥ }
-    ensures shape { asker.new.shape ≡ asker.old.shape }
-    ensures clash { IfOk result (λ clash. IsClash problem.now pairs.now clash.picks.items) }
-{
-    whole_sets_are_decided();
-    let few = blamed(alloc, problem, node, pairs, &picks, asker)?;
-    if few.len() == picks.len() {
-        return Ok(Clash { picks });
-    }
-    let smaller = picked(alloc, problem, pairs, &few)?;
-    let alive = asker.is_alive(&smaller, &Position::new(alloc))?;
-    if alive {
-        return Ok(Clash { picks });
-    }
-    Ok(Clash { picks: few })
-}
-
 // Tries the next picks.
 fn try_next(
     alloc: Global,
+    wide: &Problem,
     problem: &Problem,
     pairs: &[u32],
-    clashes: &mut Vec<Clash>,
+    known: &mut Vec<Clash>,
+    own: &mut Vec<Clash>,
     asker: &mut Asker,
 ) -> Result<Turn, AllocError>
     requires shape { asker.old.shape ≡ shape_of problem.now }
+    requires part { IsPartOf problem.now wide.now }
     requires few { length pairs.now ≤ MAX_PAIRS }
     requires pairs { All (λ pair. pair < pair_count problem.now) pairs.now }
-    requires clashes { AreClashes problem.now pairs.now clashes.old.items }
+    requires known { AreClashes wide.now pairs.now known.old.items }
+    requires own { AreClashes problem.now pairs.now own.old.items }
     ensures shape { asker.new.shape ≡ asker.old.shape }
-    ensures clashes { OnOk result (AreClashes problem.now pairs.now clashes.new.items) }
+    ensures known { OnOk result (AreClashes wide.now pairs.now known.new.items) }
+    ensures own { OnOk result (AreClashes problem.now pairs.now own.new.items) }
     ensures turn { IfOk result (IsTurn problem.now) }
 {
-    let found = next_picks(alloc, problem, pairs, clashes)?;
+    let found = next_picks(alloc, problem, pairs, known, own)?;
     let Some(picks) = found else {
         return Ok(Turn::Done(Choice::Refuted));
     };
@@ -146,8 +106,7 @@ fn try_next(
     match met {
         Some(family) => Ok(Turn::Done(Choice::Met(family))),
         None => {
-            let clash = clash_of(alloc, problem, pairs, picks, &node, asker)?;
-            clashes.push(clash)?;
+            note_clash(alloc, wide, problem, pairs, picks, &node, known, own, asker)?;
             Ok(Turn::On)
         }
     }
@@ -174,21 +133,34 @@ fn clean_at(asker: &mut Asker, turn: usize) -> Result<(), AllocError>
     Ok(())
 }
 
-// Whether a family meets a problem; no answer comes where that takes too many turns.
+// Whether a family meets a part of a problem; no answer comes where that takes too many turns.
 fn take_turns(
     alloc: Global,
+    wide: &Problem,
     problem: &Problem,
+    known: &mut Known,
     asker: &mut Asker,
 ) -> Result<Option<Choice>, AllocError>
     requires shape { asker.old.shape ≡ shape_of problem.now }
+    requires part { IsPartOf problem.now wide.now }
+    requires known { IsKnown wide.now known.old }
     ensures shape { asker.new.shape ≡ asker.old.shape }
+    ensures known { OnOk result (IsKnown wide.now known.new) }
     ensures choice { IfOk result (λ found. IfSome found (IsChoice problem.now)) }
 {
-    let pairs = split_pairs(alloc, problem)?;
-    let mut clashes = Vec::new(alloc);
+    wide.facts();
+    let mut own = Vec::new(alloc);
     for turn in 0..MOST_TURNS {
         clean_at(asker, turn)?;
-        let next = try_next(alloc, problem, &pairs, &mut clashes, asker)?;
+        let next = try_next(
+            alloc,
+            wide,
+            problem,
+            &known.pairs,
+            &mut known.clashes,
+            &mut own,
+            asker,
+        )?;
         match next {
             Turn::Done(choice) => return Ok(Some(choice)),
             Turn::On => {}
@@ -226,19 +198,49 @@ fn choose_by_walk(alloc: Global, problem: &Problem, asker: &mut Asker) -> Result
 }
 
 // The same by picks, and where these take too many turns by a walk.
-fn decide(alloc: Global, problem: &Problem, asker: &mut Asker) -> Result<Choice, AllocError>
+fn decide(
+    alloc: Global,
+    wide: &Problem,
+    problem: &Problem,
+    known: &mut Known,
+    asker: &mut Asker,
+) -> Result<Choice, AllocError>
     requires shape { asker.old.shape ≡ shape_of problem.now }
+    requires part { IsPartOf problem.now wide.now }
+    requires known { IsKnown wide.now known.old }
     ensures shape { asker.new.shape ≡ asker.old.shape }
+    ensures known { OnOk result (IsKnown wide.now known.new) }
     ensures choice { IfOk result (IsChoice problem.now) }
 {
     if are_whole(problem) {
         return choose_at_once(alloc, problem, asker);
     }
-    let found = take_turns(alloc, problem, asker)?;
+    let found = take_turns(alloc, wide, problem, known, asker)?;
     match found {
         Some(choice) => Ok(choice),
         None => choose_by_walk(alloc, problem, asker),
     }
+}
+
+/// A family that meets a part of a problem, where one does. What clashes in all of the problem stays known.
+pub fn choose_part(
+    alloc: Global,
+    wide: &Problem,
+    problem: &Problem,
+    known: &mut Known,
+    asker: &mut Asker,
+) -> Result<Choice, AllocError>
+    requires shape { asker.old.shape ≡ shape_of problem.now }
+    requires part { IsPartOf problem.now wide.now }
+    requires known { IsKnown wide.now known.old }
+    ensures shape { asker.new.shape ≡ asker.old.shape }
+    ensures known { OnOk result (IsKnown wide.now known.new) }
+    ensures choice { IfOk result (IsChoice problem.now) }
+    ensures ready { OnOk result (IsTidy asker.new) }
+{
+    let choice = decide(alloc, wide, problem, known, asker)?;
+    clean(asker)?;
+    Ok(choice)
 }
 
 /// A family that meets the problem, where one does.
@@ -254,7 +256,6 @@ pub fn choose_by_picks(
     ensures choice { IfOk result (IsChoice problem.now) }
     ensures ready { OnOk result (IsTidy asker.new) }
 {
-    let choice = decide(alloc, problem, asker)?;
-    clean(asker)?;
-    Ok(choice)
+    let mut known = Known::new(alloc, problem)?;
+    choose_part(alloc, problem, problem, &mut known, asker)
 }
