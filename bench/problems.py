@@ -11,6 +11,8 @@ roots N M             N and M concepts without parents; each of the first lies i
 planted SEED SIZE     generated, with an equals first and a disjoint last on one pair of a fixed block
 doubtful SIZE K       two trees of SIZE/2 concepts, K children to a concept, each concept equal to the one in its place in the other tree, but
                       for each third, which may overlap it too
+vague SIZE COUNT      two trees of SIZE/2 concepts, three children to a concept, with COUNT statements between drawn ones: disjoint, or a set
+                      that has disjoint besides
 repeated SIZE COUNT   flat, SIZE/2 concepts a side, with COUNT statements, each pair's equals again and again, and a disjoint last"""
 import sys
 
@@ -133,8 +135,17 @@ def repeated(size, count):
     return lines + ["[1.a0 disjoint 2.b0]"]
 
 
+def vague(size, count):
+    half = size // 2
+    rows = ["(" + " ".join(f"c{k}" for k in [parent, *range(first, min(first + 3, half))]) + ")" for parent, first in enumerate(range(1, half, 3))]
+    words = ["disjoint", "{overlaps disjoint}", "{includes is_included_in disjoint}", "{equals disjoint}"]
+    draws = draws_of(size + count, 3 * count)
+    said = [f"[1.c{draws[3 * k + 1] % half} {words[draws[3 * k + 2] % 4]} 2.c{draws[3 * k + 3] % half}]" for k in range(count)]
+    return ["taxonomy 1", *rows, "taxonomy 2", *rows, "articulation", *said]
+
+
 FAMILIES = {"generated": generated, "flat": two_roots, "loose": loose, "chain": chain, "sums": sums, "split": split, "roots": roots, "planted": planted,
-            "doubtful": doubtful, "repeated": repeated}
+            "doubtful": doubtful, "repeated": repeated, "vague": vague}
 
 if __name__ == "__main__":
     kind, one, other = sys.argv[1], int(sys.argv[2]), int(sys.argv[3])
