@@ -50,7 +50,6 @@ impl OpenTree {
 }
 
 /// The lines of a list of claims that were taken so far.
-#[derive(Drop)]
 pub(crate) struct Claims {
     alloc: Global,
     pub(crate) problem: Problem,
@@ -58,6 +57,20 @@ pub(crate) struct Claims {
     pub(crate) block: Option<OpenTree>,
     pub(crate) claims: Vec<Claim>,
     pub(crate) known: Known,
+}
+
+// A destructor of its own: a function that lets one go calls it, where else its proof would have a part for each field.
+impl Drop for Claims {
+    fn drop(self) {
+        let Claims {
+            alloc: _,
+            problem: _,
+            book: _,
+            block: _,
+            claims: _,
+            known: _,
+        } = self;
+    }
 }
 
 impl Claims {
@@ -95,7 +108,14 @@ impl Claims {
     pub(crate) fn accepted(self) -> Accepted
         ensures { result ≡ AcceptedClaims self.claims.items }
     {
-        let claims = self.claims;
+        let Claims {
+            alloc: _,
+            problem: _,
+            book: _,
+            block: _,
+            claims,
+            known: _,
+        } = self;
         Accepted::Claims(ClaimList::new(claims))
     }
 

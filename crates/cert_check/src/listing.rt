@@ -29,12 +29,23 @@ pub(crate) enum Turn {
 }
 
 /// The lines of a listing that were taken so far.
-#[derive(Drop)]
 pub(crate) struct Listing {
     alloc: Global,
     pub(crate) book: Book,
     pub(crate) walk: Walk,
     pub(crate) worlds: Vec<Position>,
+}
+
+// A destructor of its own: a function that lets one go calls it, where else its proof would have a part for each field.
+impl Drop for Listing {
+    fn drop(self) {
+        let Listing {
+            alloc: _,
+            book: _,
+            walk: _,
+            worlds: _,
+        } = self;
+    }
 }
 
 impl Listing {
@@ -76,8 +87,12 @@ impl Listing {
     pub(crate) fn accepted(self, to: Option<Position>) -> Accepted
         ensures { result ≡ AcceptedListing self.walk.tree.from to self.worlds.items }
     {
-        let worlds = self.worlds;
-        let walk = self.walk;
+        let Listing {
+            alloc: _,
+            book: _,
+            walk,
+            worlds,
+        } = self;
         let tree = walk.tree;
         Accepted::Listing {
             from: tree.into_start(),

@@ -1,5 +1,5 @@
 -- What is said of pairs, kept by their numbers.
-use Rattle.std.specs.Prelude.{◌≡◌, ℕ, ◌<◌, ◌==◌, Bool, List, [], ◌++◌, length, filter_map, nat_eq, IsTrue, if◌then◌else◌}
+use Rattle.std.specs.Prelude.{◌≡◌, ℕ, ◌<◌, ◌/◌, ◌==◌, Bool, false, List, [], ◌++◌, length, filter_map, nat_eq, slice_index_or, IsTrue, if◌then◌else◌}
 use Rattle.std.specs.Option.{unwrap_or, option_to_list}
 use Rattle.std.specs.List.{list_all, items_where_true}
 use Rattle.std.specs.Map.{lookup}
@@ -13,6 +13,14 @@ use Rattle.world_model.specs.declared.Articulation.{Articulation}
 -- the set of a pair, by its number: all five where none is kept for it
 abbrev pub set_at : List (ℕ × RelSet) → ℕ → RelSet
 set_at sets k = unwrap_or (lookup (nat_eq k) sets) every_rel
+
+-- whether the block of a pair, by its number, is marked: eight pairs share a mark
+abbrev pub mark_of : List Bool → ℕ → Bool
+mark_of marks k = slice_index_or marks (k / 8) false
+
+-- of a pair whose block is not marked nothing is said
+abbrev pub AreMarked : List (ℕ × RelSet) → List Bool → Type 0
+AreMarked sets marks = (k : ℕ) → mark_of marks k ≡ false → set_at sets k ≡ every_rel
 
 -- the set of one pair is met with another set, and the others stay
 abbrev pub Narrows : List (ℕ × RelSet) → List (ℕ × RelSet) → ℕ → RelSet → Type 0

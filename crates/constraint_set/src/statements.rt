@@ -1,8 +1,8 @@
 //! What is said of pairs, by their numbers.
-ghost use Rattle.std.specs.Prelude.{◌≡◌, ◌<◌, [], ◌∷◌, ◌++◌, length, map, replicate, true, IfOk, OnOk, IsTrue};
+ghost use Rattle.std.specs.Prelude.{ℕ, ◌≡◌, ◌<◌, [], ◌∷◌, ◌++◌, length, map, replicate, true, IfOk, OnOk, IsTrue};
 ghost use Rattle.std.specs.List.{list_all};
 ghost use Rattle.world_model.specs.Problem.{concept_count, is_articulation, is_about_pair};
-ghost use Rattle.constraint_set.specs.Sets.{set_at, Narrows, AreSets, Says, said_by, said_if, kept_statements};
+ghost use Rattle.constraint_set.specs.Sets.{mark_of, set_at, Narrows, AreSets, Says, said_by, said_if, kept_statements};
 
 use crate::shape::Shape;
 use rcc5_core::RelSet;
@@ -29,19 +29,41 @@ impl Model for Narrowing {
     ghost inverse = { λ c. record { left = c.left; right = c.right; set = c.set } };
 }
 
+/// So many pairs share a mark.
+const BLOCK: u32 = 8;
+
 /// For each pair that something is said of, by its number, what all of that has in common.
+///
+/// Most pairs are asked about often and nothing is said of them: a mark for each block of pairs tells so without a look into the map.
 #[derive(Drop)]
 pub(crate) struct Sets {
     by_pair: HashMap<u32, RelSet>,
+    marks: Vec<bool>,
 }
 
 impl Model for Sets {
     ghost use Rattle.std.specs.Prelude.{ℕ, List};
     ghost use Rattle.rcc5_core.specs.declared.RelSet.{RelSet};
+    ghost use Rattle.constraint_set.specs.Sets.{AreMarked};
 
     ghost Value = { List (ℕ × RelSet) };
 
     ghost view = { λ s. s.by_pair.entries };
+
+    ghost invariant = { λ s. AreMarked s.by_pair.entries s.marks.items };
+}
+
+// Marks the block of a pair.
+fn mark(marks: &mut Vec<bool>, pair: u32) -> Result<(), AllocError>
+    ensures there { OnOk result (IsTrue (mark_of marks.new.items pair)) }
+    ensures stay { (k : ℕ) → IsTrue (mark_of marks.old.items k) → IsTrue (mark_of marks.new.items k) }
+{
+    let block = (pair / BLOCK) as usize;
+    if block >= marks.len() {
+        marks.resize(block + 1, false)?;
+    }
+    marks[block] = true;
+    Ok(())
 }
 
 impl Sets {
@@ -50,6 +72,7 @@ impl Sets {
     {
         Sets {
             by_pair: HashMap::new(alloc),
+            marks: Vec::new(alloc),
         }
     }
 
@@ -88,6 +111,10 @@ impl Sets {
     pub(crate) fn at(&self, pair: u32) -> RelSet
         ensures { result ≡ set_at self.now pair }
     {
+        let block = (pair / BLOCK) as usize;
+        if block >= self.marks.len() || !self.marks[block] {
+            return RelSet::all();
+        }
         match self.by_pair.get(&pair) {
             Some(set) => *set,
             None => RelSet::all(),
@@ -139,6 +166,7 @@ impl Sets {
         ensures { OnOk result (Narrows self.old self.new pair set) }
     {
         let set = self.at(pair).meet(set);
+        mark(&mut self.marks, pair)?;
         self.by_pair.insert(pair, set)?;
         Ok(())
     }

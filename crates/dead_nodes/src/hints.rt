@@ -2,6 +2,7 @@
 ghost use Rattle.std.specs.Prelude.{◌≡◌, ◌≤◌, length, IfOk, IfSome, IsTrue};
 ghost use Rattle.world_model.specs.Problem.{pair_count};
 ghost use Rattle.constraint_set.specs.Shape.{shape_of};
+ghost use Rattle.point_encode.specs.Needs.{IsInRange};
 ghost use Rattle.point_query.specs.Asking.{AskerGoes};
 ghost use Rattle.dead_nodes.specs.Why.{Closes};
 
@@ -10,7 +11,7 @@ use crate::lemmas::{Hint, Lemmas};
 use crate::near::Given;
 use constraint_set::Problem;
 use lits_core::Lit;
-use point_encode::{is_forced, need_of};
+use point_encode::{Need, is_forced, need_of};
 use point_query::Asker;
 use rcc5_core::Position;
 use std::alloc::{AllocError, Global};
@@ -32,7 +33,9 @@ pub enum Guess {
     Unknown,
     /// This region of its last pair has none.
     Region(u8),
-    /// Each region of its last pair that has to has one.
+    /// Each region of its last pair that has to has one, but this one, which need not, has none.
+    Beside(u8),
+    /// Each region of its last pair has one.
     Elsewhere,
 }
 
@@ -42,7 +45,7 @@ impl Guess {
         match self {
             Guess::Unknown => true,
             Guess::Region(bare) => bare == part,
-            Guess::Elsewhere => false,
+            Guess::Beside(_) | Guess::Elsewhere => false,
         }
     }
 }
@@ -164,6 +167,31 @@ impl Recent {
         Ok(None)
     }
 
+    // The live clause of the first reason with a need that leaves it no point at a node, forced there or not.
+    fn clause_of(
+        &self,
+        problem: &Problem,
+        asker: &Asker,
+        lemmas: &Lemmas,
+        node: &Position,
+        need: Need,
+        number: u64,
+    ) -> Option<u64>
+        requires within { length node.now ≤ pair_count problem.now }
+        requires range { IsInRange problem.now need }
+    {
+        for kept in &self.list {
+            if kept.need == number {
+                if let Some(clause) = lemmas.id_of(kept.by) {
+                    if closes(problem, asker, node, need, clause) {
+                        return Some(clause);
+                    }
+                }
+            }
+        }
+        None
+    }
+
     // Keeps a reason, in the place of the oldest where there are many.
     fn keep(&mut self, kept: Kept) -> Result<(), AllocError> {
         if self.list.len() < MOST_REASONS {
@@ -225,6 +253,23 @@ impl Hints {
             Some(recent) => recent.anew(problem, asker, &mut self.lemmas, node),
             None => Ok(None),
         }
+    }
+
+    // A live clause that leaves a need of a node's last pair no point there, with the need's number.
+    pub(crate) fn clause_of(
+        &self,
+        problem: &Problem,
+        asker: &Asker,
+        node: &Position,
+        need: Need,
+        number: u64,
+    ) -> Option<u64>
+        requires within { length node.now ≤ pair_count problem.now }
+        requires range { IsInRange problem.now need }
+    {
+        let pair = node.len().checked_sub(1)?;
+        let recent = self.pairs.get(pair)?;
+        recent.clause_of(problem, asker, &self.lemmas, node, need, number)
     }
 
     // Learns the ids of the given clauses, if they are not known.

@@ -1,6 +1,7 @@
 //! Why a dead node is dead.
 #![tactic(auto)]
 
+mod alone;
 mod closes;
 mod derived;
 mod hints;

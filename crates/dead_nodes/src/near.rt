@@ -226,8 +226,13 @@ impl Given {
             Some(id) => *id,
             None => 0,
         };
+        [within, self.of_region(region)]
+    }
+
+    // The clause that a region is empty by its selector.
+    pub(crate) fn of_region(&self, region: Region) -> u64 {
         let number = 3 * u64::from(region.pair) + u64::from(region.part);
-        [within, self.first.saturating_add(number)]
+        self.first.saturating_add(number)
     }
 }
 

@@ -7,6 +7,7 @@ ghost use Rattle.point_encode.specs.Needs.{IsInRange};
 ghost use Rattle.point_query.specs.Asking.{AskerGoes};
 ghost use Rattle.dead_nodes.specs.Why.{Closes, IsWhy};
 
+use crate::alone::alone;
 use crate::derived::derived;
 use crate::hints::{Guess, Hints, Reason, held};
 use crate::near::{Region, shown_near};
@@ -51,7 +52,7 @@ pub fn why_dead(
         asker.facts();
         return Ok(WhyDead::NoPoint(reason));
     }
-    if let Some(reason) = near(problem, asker, hints, node)? {
+    if let Some(reason) = shown(problem, asker, hints, node)? {
         asker.facts();
         return Ok(WhyDead::NoPoint(reason));
     }
@@ -61,6 +62,26 @@ pub fn why_dead(
     }
     asker.facts();
     Ok(why)
+}
+
+// A need of a node's last pair that what is known of the pair shows without a point: a region of it, or one of its concepts.
+#[tactic(auto, using(search_log::proofs::Logs::asker_stays, search_log::proofs::Logs::asker_joins))]
+fn shown(
+    problem: &Problem,
+    asker: &mut Asker,
+    hints: &mut Hints,
+    node: &Position,
+) -> Result<Option<Reason>, AllocError>
+    requires shape { asker.old.shape ≡ shape_of problem.now }
+    requires within { length node.now ≤ pair_count problem.now }
+    ensures kept { AskerGoes asker.old asker.new }
+    ensures closed { IfOk result (λ found. IfSome found (Closes problem.now asker.new.solver.state node.now)) }
+{
+    let reason = near(problem, asker, hints, node)?;
+    if reason.is_some() {
+        return Ok(reason);
+    }
+    alone(problem, asker, hints, node)
 }
 
 // A region of a node's last pair that is forced occupied, and that a region beside it shows empty.
@@ -177,8 +198,9 @@ fn asked_of_last(
     let Some(pair) = node.len().checked_sub(1) else {
         return Ok(None);
     };
-    if let Guess::Elsewhere = guess {
-        return Ok(None);
+    match guess {
+        Guess::Beside(_) | Guess::Elsewhere => return Ok(None),
+        Guess::Unknown | Guess::Region(_) => {}
     }
     let mut prefix = node.copy(alloc)?;
     prefix.pop();

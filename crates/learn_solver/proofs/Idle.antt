@@ -1,5 +1,5 @@
 -- Clauses that are the reason of no literal.
-use Rattle.std.proofs.Common.{◌≡◌, ◌≢◌, ◌∙◌, ◌⊎◌, ℕ, zero, suc, ◌+◌, ◌<◌, ◌≤◌, Bool, true, false, cond, List, [], ◌∷◌, map, length, get_or, take, drop, max, Option, Some, None, refl, sym, ap, subst, arith, inl, inr, add-one, drop-cons, length-drop}
+use Rattle.std.proofs.Common.{◌≡◌, ◌≢◌, ◌∙◌, ◌⊎◌, ℕ, zero, suc, ◌+◌, ◌-◌, ◌<◌, ◌≤◌, Bool, true, false, cond, List, [], ◌∷◌, map, length, get_or, take, drop, max, Option, Some, None, refl, sym, ap, subst, arith, inl, inr, add-one, drop-cons, length-drop}
 use Rattle.std.specs.Prelude.{not, is_none, MatchOption}
 use Rattle.std.specs.List.{Contains, All, AllPairs, list_all}
 use Rattle.std.proofs.lemmas.List.{drop_all, length-map}
@@ -36,6 +36,20 @@ idle_of-none places records given le = idle-none places records given le
 pub idle_of-from : (places : List Place) (records : List Record) (given : ℕ) → idle_of places records given ≡ idle_from places given (drop given records)
 unfolding idle_of
 idle_of-from places records given = refl
+
+-- no more records are idle than there are
+idle-most : (places : List Place) (at : ℕ) (records : List Record) → length (idle_from places at records) ≤ length records
+idle-most places at [] = omega arith
+idle-most places at (r ∷ records) =
+    let rest = idle-most places (at + 1) records in
+    elim (cases_Bool (is_reason places at)) [
+      | inl on ↦ rw on (omega arith)
+      | inr off ↦ rw off (omega arith)
+    ]
+
+pub few_idle : (places : List Place) (records : List Record) (given : ℕ) → length (idle_of places records given) ≤ length records - given
+unfolding idle_of
+few_idle places records given = let most = idle-most places given (drop given records) in omega (arith, length-drop given records)
 
 -- where the loop over the records stands
 pub count-from : (places : List Place) (records : List Record) (given number count next : ℕ) (b : Bool) → number < length records → (number < given → b ≡ false) → (given ≤ number → b ≡ not (is_reason places number)) → next ≡ count + cond b 1 0 → count + length (idle_from places (max number given) (drop (max number given) records)) ≡ length (idle_of places records given) → next + length (idle_from places (max (number + 1) given) (drop (max (number + 1) given) records)) ≡ length (idle_of places records given)

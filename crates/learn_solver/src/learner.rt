@@ -14,7 +14,6 @@ use std::alloc::{AllocError, Global};
 use watch_arena::Trail;
 
 // The parts of a solver. The first `given` records are the given clauses.
-#[derive(Drop)]
 pub(crate) struct Learner {
     pub(crate) trail: Trail,
     pub(crate) analyzer: Analyzer,
@@ -33,6 +32,26 @@ pub(crate) struct Learner {
     pub(crate) alloc: Global,
 }
 
+// A destructor of its own: a function that lets one go calls it, where else its proof would have a part for each field.
+impl Drop for Learner {
+    fn drop(self) {
+        let Learner {
+            trail: _,
+            analyzer: _,
+            order: _,
+            variables: _,
+            given: _,
+            last: _,
+            waiting: _,
+            asked: _,
+            passed: _,
+            guided: _,
+            marks: _,
+            alloc: _,
+        } = self;
+    }
+}
+
 impl Learner {
     ghost use Rattle.learn_solver.specs.Solving.{AddsGiven};
     ghost use Rattle.learn_solver.specs.Hints.{AddsLine};
@@ -43,9 +62,9 @@ impl Learner {
         ensures empty { IfOk result (λ l. seen l ≡ record { variables = variables; state = first_state []; waiting = []; idle = [] }) }
     {
         Ok(Learner {
-            trail: Trail::new(alloc, variables)?,
-            analyzer: Analyzer::new(alloc, variables)?,
             order: Order::new(alloc, variables)?,
+            analyzer: Analyzer::new(alloc, variables)?,
+            trail: Trail::new(alloc, variables)?,
             variables,
             given: 0,
             last: 0,

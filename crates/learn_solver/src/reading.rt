@@ -1,5 +1,5 @@
 //! What the search reads of the trail.
-ghost use Rattle.std.specs.Prelude.{◌≡◌, ◌==◌, ◌<◌, ◌≤◌, ◌⊎◌, ◌↔◌, ℕ, false, not, Some, length, slice_index_or, IfSome, MatchOption, IsTrue, Contains};
+ghost use Rattle.std.specs.Prelude.{◌≡◌, ◌==◌, ◌<◌, ◌≤◌, ◌⊎◌, ◌↔◌, ℕ, nat_lt, false, not, Some, length, slice_index_or, IfSome, MatchOption, IsTrue, Contains};
 ghost use Rattle.std.specs.Option.{option_map_or};
 ghost use Rattle.lits_core.specs.Literals.{variable_of, negation_of};
 ghost use Rattle.lits_core.specs.Derivation.{live_clause};
@@ -205,5 +205,15 @@ impl Learner {
             next = arena.after(at);
         }
         count
+    }
+
+    // Whether more derived clauses than so many are the reason of no literal. Where no more are there, none is looked at.
+    pub(crate) fn has_more_idle(&self, most: u64) -> bool
+        requires { IsSound self.now }
+        ensures { result ≡ nat_lt most (length (seen self.now).idle) }
+    {
+        self.facts();
+        let derived = (self.trail.arena().count() - self.given) as u64;
+        derived > most && self.idle() > most
     }
 }

@@ -1,5 +1,5 @@
 //! The solver, as its users see it.
-ghost use Rattle.std.specs.Prelude.{◌≡◌, ◌≢◌, ◌+◌, ◌++◌, [], None, length, IfOk, OnOk, OnErr, IfSome, IfNone, MatchOption, MatchResult, ⊤};
+ghost use Rattle.std.specs.Prelude.{◌≡◌, ◌≢◌, ◌+◌, ◌++◌, [], None, nat_lt, length, IfOk, OnOk, OnErr, IfSome, IfNone, MatchOption, MatchResult, ⊤};
 ghost use Rattle.lits_core.specs.Derivation.{State, first_state, live_clause, hints_fault, SameLits};
 ghost use Rattle.watch_arena.specs.Trails.{AreInRange};
 ghost use Rattle.learn_solver.specs.Solving.{SolverState, GoesTo, IsSolver, AddsGiven, IsTidied, AreConsistent, IsModel, IsRefutation};
@@ -133,6 +133,13 @@ impl Solver {
         ensures { result ≡ length self.now.idle }
     {
         self.learner.idle()
+    }
+
+    /// Whether more clauses than so many are idle. Where no more are derived, none is looked at.
+    pub fn has_more_idle(&self, most: u64) -> bool
+        ensures { result ≡ nat_lt most (length self.now.idle) }
+    {
+        self.learner.has_more_idle(most)
     }
 
     /// What is so of a solver at any time, for a proof.

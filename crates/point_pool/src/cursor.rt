@@ -21,7 +21,6 @@ use world_model::positions_narrow;
 
 /// A problem, and a prefix whose relations it allows: what the problem alone forces of each pair, what it forces at the
 /// prefix, and the first pair that it leaves nothing.
-#[derive(Drop)]
 pub struct Cursor {
     problem: Problem,
     path: Vec<Rel>,
@@ -31,6 +30,21 @@ pub struct Cursor {
     // The selectors that the prefix makes true: those that the problem alone makes true come first, and each relation's last.
     selected: Vec<Lit>,
     alloc: Global,
+}
+
+// A destructor of its own: a function that lets one go calls it, where else its proof would have a part for each field.
+impl Drop for Cursor {
+    fn drop(self) {
+        let Cursor {
+            problem: _,
+            path: _,
+            at_start: _,
+            at_path: _,
+            empty: _,
+            selected: _,
+            alloc: _,
+        } = self;
+    }
 }
 
 impl Model for Cursor {

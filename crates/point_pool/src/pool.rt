@@ -21,6 +21,7 @@ use lits_core::Bits;
 use point_draft::Drafts;
 use rcc5_core::{Position, Rel, RelSet};
 use std::alloc::{AllocError, Global};
+use std::mem;
 use world_model::positions_narrow;
 
 /// Points, each with the depth at which the prefix struck it out, and the needs, each with the place of a point that serves it.
@@ -28,7 +29,6 @@ use world_model::positions_narrow;
 /// A point that was never struck out, or at a depth beyond the prefix, is a point of the prefix. A point has the numbers of
 /// the needs that it serves; where it is struck out they wait for another. The needs' places are hints: a need is served
 /// where it has its slot in the list of the point at its place. What is drafted is a hint too.
-#[derive(Drop)]
 pub struct Pool {
     pub cursor: Cursor,
     pub(crate) points: Vec<Bits>,
@@ -40,6 +40,24 @@ pub struct Pool {
     pub waiting: Waiting,
     pub(crate) drafts: Drafts,
     pub(crate) alloc: Global,
+}
+
+// A destructor of its own: a function that lets one go calls it, where else its proof would have a part for each field.
+impl Drop for Pool {
+    fn drop(self) {
+        let Pool {
+            cursor: _,
+            points: _,
+            depths: _,
+            struck: _,
+            witness: _,
+            slots: _,
+            serves: _,
+            waiting: _,
+            drafts: _,
+            alloc: _,
+        } = self;
+    }
 }
 
 impl Pool {
@@ -84,11 +102,11 @@ impl Pool {
     }
 
     // The points, which meet the rules of the problem's trees.
-    fn into_points(self) -> Vec<Bits>
+    fn into_points(mut self) -> Vec<Bits>
         requires { IsPool self }
         ensures { All (λ bits. IsTrue (meets_trees self.cursor.problem bits)) result.items }
     {
-        self.points
+        mem::replace(&mut self.points, Vec::new(self.alloc))
     }
 
     /// What the problem allows the next pair.

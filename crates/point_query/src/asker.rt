@@ -8,7 +8,7 @@ ghost use Rattle.point_query.specs.Answers.{IsAliveAnswer, IsFound, IsProbeAnswe
 ghost use Rattle.point_query.specs.Asking.{AskerGoes, IsAsker, IsNewAsker};
 ghost use Rattle.rcc5_core.specs.RelationSet.{has};
 ghost use Rattle.rcc5_core.specs.declared.Rel.{Rel};
-ghost use Rattle.std.specs.Prelude.{IfNone, IfOk, IfSome, IsTrue, MatchOption, OnErr, OnOk, [], length, ◌++◌, ◌+◌, ◌<◌, ◌↔◌, ◌∷◌, ◌≡◌, ◌≤◌};
+ghost use Rattle.std.specs.Prelude.{IfNone, IfOk, IfSome, IsTrue, MatchOption, OnErr, OnOk, [], length, nat_lt, ◌++◌, ◌+◌, ◌<◌, ◌↔◌, ◌∷◌, ◌≡◌, ◌≤◌};
 ghost use Rattle.watch_arena.specs.Trails.{AreInRange};
 ghost use Rattle.world_model.specs.Alive.{IsAlive, problem_at};
 ghost use Rattle.world_model.specs.Problem.{pair_count};
@@ -30,12 +30,23 @@ use std::marker::Model;
 /// Asks for points of the prefixes of problems of one shape. Points that were found are kept, and the last prefix with a point
 /// for each of its needs: one that differs by a relation costs a look at the points and at the needs that lost theirs. Another
 /// problem of the shape keeps the points that meet it.
-#[derive(Drop)]
 pub struct Asker {
     shape: Problem,
     solver: Closer,
     pool: Option<Pool>,
     alloc: Global,
+}
+
+// A destructor of its own: a function that lets one go calls it, where else its proof would have a part for each field.
+impl Drop for Asker {
+    fn drop(self) {
+        let Asker {
+            shape: _,
+            solver: _,
+            pool: _,
+            alloc: _,
+        } = self;
+    }
 }
 
 impl Model for Asker {
@@ -193,6 +204,13 @@ impl Asker {
         ensures { result ≡ length self.now.solver.idle }
     {
         self.solver.idle()
+    }
+
+    /// Whether more clauses than so many are idle. Where no more are derived, none is looked at.
+    pub fn has_more_idle(&self, most: u64) -> bool
+        ensures { result ≡ nat_lt most (length self.now.solver.idle) }
+    {
+        self.solver.has_more_idle(most)
     }
 
     /// Forgets the clauses that are idle, with one line for them all, and remembers none of them.

@@ -6,7 +6,7 @@ ghost use Rattle.point_encode.specs.Needs.{IsInRange, need_seen};
 ghost use Rattle.point_pool.specs.Needs.{need_at, need_count};
 ghost use Rattle.point_query.specs.Answers.{IsClosed, IsFound};
 ghost use Rattle.point_query.specs.Queries.{IsSolverOf, KeepsSolver, asker_with};
-ghost use Rattle.std.specs.Prelude.{IfNone, IfOk, IfSome, MatchOption, OnErr, OnOk, [], length, ◌<◌, ◌≡◌, ◌≤◌};
+ghost use Rattle.std.specs.Prelude.{IfNone, IfOk, IfSome, MatchOption, OnErr, OnOk, [], length, nat_lt, ◌<◌, ◌≡◌, ◌≤◌};
 ghost use Rattle.watch_arena.specs.Trails.{AreInRange};
 ghost use Rattle.world_model.specs.Problem.{pair_count};
 
@@ -27,12 +27,23 @@ use std::alloc::{AllocError, Global};
 use std::marker::Model;
 
 /// A solver, and the clauses that closed needs before: a need that one of them closes again costs no question.
-#[derive(Drop)]
 pub(crate) struct Closer {
     pub(crate) solver: Solver,
     closings: Closings,
     questions: u64,
     alloc: Global,
+}
+
+// A destructor of its own: a function that lets one go calls it, where else its proof would have a part for each field.
+impl Drop for Closer {
+    fn drop(self) {
+        let Closer {
+            solver: _,
+            closings: _,
+            questions: _,
+            alloc: _,
+        } = self;
+    }
 }
 
 impl Model for Closer {
@@ -226,6 +237,13 @@ impl Closer {
         ensures { result ≡ length self.now.idle }
     {
         self.solver.idle()
+    }
+
+    // Whether more clauses than so many are idle.
+    pub(crate) fn has_more_idle(&self, most: u64) -> bool
+        ensures { result ≡ nat_lt most (length self.now.idle) }
+    {
+        self.solver.has_more_idle(most)
     }
 
     // Adds a clause that live clauses show.

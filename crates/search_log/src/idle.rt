@@ -9,7 +9,7 @@ use std::alloc::AllocError;
 const MOST_IDLE: u64 = 1024;
 
 /// So many turns pass between two looks at how many clauses are idle.
-const TURNS: u32 = 16_384;
+const TURNS: u32 = 65_536;
 
 /// Forgets the idle clauses of an asker where they are many, by a line that waits.
 #[tactic(auto, using(crate::proofs::Logs::asker_stays))]
@@ -17,7 +17,7 @@ pub fn tidy(asker: &mut Asker) -> Result<(), AllocError>
     ensures few { OnOk result (length asker.new.solver.idle ≤ 1024) }
     ensures kept { AskerGoes asker.old asker.new }
 {
-    if asker.idle() <= MOST_IDLE {
+    if !asker.has_more_idle(MOST_IDLE) {
         return Ok(());
     }
     asker.tidy()

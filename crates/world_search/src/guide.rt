@@ -12,7 +12,7 @@ use constraint_set::Problem;
 use dead_nodes::{Guess, Hints};
 use point_ladder::{Ladder, MOST_POINTS, MOST_TRIES};
 use point_query::Asker;
-use rcc5_core::{Position, RelSet};
+use rcc5_core::{Position, Rel, RelSet};
 use std::alloc::{AllocError, Global};
 use world_model::prefixes_of_the_alive_are_alive;
 
@@ -100,8 +100,11 @@ impl Guide {
         if above + 1 != node.len() {
             return Guess::Unknown;
         }
-        match ladder.bare_region(node.at(above)) {
-            Some(part) => Guess::Region(part),
+        if let Some(part) = ladder.bare_region(node.at(above)) {
+            return Guess::Region(part);
+        }
+        match ladder.bare_region(Rel::Overlaps) {
+            Some(part) => Guess::Beside(part),
             None => Guess::Elsewhere,
         }
     }

@@ -25,13 +25,25 @@ use std::marker::Model;
 ///
 /// A node is a prefix of relations: the empty one, or one that follows an alive prefix by a relation that its next pair
 /// allows. So nothing below a dead prefix is looked at.
-#[derive(Drop)]
 pub struct Search {
     problem: Problem,
     span: Span,
     walk: Walk,
     guide: Guide,
     alloc: Global,
+}
+
+// A destructor of its own: a function that lets one go calls it, where else its proof would have a part for each field.
+impl Drop for Search {
+    fn drop(self) {
+        let Search {
+            problem: _,
+            span: _,
+            walk: _,
+            guide: _,
+            alloc: _,
+        } = self;
+    }
 }
 
 impl Model for Search {

@@ -18,6 +18,6 @@ returns-in-Some-2-clause-why c =
 
 pub returns-in-Some-3-clause-why : goal.returns-in-Some-3-clause-why
 returns-in-Some-3-clause-why c =
-    let s = c.near.new.asker.solver.state in
+    let s = c.shown.new.asker.solver.state in
     let closes : Closes c.args.problem.now s c.args.node.now c.in-Some-3.reason = subst (λ o. IfSome o (Closes c.args.problem.now s c.args.node.now)) c.in-Some-3.is c.in_ok-reason-2.ensures.closed in
     (closes, live_from_one s c.in-Some-3.reason.clause _ c.facts-in-Some-3.ensures.solver.from_one closes.closed)

@@ -12,6 +12,6 @@ returns-clause-pool c =
     let cursor = c.in_ok-cursor.ensures in
     let counted : c.count_needs-count.result ≡ need_count p = c.count_needs-count.ensures ∙ ap need_count (c.problem.ensures ∙ ap (λ s. s.problem) cursor) in
     let started = subst (λ ps. AreStarted p ps c.in_ok-depths.depths.items) c.deref.ensures.value (subst (λ s. AreStarted s.problem c.deref.result.now c.in_ok-depths.depths.items) cursor c.in_ok-depths.ensures) in
-    pool_made c.positions_narrow.ensures _ p (c.cursor.view_is ∙ cursor) started c.requires (omega (arith, c.in_ok-serves.ensures, c.len.ensures, c.args.points.ok))
+    pool_made c.positions_narrow.ensures _ p cursor started c.requires (omega (arith, c.in_ok-serves.ensures, c.len.ensures, c.args.points.ok))
     (omega (arith, c.in_ok-vec.ensures.len, c.in_ok-vec.field-0.ok, counted)) (omega (arith, c.in_ok-vec-2.ensures.len, c.in_ok-vec-2.field-0.ok, counted)) c.new-2.ensures.items
     (λ number within needed. c.in_ok-waiting.ensures number (omega (arith, within, counted)) (subst (λ s. IsTrue (is_needed (problem_at s.problem s.path) number)) (sym cursor) needed))
