@@ -2,7 +2,7 @@
 # Lists the worlds of the furniture example, of generated problems and of flat ones with a certificate, and checks it: prints how
 # many worlds there are, the lines and bytes of the certificate, how many lines are tree lines and how many the derivation's,
 # and the processor time and peak memory of the listing and of the check (by Debian's time), and what cat takes for the same bytes.
-# Words choose among them as in listing.sh; without any, all but 256 and 4x5 are written, which take minutes.
+# Words choose among them as in listing.sh; without any, all but 256, some seconds, and 4x5, minutes and more than a gigabyte, are written.
 # shellcheck source=/dev/null
 . "$(git rev-parse --show-toplevel)/bench/built.sh"
 [ $# -gt 0 ] || set -- furniture 14 24 48 96 2x3 3x4 3x5
