@@ -2,7 +2,7 @@
 # Lists the worlds of the furniture example, of generated problems and of flat ones, and prints how many there are, the
 # processor time and the peak memory (by Debian's time).
 # Words choose among them: sizes to generate (14 24 48 96 160 256, or another one),
-# flat ones (2x3 3x4 3x5 3x6 4x5), furniture; without any, all are listed, the last of which takes most of a minute.
+# flat ones (2x3 3x4 3x5 3x6 4x5), furniture; without any, all are listed.
 # shellcheck source=/dev/null
 . "$(git rev-parse --show-toplevel)/bench/built.sh"
 [ $# -gt 0 ] || set -- furniture 14 24 48 96 160 256 2x3 3x4 3x5 3x6 4x5

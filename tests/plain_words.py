@@ -1,4 +1,4 @@
-"""What the words of the command line come to: their first usage fault, as README.md and docs/DEFINITIONS.md have it."""
+"""What the words of the command line come to: their first usage fault, as docs/FORMATS.md has it."""
 
 import plain
 from random_cases import KINDS

@@ -70,7 +70,7 @@ class FromCsv(unittest.TestCase):
     def test_names_that_cannot_be_taken(self):
         table = lambda name: f"child,parent\nA,\n{name},A\n"
         for name, says in [
-            ("Arm chair", "the name 'Arm chair' has a blank; write it without, or give --blanks _"),
+            ("Arm chair", "the name 'Arm chair' has a space; write it without, or give --blanks _"),
             ("A#1", "the name 'A#1' has `#`, which no name may have; leave it out"),
             ("A(1)", "the name 'A(1)' has `(`, which no name may have; leave it out"),
             ("a\x01", "the name 'a\\x01' has a control character; leave it out"),

@@ -84,7 +84,7 @@ fn store_fault(fault: StepFault) -> StoreFault
     }
 }
 
-// The same, and the log is told of each node that is passed.
+// The next world of a listing with its certificate: the log is told of each node that is passed.
 #[tactic(auto, using(trial_run::proofs::FoundLemmas::at_no_end))]
 fn next_logged<L: TreeLog>(
     order: &Order,

@@ -59,7 +59,7 @@ pub(crate) struct Claims {
     pub(crate) known: Known,
 }
 
-// A destructor of its own: a function that lets one go calls it, where else its proof would have a part for each field.
+// Written out, so that letting one go is a call.
 impl Drop for Claims {
     fn drop(self) {
         let Claims {

@@ -36,7 +36,7 @@ pub(crate) struct Listing {
     pub(crate) worlds: Vec<Position>,
 }
 
-// A destructor of its own: a function that lets one go calls it, where else its proof would have a part for each field.
+// Written out, so that letting one go is a call.
 impl Drop for Listing {
     fn drop(self) {
         let Listing {

@@ -45,6 +45,9 @@ impl<'a, S: Store> StoreLog<'a, S> {
     }
 }
 
+/// So many bytes take most lines.
+const USUAL: usize = 96;
+
 // Prints a line, and adds its text to what a name holds.
 fn append_line<S: Store>(
     alloc: Global,
@@ -59,7 +62,7 @@ fn append_line<S: Store>(
     ensures cause { IfFailed result (Rose (S.write_faults store.old name.now) (S.write_faults store.new name.now))
         (NoneMoved (S.read_faults store.old) (S.read_faults store.new) (S.write_faults store.old) (S.write_faults store.new)) }
 {
-    let mut text = Vec::new(alloc);
+    let mut text = Vec::with_capacity(alloc, USUAL)?;
     put_whole(alloc, &mut text, line)?;
     store.append(name, &text)
 }

@@ -152,7 +152,7 @@ pub enum UsageKind {
     MissingKey,
     #[error("a limit is given, but no file for the token")]
     BudgetWithoutToken,
-    #[error("two of the files are one")]
+    #[error("two keys name the same file")]
     SameName,
 }
 

@@ -5,4 +5,3 @@ pub mod Shape
 pub mod Numbers
 pub mod Gather
 pub mod Sets
-pub mod Samples

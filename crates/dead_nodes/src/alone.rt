@@ -2,8 +2,8 @@
 //! had no point before.
 //!
 //! What both concepts of a pair have in common is often shown empty by one clause. Where they are now to be equal, or one in the
-//! other, that clause and the relation's own show a concept empty. So no search is wanted, and all dead nodes beside one another
-//! are shown by what was shown of their pair.
+//! other, that clause and the relation's own show a concept empty. So dead nodes beside one another are shown by what was shown
+//! of their pair, and one search for it at most.
 ghost use Rattle.std.specs.Prelude.{◌≡◌, ◌<◌, ◌≤◌, length, IfOk, IfSome};
 ghost use Rattle.world_model.specs.Problem.{concept_count, pair_count};
 ghost use Rattle.constraint_set.specs.Shape.{shape_of};
@@ -11,15 +11,15 @@ ghost use Rattle.point_encode.specs.Needs.{IsInRange};
 ghost use Rattle.point_query.specs.Asking.{AskerGoes};
 ghost use Rattle.dead_nodes.specs.Why.{Closes};
 
-use crate::derived::derived;
-use crate::hints::{Guess, Hints, Reason, held};
+use crate::closes::is_empty_there;
+use crate::hints::{Guess, Hints, Reason};
 use crate::near::{Region, shown_near};
 use constraint_set::Problem;
 use lits_core::Lit;
-use point_encode::{Need, forced_at, is_forced, need_number};
-use point_pool::word_of;
+use point_encode::{Need, is_forced, need_number};
 use point_query::{Asker, Found};
-use rcc5_core::{Occupancy, Position};
+use rcc5_core::Position;
+use search_log::derived;
 use std::alloc::{AllocError, Global};
 
 /// A concept of a pair with its two parts: which one the last relation empties, and which one is left.
@@ -47,12 +47,12 @@ fn bare_by(
     requires part { region.part < 3 }
     ensures kept { AskerGoes asker.old asker.new }
 {
-    let need = Need::Region {
+    let asked = Need::Region {
         pair: region.pair,
         part: region.part as u8,
     };
-    let number = need_number(problem, need);
-    if let Some(clause) = hints.clause_of(problem, asker, node, need, number) {
+    let need = need_number(problem, asked);
+    if let Some(clause) = hints.clause_of(problem, asker, node, asked, need) {
         return Ok(Some(clause));
     }
     hints.learn(problem)?;
@@ -61,17 +61,10 @@ fn bare_by(
         shown = derived(problem, asker, &draft.lits, &draft.hints)?;
     }
     if shown.is_none() {
-        shown = asked_above(problem, asker, node, need, hints.alloc)?;
+        shown = asked_above(problem, asker, node, asked, hints.alloc)?;
     }
     if let Some(clause) = shown {
-        hints.keep(
-            asker,
-            node,
-            Reason {
-                need: number,
-                clause,
-            },
-        )?;
+        hints.keep(asker, node, Reason { need, clause })?;
     }
     Ok(shown)
 }
@@ -119,6 +112,29 @@ fn lits_without(
     Ok(lits)
 }
 
+// The clause that a side's concept has no point, where one shows that nothing is in the part that is left.
+#[tactic(auto, using(search_log::proofs::Logs::asker_stays))]
+fn emptied_by(
+    problem: &Problem,
+    asker: &mut Asker,
+    hints: &Hints,
+    side: Side,
+    bare: u64,
+) -> Result<Option<u64>, AllocError>
+    requires shape { asker.old.shape ≡ shape_of problem.now }
+    requires pair { side.pair < pair_count problem.now }
+    requires emptied { side.emptied < 3 }
+    ensures kept { AskerGoes asker.old asker.new }
+{
+    problem.facts();
+    let pair = side.pair;
+    let part = u32::from(side.emptied);
+    let selector = Lit::new(problem.concept_count() + 3 * pair + part, true);
+    let lits = lits_without(hints.alloc, asker, bare, side.other, selector)?;
+    let given = hints.given.of_region(Region { pair, part });
+    derived(problem, asker, &lits, &[given, bare])
+}
+
 // The concept of a side as a need without a point, where a node's last relation empties one part of it and nothing is in the other.
 #[tactic(auto, using(search_log::proofs::Logs::asker_stays, search_log::proofs::Logs::asker_joins))]
 fn emptied(
@@ -137,10 +153,10 @@ fn emptied(
     ensures kept { AskerGoes asker.old asker.new }
     ensures closed { IfOk result (λ found. IfSome found (Closes problem.now asker.new.solver.state node.now)) }
 {
-    problem.facts();
     let need = Need::Concept(side.concept);
-    let part = u32::from(side.emptied);
-    if !is_forced(problem, node, need) || !is_empty_at(problem, node, side.pair, part) {
+    if !is_forced(problem, node, need)
+        || !is_empty_there(problem, node, side.pair, u32::from(side.emptied))
+    {
         return Ok(None);
     }
     let region = Region {
@@ -150,41 +166,8 @@ fn emptied(
     let Some(bare) = bare_by(problem, asker, hints, node, region)? else {
         return Ok(None);
     };
-    let selector = problem.concept_count() + 3 * side.pair + part;
-    let lits = lits_without(
-        hints.alloc,
-        asker,
-        bare,
-        side.other,
-        Lit::new(selector, true),
-    )?;
-    let region = Region {
-        pair: side.pair,
-        part,
-    };
-    let Some(clause) = derived(
-        problem,
-        asker,
-        &lits,
-        &[hints.given.of_region(region), bare],
-    )?
-    else {
-        return Ok(None);
-    };
-    let need = need_number(problem, need);
-    hints.keep(asker, node, Reason { need, clause })?;
-    Ok(held(problem, asker, node, Reason { need, clause }))
-}
-
-// Whether a node forces a region of a pair empty.
-fn is_empty_at(problem: &Problem, node: &Position, pair: u32, part: u32) -> bool
-    requires within { length node.now ≤ pair_count problem.now }
-    requires pair { pair < pair_count problem.now }
-{
-    match word_of(forced_at(problem, node, pair), part) {
-        Occupancy::Empty => true,
-        Occupancy::Occupied | Occupancy::Free => false,
-    }
+    let shown = emptied_by(problem, asker, hints, side, bare)?;
+    hints.keep_held(problem, asker, node, need, shown)
 }
 
 // A concept of a node's last pair that is emptied, where nothing is in both: the left one, or else the right one.

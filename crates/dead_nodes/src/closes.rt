@@ -9,8 +9,7 @@ ghost use Rattle.point_encode.specs.Needs.{IsInRange, lits_there, need_seen};
 
 use constraint_set::Problem;
 use lits_core::Lit;
-use point_encode::{Need, forced_at, need_lits};
-use point_pool::{count_pairs, word_of};
+use point_encode::{Need, count_pairs, forced_at, need_lits, word_of};
 use point_query::Asker;
 use rcc5_core::{Occupancy, Position};
 
@@ -109,7 +108,7 @@ fn is_selector(problem: &Problem, node: &Position, lit: Lit) -> bool
 }
 
 // Whether a region of a pair is forced empty at a node.
-fn is_empty_there(problem: &Problem, node: &Position, pair: u32, part: u32) -> bool
+pub(crate) fn is_empty_there(problem: &Problem, node: &Position, pair: u32, part: u32) -> bool
     requires within { length node.now ≤ pair_count problem.now }
     requires pair { pair < pair_count problem.now }
     requires part { part < 3 }

@@ -11,7 +11,7 @@ use crate::lemmas::{Hint, Lemmas};
 use crate::near::Given;
 use constraint_set::Problem;
 use lits_core::Lit;
-use point_encode::{Need, is_forced, need_of};
+use point_encode::{Need, is_forced, need_number, need_of};
 use point_query::Asker;
 use rcc5_core::Position;
 use std::alloc::{AllocError, Global};
@@ -33,7 +33,7 @@ pub enum Guess {
     Unknown,
     /// This region of its last pair has none.
     Region(u8),
-    /// Each region of its last pair that has to has one, but this one, which need not, has none.
+    /// This region of its last pair has none, and the node asks for none in it; each region in which it does has one.
     Beside(u8),
     /// Each region of its last pair has one.
     Elsewhere,
@@ -57,7 +57,7 @@ struct Kept {
     by: Hint,
 }
 
-/// The last reasons of the nodes whose last pair is one, in a ring.
+/// The last reasons of the nodes that end with one and the same pair, in a ring.
 #[derive(Drop)]
 struct Recent {
     list: Vec<Kept>,
@@ -222,20 +222,40 @@ impl Hints {
         self.guess = guess;
     }
 
-    // A reason that holds at a node, among those of its last pair.
-    pub(crate) fn again(&self, problem: &Problem, asker: &Asker, node: &Position) -> Option<Reason>
+    // A reason that holds at a node, among those of its last pair; where none does, one whose clause is shown anew.
+    #[tactic(auto, using(search_log::proofs::Logs::asker_stays))]
+    pub(crate) fn once_more(
+        &mut self,
+        problem: &Problem,
+        asker: &mut Asker,
+        node: &Position,
+    ) -> Result<Option<Reason>, AllocError>
+        requires within { length node.now ≤ pair_count problem.now }
+        requires shape { asker.old.shape ≡ shape_of problem.now }
+        ensures kept { AskerGoes asker.old asker.new }
+        ensures closes { IfOk result (λ found. IfSome found (Closes problem.now asker.new.solver.state node.now)) }
+    {
+        let reason = self.again(problem, asker, node);
+        if reason.is_some() {
+            return Ok(reason);
+        }
+        self.note(asker)?;
+        self.anew(problem, asker, node)
+    }
+
+    // The first that holds as it is.
+    fn again(&self, problem: &Problem, asker: &Asker, node: &Position) -> Option<Reason>
         requires { length node.now ≤ pair_count problem.now }
         ensures { IfSome result (Closes problem.now asker.now.solver.state node.now) }
     {
         let pair = node.len().checked_sub(1)?;
-        self.pairs
-            .get(pair)?
-            .again(problem, asker, &self.lemmas, node)
+        let recent = self.pairs.get(pair)?;
+        recent.again(problem, asker, &self.lemmas, node)
     }
 
-    // The same, with a clause that was forgotten and is shown anew.
+    // The first with a clause that was forgotten and is shown anew.
     #[tactic(auto, using(search_log::proofs::Logs::asker_stays, search_log::proofs::Logs::asker_joins))]
-    pub(crate) fn anew(
+    fn anew(
         &mut self,
         problem: &Problem,
         asker: &mut Asker,
@@ -281,8 +301,29 @@ impl Hints {
     }
 
     // Keeps the clauses whose lines wait in an asker.
-    pub(crate) fn note(&mut self, asker: &Asker) -> Result<(), AllocError> {
+    fn note(&mut self, asker: &Asker) -> Result<(), AllocError> {
         self.lemmas.note(asker)
+    }
+
+    // Keeps what shows that a need has no point, if something does; and answers it if it holds at the node.
+    pub(crate) fn keep_held(
+        &mut self,
+        problem: &Problem,
+        asker: &Asker,
+        node: &Position,
+        need: Need,
+        shown: Option<u64>,
+    ) -> Result<Option<Reason>, AllocError>
+        requires within { length node.now ≤ pair_count problem.now }
+        requires range { IsInRange problem.now need }
+        ensures { IfOk result (λ found. IfSome found (Closes problem.now asker.now.solver.state node.now)) }
+    {
+        let Some(clause) = shown else {
+            return Ok(None);
+        };
+        let need = need_number(problem, need);
+        self.keep(asker, node, Reason { need, clause })?;
+        Ok(held(problem, asker, node, Reason { need, clause }))
     }
 
     // Keeps a reason of a node, and the clauses whose lines wait.

@@ -5,16 +5,16 @@ ghost use Rattle.std.specs.Prelude.{◌≡◌, IfOk};
 ghost use Rattle.constraint_set.specs.Shape.{shape_of};
 ghost use Rattle.point_query.specs.Asking.{AskerGoes};
 
-use crate::derived::derived;
 use constraint_set::Problem;
 use lits_core::{Line, Lit};
 use point_query::Asker;
+use search_log::derived;
 use std::alloc::{AllocError, Global};
 
 /// So many clauses are kept. Where one more comes, all are let go.
 const MOST_LEMMAS: usize = 131_072;
 
-/// So many of their ids are known, those before they were forgotten among them.
+/// So many of their ids are kept, old ones too. Where one more comes, all clauses are let go.
 const MOST_IDS: usize = 524_288;
 
 /// So many clauses are shown anew at most for one.

@@ -3,7 +3,6 @@
 
 mod alone;
 mod closes;
-mod derived;
 mod hints;
 mod lemmas;
 mod near;

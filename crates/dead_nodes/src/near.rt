@@ -6,8 +6,7 @@ ghost use Rattle.world_model.specs.Problem.{concept_count, pair_count};
 
 use constraint_set::Problem;
 use lits_core::Lit;
-use point_encode::forced_at;
-use point_pool::word_of;
+use point_encode::{forced_at, word_of};
 use rcc5_core::{Occupancy, Position};
 use std::alloc::{AllocError, Global};
 
@@ -83,8 +82,8 @@ fn part_of(problem: &Problem, region: Region) -> Part
     }
 }
 
-// How a part is shown empty by another one, in which it lies since the concept of this number lies in its parent, where a
-// node forces the other one empty.
+// How a part is shown empty by a wider one that a node forces empty: the concept of this number lies in its parent, so the one
+// part lies in the other.
 fn shown_in(
     problem: &Problem,
     node: &Position,

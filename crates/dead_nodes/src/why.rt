@@ -1,4 +1,4 @@
-//! Why a node is dead: what is remembered, and what the asker says.
+//! Why a node is dead, by each way in turn: what closed a need at other nodes, what is known of its last pair, and a question.
 ghost use Rattle.std.specs.Prelude.{◌≡◌, ◌<◌, ◌≤◌, length, IfOk, IfSome};
 ghost use Rattle.world_model.specs.Problem.{pair_count};
 ghost use Rattle.world_model.specs.Alive.{problem_at, IsAlive};
@@ -8,13 +8,13 @@ ghost use Rattle.point_query.specs.Asking.{AskerGoes};
 ghost use Rattle.dead_nodes.specs.Why.{Closes, IsWhy};
 
 use crate::alone::alone;
-use crate::derived::derived;
 use crate::hints::{Guess, Hints, Reason, held};
 use crate::near::{Region, shown_near};
 use constraint_set::Problem;
 use point_encode::{Need, is_forced, need_number};
 use point_query::{Asker, Found, Probe};
 use rcc5_core::Position;
+use search_log::derived;
 use std::alloc::{AllocError, Global};
 
 /// The regions of a pair, what the two have in common first: where it is empty, four of the five relations are dead.
@@ -43,16 +43,7 @@ pub fn why_dead(
     ensures kept { AskerGoes asker.old asker.new }
     ensures why { IfOk result (IsWhy problem.now asker.new.solver.state node.now) }
 {
-    asker.facts();
-    if let Some(reason) = hints.again(problem, asker, node) {
-        return Ok(WhyDead::NoPoint(reason));
-    }
-    hints.note(asker)?;
-    if let Some(reason) = hints.anew(problem, asker, node)? {
-        asker.facts();
-        return Ok(WhyDead::NoPoint(reason));
-    }
-    if let Some(reason) = shown(problem, asker, hints, node)? {
+    if let Some(reason) = known(problem, asker, hints, node)? {
         asker.facts();
         return Ok(WhyDead::NoPoint(reason));
     }
@@ -62,6 +53,26 @@ pub fn why_dead(
     }
     asker.facts();
     Ok(why)
+}
+
+// A need without a point by what closed one before, or else by what is known of the node's last pair.
+#[tactic(auto, using(search_log::proofs::Logs::asker_stays, search_log::proofs::Logs::asker_joins))]
+fn known(
+    problem: &Problem,
+    asker: &mut Asker,
+    hints: &mut Hints,
+    node: &Position,
+) -> Result<Option<Reason>, AllocError>
+    requires shape { asker.old.shape ≡ shape_of problem.now }
+    requires within { length node.now ≤ pair_count problem.now }
+    ensures kept { AskerGoes asker.old asker.new }
+    ensures closed { IfOk result (λ found. IfSome found (Closes problem.now asker.new.solver.state node.now)) }
+{
+    let reason = hints.once_more(problem, asker, node)?;
+    if reason.is_some() {
+        return Ok(reason);
+    }
+    shown(problem, asker, hints, node)
 }
 
 // A need of a node's last pair that what is known of the pair shows without a point: a region of it, or one of its concepts.
@@ -139,12 +150,8 @@ fn shown_at(
     let Some(draft) = shown_near(problem, node, &hints.given, Region { pair, part }) else {
         return Ok(None);
     };
-    let Some(clause) = derived(problem, asker, &draft.lits, &draft.hints)? else {
-        return Ok(None);
-    };
-    let need = need_number(problem, need);
-    hints.keep(asker, node, Reason { need, clause })?;
-    Ok(held(problem, asker, node, Reason { need, clause }))
+    let shown = derived(problem, asker, &draft.lits, &draft.hints)?;
+    hints.keep_held(problem, asker, node, need, shown)
 }
 
 // What the asker says of a dead node: first of the regions of its last pair, since a clause with few literals often shows one of
@@ -241,11 +248,8 @@ fn asked_of(
     match asker.ask(problem, prefix, need)? {
         Found::Point(_) => Ok(None),
         Found::Closed(clause) => {
-            let reason = Reason {
-                need: need_number(problem, need),
-                clause,
-            };
-            Ok(held(problem, asker, node, reason))
+            let need = need_number(problem, need);
+            Ok(held(problem, asker, node, Reason { need, clause }))
         }
     }
 }

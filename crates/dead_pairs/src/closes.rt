@@ -10,8 +10,7 @@ ghost use Rattle.dead_pairs.specs.Lone.{lone_problem};
 use crate::lone::{Lone, forced_at};
 use constraint_set::Problem;
 use lits_core::Lit;
-use point_encode::{Need, need_lits};
-use point_pool::{count_pairs, word_of};
+use point_encode::{Need, count_pairs, need_lits, word_of};
 use point_query::Asker;
 use rcc5_core::Occupancy;
 

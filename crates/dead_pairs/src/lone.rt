@@ -11,8 +11,7 @@ ghost use Rattle.dead_pairs.specs.Lone.{lone_problem};
 
 use cert_rules::children_narrow;
 use constraint_set::Problem;
-use point_encode::Need;
-use point_pool::word_of;
+use point_encode::{Need, word_of};
 use rcc5_core::{Occupancy, Regions, Rel, RelSet, forced};
 use world_model::pairs_stand_once;
 

@@ -1,8 +1,6 @@
 //! Clauses that show that a need has no point where a pair is narrowed.
-ghost use Rattle.std.specs.Prelude.{◌≡◌, ◌<◌, IfOk, IfNone, IsTrue};
-ghost use Rattle.watch_arena.specs.Trails.{AreInRange};
+ghost use Rattle.std.specs.Prelude.{◌≡◌, ◌<◌};
 ghost use Rattle.world_model.specs.Problem.{pair_count};
-ghost use Rattle.cert_model.specs.Clauses.{variable_count};
 ghost use Rattle.constraint_set.specs.Shape.{shape_of};
 ghost use Rattle.point_encode.specs.Needs.{IsInRange};
 ghost use Rattle.point_query.specs.Asking.{AskerGoes};
@@ -12,10 +10,10 @@ use crate::literals::{lits_of, need_of_both};
 use crate::lone::Lone;
 use constraint_set::Problem;
 use lits_core::Lit;
-use point_encode::{Need, need_lits, need_of, variable_count};
-use point_pool::word_of;
+use point_encode::{Need, need_lits, need_of, word_of};
 use point_query::{Asker, Found};
 use rcc5_core::{Occupancy, Position};
+use search_log::derived;
 use std::alloc::{AllocError, Global};
 
 /// A clause that is to be shown: its literals, and the ids of the clauses that show it.
@@ -122,28 +120,6 @@ fn add_reason(
     }
 }
 
-// Adds a clause whose hints show it.
-#[tactic(auto, using(search_log::proofs::Logs::asker_stays))]
-fn derived(problem: &Problem, asker: &mut Asker, draft: &Draft) -> Result<Option<u64>, AllocError>
-    requires shape { asker.old.shape ≡ shape_of problem.now }
-    ensures kept { AskerGoes asker.old asker.new }
-{
-    let lits = draft.lits.as_slice();
-    if !are_in_range(problem, lits) {
-        return Ok(None);
-    }
-    asker.facts();
-    asker.derive(lits, &draft.hints)
-}
-
-// Whether literals are of a problem's variables.
-fn are_in_range(problem: &Problem, lits: &[Lit]) -> bool
-    ensures { IsTrue result → AreInRange lits.now (variable_count problem.now) }
-{
-    let count = variable_count(problem);
-    lits.iter().all(|lit| lit.variable() < count)
-}
-
 // A clause that shows that a need has no point, if a region of the pair has all its points, and is empty by the narrowing.
 #[tactic(auto, using(search_log::proofs::Logs::asker_stays, search_log::proofs::Logs::asker_joins))]
 fn shown_by(
@@ -200,7 +176,7 @@ fn shown_by(
     draft
         .hints
         .push(hints.first.saturating_add(u64::from(region)))?;
-    derived(problem, asker, &draft)
+    derived(problem, asker, &draft.lits, &draft.hints)
 }
 
 /// A clause that shows that a need has no point where a pair is narrowed, by one of the regions that are empty then.

@@ -47,10 +47,10 @@ pub(crate) fn rejection_help(kind: RejectKind) -> &'static str {
         }
         RejectKind::IdUsed => "a clause with this number is there already",
         RejectKind::WrongHeader => {
-            "the certificate is for other switches, or for a problem with more pairs; check it with those that it was made with"
+            "the certificate is for other switches, or for a problem with more pairs"
         }
         RejectKind::WrongSubject => {
-            "this claim is about a pair or a list of statements that the problem doesn't have; check it with the one that it was made with"
+            "this claim is about a pair or a list of statements that the problem doesn't have"
         }
         RejectKind::MissingBranch => {
             "another node should be told of here; one is missing, or they are out of order"

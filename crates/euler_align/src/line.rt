@@ -12,6 +12,14 @@ fn is_file(rt: &HostRuntime, name: &str) -> bool {
     }
 }
 
+/// Whether a name is one of something that may be read, and no folder.
+pub(crate) fn is_there(rt: &HostRuntime, name: &str) -> bool {
+    match fs::metadata(rt, name) {
+        Ok(found) => !found.is_dir(),
+        Err(_) => false,
+    }
+}
+
 // The line with this number, from 1; empty where there is none.
 fn line_of(text: &str, number: u32) -> &str {
     let mut count: u32 = 0;

@@ -1,4 +1,4 @@
-//! Lists the possible merged worlds of the taxonomies in a file.
+//! The program: the real files and standard output, a call of `run`, and what people are told of how it ended.
 #![tactic(auto)]
 
 mod help;
@@ -7,12 +7,12 @@ mod usage;
 
 use align_top::{Status, UsageKind, fault_place, run, text_help, usage_help};
 use help::{certificate_help, rejection_help, token_help};
-use line::show_line;
+use line::{is_there, show_line};
 use outer_store::{FileStore, StdoutSink};
 use std::alloc::{AllocError, Global};
 use std::process::ExitCode;
 use std::{env, fs, io};
-use usage::{asks_for_help, numbers_taken, wrong_word};
+use usage::{asks_for_help, values_taken, wrong_word};
 use world_watch::{
     CountWatcher, JsonWatcher, MergeWatcher, SeenWatcher, TallyWatcher, WorldWatcher,
 };
@@ -83,13 +83,20 @@ fn between(second: &str) -> &'static str {
     if second.is_empty() { "" } else { " or " }
 }
 
-// Tells that a file can't be read.
-fn explain_read(rt: &impl Eprint, words: &[String]) -> io::Result<()> {
+// Tells that a file can't be read: which one, where one of two is not there.
+fn explain_read(rt: &HostRuntime, words: &[String]) -> io::Result<()> {
     let input = value_of(words, "in=");
     let other = read_besides(words);
-    let or = between(other);
+    let (first, second) = if other.is_empty() || !is_there(rt, input) {
+        (input, "")
+    } else if !is_there(rt, other) {
+        (other, "")
+    } else {
+        (input, other)
+    };
+    let or = between(second);
     eprintln!(rt;
-        "{input}{or}{other}: this file can't be read; check that it exists, that it is not a folder, and that you may read it"
+        "{first}{or}{second}: this file can't be read; check that it exists, that it is not a folder, and that you may read it"
     )
 }
 
@@ -103,7 +110,7 @@ fn explain_write(rt: &impl Eprint, words: &[String]) -> io::Result<()> {
     };
     let (first, second) = (between(token), between(cert));
     eprintln!(rt;
-        "standard output{first}{token}{second}{cert} can't be written; check who reads it, that the folder exists, that you may write there and that there is room. What was written is not whole: don't use it"
+        "standard output{first}{token}{second}{cert} can't be written: whoever read it may have stopped early, as `head` does; or check that the folder exists, that you may write there and that there is room. What was written is not whole"
     )
 }
 
@@ -116,8 +123,8 @@ fn explain_program(rt: &impl Eprint, help: &str) -> io::Result<()> {
 
 // Tells what is wrong with the words, at which word, and what may stand there.
 fn explain_word(rt: &impl Eprint, kind: UsageKind, word: &str, help: &str) -> io::Result<()> {
-    if let Some(numbers) = numbers_taken(kind, word) {
-        return eprint!(rt; "{word}: {numbers}\n{help}");
+    if let Some(values) = values_taken(kind, word) {
+        return eprint!(rt; "{word}: {values}\n{help}");
     }
     let colon = if word.is_empty() { "" } else { ": " };
     eprint!(rt; "{kind}{colon}{word}\n{help}")
@@ -181,12 +188,14 @@ fn explain(rt: &HostRuntime, alloc: Global, words: &[String], status: &Status) -
         Status::Rejected { line, kind } => {
             let name = value_of(words, "cert=");
             let sentence = rejection_help(*kind);
-            eprintln!(rt; "{name}:{line}: {sentence}")
+            eprintln!(rt;
+                "{name}:{line}: {sentence}; check it with the problem and the switches that it was made with"
+            )
         }
         Status::NoWorld => {
             let input = value_of(words, "in=");
             eprintln!(rt;
-                "no merged classification meets all statements; `euler_align conflict in={input}`, with the same switches, names a least set of them that can't stand together"
+                "no merged classification meets all statements; `euler_align conflict in={input}`, with the same switches, names some that can't stand together, each of them needed for the conflict"
             )
         }
         Status::NoMemory => eprintln!(rt;

@@ -16,10 +16,13 @@ pub(crate) fn asks_for_help(words: &[String]) -> bool {
     }
 }
 
-/// What numbers a key takes, where the fault is that a word gives it another one.
-pub(crate) fn numbers_taken(kind: UsageKind, word: &str) -> Option<&'static str> {
+/// What a key takes, where the fault is that a word gives it another number or kind.
+pub(crate) fn values_taken(kind: UsageKind, word: &str) -> Option<&'static str> {
     match kind {
         UsageKind::BadNumber | UsageKind::ZeroBudget => Some(numbers_of(word)),
+        UsageKind::UnknownKind => Some(
+            "give one or more of count, tally, seen, merge and json, with commas and no spaces between",
+        ),
         _ => None,
     }
 }

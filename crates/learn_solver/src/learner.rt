@@ -32,7 +32,7 @@ pub(crate) struct Learner {
     pub(crate) alloc: Global,
 }
 
-// A destructor of its own: a function that lets one go calls it, where else its proof would have a part for each field.
+// Written out, so that letting one go is a call.
 impl Drop for Learner {
     fn drop(self) {
         let Learner {

@@ -103,6 +103,21 @@ impl<'r, R: Files> FileStore<'r, R> {
     }
 }
 
+// Whether two names are the same. One is compared for each piece that is added, and names are short: a plain loop is quicker there
+// than a comparison by words.
+fn is_same(one: &str, other: &str) -> bool {
+    let (one, other) = (one.as_bytes(), other.as_bytes());
+    if one.len() != other.len() {
+        return false;
+    }
+    for place in 0..one.len() {
+        if one[place] != other[place] {
+            return false;
+        }
+    }
+    true
+}
+
 fn open_to_read<R: Files>(
     files: &R,
     alloc: Global,
@@ -110,7 +125,7 @@ fn open_to_read<R: Files>(
     name: &str,
 ) -> Result<Reading<R::File>, StoreFault> {
     if let Some(open) = kept {
-        if open.name.as_str() == name {
+        if is_same(open.name.as_str(), name) {
             return Ok(open);
         }
     }
@@ -130,7 +145,7 @@ fn open_to_append<R: Files>(
     name: &str,
 ) -> Result<Appending<R::File>, StoreFault> {
     if let Some(open) = kept {
-        if open.name.as_str() == name {
+        if is_same(open.name.as_str(), name) {
             return Ok(open);
         }
     }

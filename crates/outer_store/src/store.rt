@@ -7,7 +7,7 @@ ghost use Rattle.outer_store.specs.Faults.{Rose, NoneFell, IfFailed};
 
 use crate::StoreFault;
 
-/// Files by their names. A name is text; a name that was never written holds no bytes.
+/// Files by their names. A name is text. In memory a name that was never written holds no bytes; a file that isn't there fails.
 pub trait Store {
     /// The bytes that a name holds, where the store tells them.
     ghost held: { Self → List ℕ → Option (List ℕ) };

@@ -4,8 +4,7 @@ ghost use Rattle.std.specs.Prelude.{◌≡◌};
 
 use crate::picks::Pick;
 use constraint_set::Problem;
-use point_encode::Need;
-use point_pool::word_of;
+use point_encode::{Need, word_of};
 use point_query::{Asker, Probe};
 use rcc5_core::{Occupancy, Position, forced};
 use std::alloc::{AllocError, Global};

@@ -10,7 +10,7 @@ use Rattle.world_model.specs.Alive.{all_allow, problem_at, is_in_need, HasPoint,
 use Rattle.world_model.proofs.Members.{In-map, from_map, in_from_contains, contains_from_in, IsImage}
 use Rattle.point_encode.specs.declared.need.Need as code
 use Rattle.point_encode.specs.Needs.{need_seen, IsInRange}
-use Rattle.point_pool.specs.Needs.{EachServed}
+use Rattle.point_encode.specs.Numbers.{EachServed}
 use Rattle.point_query.specs.Answers.{IsServed, IsClosed, IsFirstClosed}
 use Rattle.plain_asker.specs.declared.each_need.Sought.TheVariants.{Points, Closed}
 use Rattle.point_query.specs.Asking.{AskerState}

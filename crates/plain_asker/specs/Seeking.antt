@@ -11,7 +11,7 @@ use Rattle.plain_asker.specs.declared.each_need.Placed.{Placed}
 use Rattle.plain_asker.specs.declared.each_need.Placed.TheVariants.{At}
 use Rattle.plain_asker.specs.declared.each_need.Placed.TheVariants as placed
 use Rattle.point_query.specs.Asking.{AskerState}
-use Rattle.point_pool.specs.Needs.{EachServed}
+use Rattle.point_encode.specs.Numbers.{EachServed}
 use Rattle.point_query.specs.Answers.{IsClosed}
 
 -- the points at these places

@@ -41,12 +41,23 @@ struct Desk {
 /// Searches for points of a problem at a path that grows and shrinks, by rows of bits.
 ///
 /// It notes the points that were found too, by their places, and which of them were struck out at which length of the path.
-#[derive(Drop)]
 pub struct Drafts {
     desk: Option<Desk>,
     asked: u32,
     places: Places,
     alloc: Global,
+}
+
+// Written out, so that letting one go is a call.
+impl Drop for Drafts {
+    fn drop(self) {
+        let Drafts {
+            desk: _,
+            asked: _,
+            places: _,
+            alloc: _,
+        } = self;
+    }
 }
 
 impl Desk {

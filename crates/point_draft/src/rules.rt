@@ -29,7 +29,6 @@ pub(crate) struct Numbers {
 }
 
 /// Rows of concepts, one a concept: those that it lies in, those that lie in it, and those that have nothing in common with it.
-#[derive(Drop)]
 pub(crate) struct Rules {
     pub(crate) above: Vec<Row>,
     pub(crate) below: Vec<Row>,
@@ -40,6 +39,21 @@ pub(crate) struct Rules {
     // What the relations of the path added, and how much there was before each.
     added: Vec<Said>,
     marks: Vec<usize>,
+}
+
+// Written out, so that letting one go is a call.
+impl Drop for Rules {
+    fn drop(self) {
+        let Rules {
+            above: _,
+            below: _,
+            apart: _,
+            covers: _,
+            covers_of: _,
+            added: _,
+            marks: _,
+        } = self;
+    }
 }
 
 // So many rows without bits.

@@ -3,10 +3,14 @@
 
 mod encode;
 mod need;
+mod numbers;
 mod select;
 mod variables;
 
 pub use encode::given_clauses;
 pub use need::{Need, is_forced, need_lits, need_number, need_of, needs_of};
+pub use numbers::{
+    Wanted, by_concepts, count_needs, count_pairs, is_in, lies_in, need_at, number_of, word_of,
+};
 pub use select::{add_empty_regions, allowed_at, forced_at, selectors_of};
 pub use variables::{MAX_SUM_START, MAX_VARIABLES, variable_count};

@@ -16,7 +16,7 @@ use Rattle.cert_model.specs.Forced.{region_with, pair_selectors}
 use Rattle.world_model.specs.Laws.{PositionsNarrow}
 use Rattle.point_pool.specs.Cursors.{IsOpen, AreForced, IsCursor, start_selectors, kept_selectors, path_selectors}
 use Rattle.world_model.specs.Points.{forced_at}
-use Rattle.point_pool.specs.Needs.{is_needed}
+use Rattle.point_encode.specs.Numbers.{is_needed}
 use Rattle.std.specs.List.{range_with_len}
 use Rattle.std.proofs.lemmas.Grind.{flat_map-append}
 use Rattle.constraint_set.proofs.Lists.{range_more}

@@ -10,7 +10,7 @@ use Rattle.world_model.specs.Problem.{Problem}
 use Rattle.world_model.specs.Alive.{Need, is_point, is_in_need, each_has_one, problem_at}
 use Rattle.world_model.proofs.Members.{In, any_from, in_from_contains}
 use Rattle.point_pool.specs.declared.pool.Pool.{Pool}
-use Rattle.point_pool.specs.Needs.{AreServing, need_at, is_needed, needs_below, need_count}
+use Rattle.point_encode.specs.Numbers.{AreServing, need_at, is_needed, needs_below, need_count}
 use Rattle.point_pool.specs.Pools.{point_at, IsPool, AreGathered}
 use Rattle.point_pool.proofs.Settling.{served_now}
 use Rattle.point_pool.proofs.Numbering.{needs_more}

@@ -16,7 +16,7 @@ use Rattle.world_model.proofs.Members.{In, here, there, none_in, In-flat_map, fr
 use Rattle.constraint_set.proofs.Lists.{range_split, range_more}
 use Rattle.cert_model.specs.Forced.{region_with}
 use Rattle.world_model.specs.Points.{forced_at}
-use Rattle.point_pool.specs.Needs.{need_at, is_needed, one_need, needs_below, need_count}
+use Rattle.point_encode.specs.Numbers.{need_at, is_needed, one_need, needs_below, need_count}
 use Rattle.point_pool.proofs.Prefixes.{needed_by, needed_past}
 
 -- a region's need, if it is one

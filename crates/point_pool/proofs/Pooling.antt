@@ -18,7 +18,7 @@ use Rattle.point_draft.specs.declared.drafts.Drafts.{Drafts}
 use Rattle.point_pool.specs.declared.pool.Pool.{Pool}
 use Rattle.point_pool.specs.declared.waiting.Numbers.{Numbers}
 use Rattle.point_pool.specs.Cursors.{CursorState, IsOpen}
-use Rattle.point_pool.specs.Needs.{need_at, is_needed, need_count}
+use Rattle.point_encode.specs.Numbers.{need_at, is_needed, need_count}
 use Rattle.point_pool.specs.Pools.{IsUnstruck, IsStruckBeyond, IsUndone, point_at, depth_at, served_at, ArePooled, IsFit, IsWitness, HasWitness, IsAdded, IsKept, IsNeeded, meets_trees, IsPool, IsPoolBut, StrikesOut, IsStriking}
 use Rattle.point_pool.specs.Starts.{AreStarted}
 use Rattle.point_pool.proofs.Prefixes.{point_more, point_later, needed_later, needed_before}

@@ -20,7 +20,7 @@ use Rattle.world_model.proofs.PointAlive.{Pointed, point_parts, point_whole}
 use Rattle.cert_model.specs.Forced.{region_with}
 use Rattle.point_pool.specs.Cursors.{IsOpen}
 use Rattle.world_model.specs.Points.{forced_at}
-use Rattle.point_pool.specs.Needs.{is_needed}
+use Rattle.point_encode.specs.Numbers.{is_needed}
 use Rattle.world_model.proofs.Narrowed.{forced_only, only_inside, only_some}
 use Rattle.point_pool.proofs.Cursors.{allowed_inside, open_fewer}
 

@@ -6,7 +6,7 @@ use Rattle.std.proofs.lemmas.Bool.{and_parts, and_from, or_left, or_right}
 use Rattle.world_model.specs.Problem.{Problem}
 use Rattle.world_model.specs.Alive.{Need, all_allow, needs, is_point, is_in_need, HasPoint, IsAlive, each_has_one}
 use Rattle.world_model.proofs.Members.{In, here, there, none_in, in_from_contains}
-use Rattle.point_pool.specs.Needs.{EachServed}
+use Rattle.point_encode.specs.Numbers.{EachServed}
 
 -- one more need with its point
 pub each_push : (p : Problem) (needs : List Need) (points : List (List Bool)) (need : Need) (bits : List Bool) → EachServed p needs points →

@@ -14,7 +14,7 @@ use Rattle.point_encode.specs.declared.need.Need as code
 use Rattle.point_encode.specs.declared.need.Need.TheVariants.{Region, Concept}
 use Rattle.point_encode.specs.Needs.{need_seen, number_of, IsInRange}
 use Rattle.point_pool.specs.declared.pool.Pool.{Pool}
-use Rattle.point_pool.specs.Needs.{EachServed, need_at, is_needed, needs_below, need_count}
+use Rattle.point_encode.specs.Numbers.{EachServed, need_at, is_needed, needs_below, need_count}
 use Rattle.point_pool.specs.Cursors.{CursorState}
 use Rattle.point_pool.specs.Pools.{point_at, IsPool, HasWitness}
 use Rattle.point_pool.proofs.Numbering.{needs_numbered, needs_more, from_below, IsNumbered}

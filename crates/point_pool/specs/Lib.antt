@@ -1,4 +1,3 @@
-pub mod Needs
 pub mod Cursors
 pub mod Pools
 pub mod Starts

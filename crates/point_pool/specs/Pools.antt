@@ -1,5 +1,5 @@
 -- Points that were found, at a prefix: which of them are points of it, and which needs they serve.
-use Rattle.point_pool.specs.Needs.{AreServing, is_needed, lies_by, need_at, need_count, needs_below}
+use Rattle.point_encode.specs.Numbers.{AreServing, is_needed, lies_by, need_at, need_count, needs_below}
 use Rattle.point_pool.specs.declared.pool.Pool.{Pool}
 use Rattle.rcc5_core.specs.Region.{all_regions, same_word, word_at}
 use Rattle.rcc5_core.specs.declared.Occupancy.TheVariants.{Empty}

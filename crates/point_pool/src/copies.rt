@@ -1,4 +1,4 @@
-//! Copies of problems and points.
+//! Whether two problems are equal, and copies of points.
 ghost use Rattle.constraint_set.specs.Shape.{SameShape};
 ghost use Rattle.std.specs.Prelude.{IfOk, length, slice_get, take, true, ◌<◌, ◌≡◌, ◌≤◌};
 

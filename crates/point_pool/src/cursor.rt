@@ -2,7 +2,7 @@
 ghost use Rattle.cert_model.specs.Forced.{pair_selectors};
 ghost use Rattle.point_pool.specs.Cursors.{AreForced, AreSelectors, IsEmptyPair, IsOpen};
 ghost use Rattle.world_model.specs.Points.{forced_at};
-ghost use Rattle.point_pool.specs.Needs.{is_needed};
+ghost use Rattle.point_encode.specs.Numbers.{is_needed};
 ghost use Rattle.rcc5_core.specs.Region.{row_of};
 ghost use Rattle.rcc5_core.specs.RelationSet.{has};
 ghost use Rattle.std.specs.Prelude.{IfOk, IsTrue, OnErr, OnOk, [], length, take, ℕ, ◌*◌, ◌++◌, ◌+◌, ◌-◌, ◌<◌, ◌∷◌, ◌≡◌, ◌≤◌};
@@ -10,10 +10,10 @@ ghost use Rattle.world_model.specs.Alive.{allowed, problem_at};
 ghost use Rattle.world_model.specs.Node.{pair_at};
 ghost use Rattle.world_model.specs.Problem.{concept_count, pair_count};
 
-use crate::needs::word_of;
 use crate::selectors::{selected_alone, selected_at};
 use constraint_set::Problem;
 use lits_core::Lit;
+use point_encode::word_of;
 use rcc5_core::{Occupancy, Regions, Rel, forced};
 use std::alloc::{AllocError, Global};
 use std::marker::Model;
@@ -27,12 +27,12 @@ pub struct Cursor {
     at_start: Vec<Regions>,
     at_path: Vec<Regions>,
     empty: Option<u32>,
-    // The selectors that the prefix makes true: those that the problem alone makes true come first, and each relation's last.
+    // The selectors that the prefix makes true: those that the problem alone makes true, then those of each relation in order.
     selected: Vec<Lit>,
     alloc: Global,
 }
 
-// A destructor of its own: a function that lets one go calls it, where else its proof would have a part for each field.
+// Written out, so that letting one go is a call.
 impl Drop for Cursor {
     fn drop(self) {
         let Cursor {

@@ -1,6 +1,6 @@
 //! What is drafted for a need at the prefix.
 ghost use Rattle.point_pool.specs.Drafted.{AvoidsPair, AvoidsPairsOf};
-ghost use Rattle.point_pool.specs.Needs.{need_at, need_count};
+ghost use Rattle.point_encode.specs.Numbers.{need_at, need_count};
 ghost use Rattle.point_pool.specs.Pools.{HasWitness, IsPool, IsPoolBut};
 ghost use Rattle.std.specs.Prelude.{IfOk, IsTrue, OnOk, length, true, ℕ, ◌+◌, ◌<◌, ◌≡◌};
 ghost use Rattle.world_model.specs.Alive.{bit_of, is_in_need, is_point, problem_at};
@@ -8,9 +8,9 @@ ghost use Rattle.world_model.specs.Problem.{concept_count};
 
 use crate::cursor::Cursor;
 use crate::depths::is_out;
-use crate::needs::{by_concepts, is_in, need_of};
 use crate::pool::Pool;
 use point_draft::Draft;
+use point_encode::{by_concepts, is_in, need_at};
 use point_table::{bits_of, meets_structure};
 use std::alloc::AllocError;
 
@@ -94,7 +94,7 @@ impl Pool {
         ensures cursor { self.new.cursor ≡ self.old.cursor }
         ensures waiting { self.new.waiting ≡ self.old.waiting }
     {
-        let need = need_of(self.cursor.problem(), number);
+        let need = need_at(self.cursor.problem(), number);
         self.drafts
             .search(self.cursor.problem(), self.cursor.path(), need)
     }

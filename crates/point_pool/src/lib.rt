@@ -6,7 +6,6 @@ mod copies;
 mod cursor;
 mod depths;
 mod drafting;
-mod needs;
 mod pool;
 mod selectors;
 mod start;
@@ -16,6 +15,5 @@ mod witness;
 
 pub use copies::{copy, front};
 pub use cursor::Cursor;
-pub use needs::{count_needs, count_pairs, lies_in, need_of, number_of, word_of};
 pub use pool::Pool;
 pub use waiting::Waiting;

@@ -1,7 +1,7 @@
 //! Points that were found, kept along a prefix.
 ghost use Rattle.constraint_set.specs.Shape.{SameShape};
 ghost use Rattle.point_pool.specs.Cursors.{IsEmptyPair};
-ghost use Rattle.point_pool.specs.Needs.{is_needed, need_count};
+ghost use Rattle.point_encode.specs.Numbers.{is_needed, need_count};
 ghost use Rattle.point_pool.specs.Pools.{IsPool, IsPoolAt, meets_trees};
 ghost use Rattle.rcc5_core.specs.RelationSet.{has};
 ghost use Rattle.std.specs.Prelude.{All, Contains, IfNone, IfOk, IsTrue, OnOk, [], length, take, ℕ, ◌++◌, ◌+◌, ◌<◌, ◌∷◌, ◌≡◌, ◌≤◌};
@@ -13,12 +13,12 @@ use crate::alike::common_len;
 use crate::copies::is_same;
 use crate::cursor::Cursor;
 use crate::depths::unstrike;
-use crate::needs::count_needs;
 use crate::start::depths_at_start;
 use crate::waiting::{Numbers, Waiting};
 use constraint_set::Problem;
 use lits_core::Bits;
 use point_draft::Drafts;
+use point_encode::count_needs;
 use rcc5_core::{Position, Rel, RelSet};
 use std::alloc::{AllocError, Global};
 use std::mem;
@@ -42,7 +42,7 @@ pub struct Pool {
     pub(crate) alloc: Global,
 }
 
-// A destructor of its own: a function that lets one go calls it, where else its proof would have a part for each field.
+// Written out, so that letting one go is a call.
 impl Drop for Pool {
     fn drop(self) {
         let Pool {

@@ -5,10 +5,9 @@ ghost use Rattle.point_pool.specs.Cursors.{AreForced, kept_selector, kept_select
 ghost use Rattle.std.specs.Prelude.{IfOk, OnOk, length, ◌*◌, ◌++◌, ◌+◌, ◌<◌, ◌≡◌};
 ghost use Rattle.world_model.specs.Problem.{concept_count, pair_count};
 
-use crate::needs::count_pairs;
 use constraint_set::Problem;
 use lits_core::Lit;
-use point_encode::add_empty_regions;
+use point_encode::{add_empty_regions, count_pairs};
 use rcc5_core::Regions;
 use std::alloc::{AllocError, Global};
 

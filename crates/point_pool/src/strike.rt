@@ -1,12 +1,12 @@
 //! What one more relation strikes out, and the needs that it adds.
-ghost use Rattle.point_pool.specs.Needs.{need_count};
+ghost use Rattle.point_encode.specs.Numbers.{need_count};
 ghost use Rattle.point_pool.specs.Pools.{IsPool, IsPoolBut, IsStriking, StrikesOut};
 ghost use Rattle.std.specs.Prelude.{OnOk, length, ◌*◌, ◌+◌, ◌<◌, ◌≡◌};
 ghost use Rattle.world_model.specs.Problem.{pair_count};
 
 use crate::depths::is_to_strike;
-use crate::needs::count_pairs;
 use crate::pool::Pool;
+use point_encode::count_pairs;
 use rcc5_core::Regions;
 use std::alloc::AllocError;
 

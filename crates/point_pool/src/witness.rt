@@ -1,5 +1,5 @@
 //! The points that serve the needs.
-ghost use Rattle.point_pool.specs.Needs.{AreServing, EachServed, IsBelow, need_at, need_count, needs_below, wanted_seen};
+ghost use Rattle.point_encode.specs.Numbers.{AreServing, EachServed, IsBelow, need_at, need_count, needs_below, wanted_seen};
 ghost use Rattle.point_pool.specs.Pools.{AreGathered, FitsNeed, HasWitness, IsAdded, IsFit, IsKept, IsPool, IsPoolBut, served_at};
 ghost use Rattle.std.specs.Prelude.{Contains, IfOk, IfSome, IsTrue, OnOk, [], length, true, ℕ, ◌+◌, ◌<◌, ◌≡◌};
 ghost use Rattle.world_model.specs.Alive.{is_in_need, is_point, needs, problem_at};
@@ -7,10 +7,10 @@ ghost use Rattle.world_model.specs.Problem.{concept_count};
 
 use crate::copies::copy;
 use crate::depths::is_unstruck;
-use crate::needs::{Wanted, by_concepts, count_needs, is_in};
 use crate::pool::Pool;
 use crate::waiting::Numbers;
 use lits_core::Bits;
+use point_encode::{Wanted, by_concepts, count_needs, is_in};
 use std::alloc::AllocError;
 use world_model::positions_narrow;
 

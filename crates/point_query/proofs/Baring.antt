@@ -14,7 +14,7 @@ use Rattle.world_model.specs.Node.{pair_at}
 use Rattle.world_model.specs.Points.{forced_at}
 use Rattle.world_model.specs.Problem.{Problem, pair_count}
 use Rattle.point_pool.specs.Cursors.{IsOpen}
-use Rattle.point_pool.specs.Needs.{is_needed, need_at}
+use Rattle.point_encode.specs.Numbers.{is_needed, need_at}
 use Rattle.point_pool.proofs.Cursors.{forced_inside, open_more}
 use Rattle.point_pool.proofs.Prefixes.{needed_by, point_later}
 use Rattle.point_query.proofs.Deciding.{lost_is_dead}

@@ -14,7 +14,7 @@ use Rattle.point_query.specs.declared.answers.Probe.{Probe}
 use Rattle.point_query.specs.declared.answers.Probe.TheVariants as probe
 use Rattle.point_query.specs.Asking.{AskerState}
 pub use Rattle.point_pool.specs.Cursors.{IsFirstEmpty}
-use Rattle.point_pool.specs.Needs.{EachServed}
+use Rattle.point_encode.specs.Numbers.{EachServed}
 
 -- a clause of the asker's state closes a need of a prefix, which has no point
 pub record IsClosed (asker : AskerState) (p : Problem) (m : List Rel) (need : Need) (id : ℕ) : Type 0 where

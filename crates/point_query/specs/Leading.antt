@@ -1,4 +1,4 @@
--- Which relations lead on from a prefix.
+-- Paths that go on from a prefix.
 use Rattle.std.specs.Prelude.{◌≡◌, ◌≤◌, List, length, take}
 use Rattle.rcc5_core.specs.declared.Rel.{Rel}
 

@@ -37,7 +37,7 @@ pub struct Asker {
     alloc: Global,
 }
 
-// A destructor of its own: a function that lets one go calls it, where else its proof would have a part for each field.
+// Written out, so that letting one go is a call.
 impl Drop for Asker {
     fn drop(self) {
         let Asker {

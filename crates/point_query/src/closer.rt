@@ -3,7 +3,7 @@ ghost use Rattle.cert_model.specs.Forced.{IsClosedAt};
 ghost use Rattle.learn_solver.specs.Solving.{GoesTo, IsSolver, IsTidied};
 ghost use Rattle.lits_core.specs.Derivation.{SameLits, live_clause};
 ghost use Rattle.point_encode.specs.Needs.{IsInRange, need_seen};
-ghost use Rattle.point_pool.specs.Needs.{need_at, need_count};
+ghost use Rattle.point_encode.specs.Numbers.{need_at, need_count};
 ghost use Rattle.point_query.specs.Answers.{IsClosed, IsFound};
 ghost use Rattle.point_query.specs.Queries.{IsSolverOf, KeepsSolver, asker_with};
 ghost use Rattle.std.specs.Prelude.{IfNone, IfOk, IfSome, MatchOption, OnErr, OnOk, [], length, nat_lt, ◌<◌, ◌≡◌, ◌≤◌};
@@ -20,8 +20,8 @@ use constraint_set::Problem;
 use learn_solver::Solver;
 use lits_core::{Line, Lit, law_literals_are_sets};
 use point_draft::Draft;
-use point_encode::{Need, selectors_of};
-use point_pool::{Cursor, count_needs, need_of};
+use point_encode::{Need, count_needs, need_at, selectors_of};
+use point_pool::Cursor;
 use rcc5_core::Position;
 use std::alloc::{AllocError, Global};
 use std::marker::Model;
@@ -34,7 +34,7 @@ pub(crate) struct Closer {
     alloc: Global,
 }
 
-// A destructor of its own: a function that lets one go calls it, where else its proof would have a part for each field.
+// Written out, so that letting one go is a call.
 impl Drop for Closer {
     fn drop(self) {
         let Closer {
@@ -131,14 +131,14 @@ impl Closer {
         Ok(Some(id))
     }
 
-    // The same, by the solver alone.
+    // A point in a need, or a clause that closes it, by the solver alone.
     fn question(&mut self, cursor: &Cursor, number: u32) -> Result<Found, AllocError>
         requires within { number < need_count cursor.now.problem }
         requires solver { IsSolverOf cursor.now.problem self.old }
         ensures solver { KeepsSolver cursor.now.problem self.old self.new }
         ensures found { IfOk result (IsFound (asker_with cursor.now.problem self.new) cursor.now.problem cursor.now.path (need_at cursor.now.problem number)) }
     {
-        let need = need_of(cursor.problem(), number);
+        let need = need_at(cursor.problem(), number);
         self.questions = self.questions.saturating_add(1);
         query(
             self.alloc,

@@ -3,7 +3,7 @@ ghost use Rattle.cert_model.specs.Clauses.{first_sum_selector, is_so};
 ghost use Rattle.cert_model.specs.Forced.{IsClosedAt, asked_of, need_lits, selectors_of};
 ghost use Rattle.lits_core.specs.Derivation.{live_clause};
 ghost use Rattle.point_encode.specs.Needs.{lits_there};
-ghost use Rattle.point_pool.specs.Needs.{need_at, need_count};
+ghost use Rattle.point_encode.specs.Numbers.{need_at, need_count};
 ghost use Rattle.rcc5_core.specs.declared.Rel.{Rel};
 ghost use Rattle.std.specs.Prelude.{Contains, IsTrue, List, MatchOption, Some, ◌*◌, ◌+◌, ◌<◌, ◌≡◌};
 ghost use Rattle.world_model.specs.Problem.{concept_count, pair_count};
@@ -11,8 +11,8 @@ ghost use Rattle.world_model.specs.Problem.{concept_count, pair_count};
 use constraint_set::Problem;
 use learn_solver::Solver;
 use lits_core::Lit;
-use point_encode::need_lits;
-use point_pool::{Cursor, count_pairs, need_of, word_of};
+use point_encode::{count_pairs, need_at, need_lits, word_of};
+use point_pool::Cursor;
 use rcc5_core::Occupancy;
 use world_model::positions_narrow;
 
@@ -48,7 +48,7 @@ fn is_need_lit(problem: &Problem, number: u32, lit: Lit) -> bool
     requires { number < need_count problem.now }
     ensures { IsTrue result → Contains (need_lits (need_at problem.now number)) lit }
 {
-    let need = need_of(problem, number);
+    let need = need_at(problem, number);
     let [first, second] = need_lits(problem, need);
     is_one_of(first, second, lit)
 }

@@ -12,12 +12,13 @@ ghost use Rattle.world_model.specs.Problem.{pair_count};
 use crate::closer::Closer;
 use crate::settle::{is_settled, serve};
 use lits_core::law_literals_are_sets;
-use point_pool::{Pool, word_of};
+use point_encode::word_of;
+use point_pool::Pool;
 use rcc5_core::{Occupancy, Position, Rel, RelSet};
 use std::alloc::AllocError;
 use world_model::positions_narrow;
 
-// The relations, the last first: so a pool ends at the first of those that it tries, to which a pool over nodes goes on.
+// The relations, the last first: so the pool ends at the first of those that it tries, where a walk goes next.
 const LAST_FIRST: [Rel; 5] = [
     Rel::Disjoint,
     Rel::Overlaps,

@@ -10,8 +10,8 @@ ghost use Rattle.world_model.specs.Problem.{pair_count};
 use crate::answers::{Alive, Found, Points, Probe};
 use crate::closer::Closer;
 use crate::settle::{serve, settle};
-use point_encode::Need;
-use point_pool::{Pool, need_of, number_of};
+use point_encode::{Need, need_at, number_of};
+use point_pool::Pool;
 use rcc5_core::Position;
 use std::alloc::AllocError;
 
@@ -33,7 +33,7 @@ pub(crate) fn probe(
         return Ok(Probe::EmptyPair(pair));
     }
     if let Some((number, id)) = settle(pool, solver)? {
-        return Ok(Probe::Closed(need_of(pool.cursor.problem(), number), id));
+        return Ok(Probe::Closed(need_at(pool.cursor.problem(), number), id));
     }
     Ok(Probe::Alive)
 }
@@ -56,7 +56,7 @@ pub(crate) fn alive(
         return Ok(Alive::EmptyPair(pair));
     }
     if let Some((number, id)) = settle(pool, solver)? {
-        return Ok(Alive::Closed(need_of(pool.cursor.problem(), number), id));
+        return Ok(Alive::Closed(need_at(pool.cursor.problem(), number), id));
     }
     let points = pool.witnesses()?;
     Ok(Alive::Points(Points::new(points)))

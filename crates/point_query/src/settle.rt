@@ -1,5 +1,5 @@
 //! Sees to it that the needs of a pool's prefix have points.
-ghost use Rattle.point_pool.specs.Needs.{need_count};
+ghost use Rattle.point_encode.specs.Numbers.{need_count};
 ghost use Rattle.point_pool.specs.Pools.{HasWitness, IsPool, IsPoolBut};
 ghost use Rattle.point_query.specs.Closing.{IsClosedNow, IsFirstStuck, IsStuck};
 ghost use Rattle.point_query.specs.Queries.{IsSolverOf, KeepsSolver};
@@ -9,7 +9,8 @@ ghost use Rattle.world_model.specs.Alive.{IsAlive, all_allow, problem_at};
 use crate::answers::Found;
 use crate::closer::Closer;
 use lits_core::law_literals_are_sets;
-use point_pool::{Pool, count_needs};
+use point_encode::count_needs;
+use point_pool::Pool;
 use std::alloc::AllocError;
 
 // Sees to it that a need has a witness, or answers the clause that shows that it has no point.

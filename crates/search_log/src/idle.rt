@@ -5,7 +5,7 @@ ghost use Rattle.point_query.specs.Asking.{AskerGoes};
 use point_query::Asker;
 use std::alloc::AllocError;
 
-/// No more clauses of an asker are idle when a search answers.
+/// So many clauses of an asker may be idle when a search answers.
 const MOST_IDLE: u64 = 1024;
 
 /// So many turns pass between two looks at how many clauses are idle.
@@ -23,7 +23,7 @@ pub fn tidy(asker: &mut Asker) -> Result<(), AllocError>
     asker.tidy()
 }
 
-/// Counts a turn, and at each `TURNS`th one forgets the idle clauses where they are many.
+/// Counts a turn; after `TURNS` of them the next one forgets the idle clauses, where they are many.
 ///
 /// To count them takes a look at each clause of the asker, which is too dear for each turn.
 #[tactic(auto, using(crate::proofs::Logs::asker_stays))]

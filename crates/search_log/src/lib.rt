@@ -1,12 +1,14 @@
-//! What a search puts in a log: the lines of an asker.
+//! What a search puts in a log: the lines of an asker, a line of its own, the words of a family; and what keeps an asker small.
 #![tactic(auto)]
 
 mod copies;
+mod derive;
 mod families;
 mod fault;
 mod idle;
 mod put;
 
+pub use derive::derived;
 pub use families::raw_family;
 pub use fault::StepFault;
 pub use idle::{tidy, tidy_by_turns};

@@ -10,7 +10,7 @@ ghost use Rattle.split_search.specs.Walking.{IsWalk, split_tree};
 
 use crate::walk::Walk;
 use cert_text::CertLine;
-use point_pool::number_of;
+use point_encode::number_of;
 use point_query::{Asker, Probe};
 use rcc5_core::Position;
 use std::alloc::{AllocError, Global};

@@ -9,7 +9,6 @@ use lits_core::Lit;
 use std::alloc::{AllocError, Global};
 
 // The parts of a trail. A mark of a literal is the number of its place and one more, or 0 where it is not true.
-#[derive(Drop)]
 pub(crate) struct Engine {
     pub(crate) arena: Arena,
     // The watches of each literal, a chain through the links of the clauses, and the clauses with no two different literals.
@@ -26,6 +25,25 @@ pub(crate) struct Engine {
     pub(crate) variables: usize,
     // Where a compaction brings each clause; empty but while it goes on.
     pub(crate) moves: Moves,
+}
+
+// Written out, so that letting one go is a call.
+impl Drop for Engine {
+    fn drop(self) {
+        let Engine {
+            arena: _,
+            chains: _,
+            shorts: _,
+            marks: _,
+            places: _,
+            heads: _,
+            firsts: _,
+            head: _,
+            first: _,
+            variables: _,
+            moves: _,
+        } = self;
+    }
 }
 
 // What came of the visit of a watch: the walk goes on behind this one, or a clause is false.

@@ -16,10 +16,19 @@ use std::marker::Model;
 ///
 /// Unit propagation is by two watched literals (Moskewicz, Madigan, Zhao, Zhang and Malik, *Chaff*, 2001), in the way of
 /// MiniSat (Eén and Sörensson, *An Extensible SAT-solver*, 2003).
-#[derive(Drop)]
 pub struct Trail {
     engine: Engine,
     alloc: Global,
+}
+
+// Written out, so that letting one go is a call.
+impl Drop for Trail {
+    fn drop(self) {
+        let Trail {
+            engine: _,
+            alloc: _,
+        } = self;
+    }
 }
 
 impl Model for Trail {

@@ -1,4 +1,4 @@
-//! The walk over the nodes.
+//! The search for worlds, as its users see it.
 ghost use Rattle.std.specs.Prelude.{◌≡◌, ◌≤◌, [], length, IfOk, OnOk, OnErr, IfSome, ⊤};
 ghost use Rattle.world_model.specs.Problem.{pair_count};
 ghost use Rattle.constraint_set.specs.Shape.{shape_of};
@@ -33,7 +33,7 @@ pub struct Search {
     alloc: Global,
 }
 
-// A destructor of its own: a function that lets one go calls it, where else its proof would have a part for each field.
+// Written out, so that letting one go is a call.
 impl Drop for Search {
     fn drop(self) {
         let Search {

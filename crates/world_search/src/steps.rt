@@ -266,7 +266,7 @@ fn world_step<L: TreeLog>(
     Ok(family)
 }
 
-/// The same, and a world has a family that shows it. The log is told of each node that is passed.
+/// The next world with a family that shows it, as `table_step` has its table. The log is told of each node that is passed.
 pub(crate) fn family_step<L: TreeLog>(
     alloc: Global,
     problem: &Problem,

@@ -1,7 +1,7 @@
 use Rattle.std.proofs.Common.{ℕ, ◌<◌}
 use Rattle.std.specs.Prelude.{Contains, IsTrue}
 use Rattle.world_model.specs.Alive.{problem_at}
-use Rattle.point_pool.specs.Needs.{is_needed}
+use Rattle.point_encode.specs.Numbers.{is_needed}
 use Rattle.point_pool.proofs.pool.all_needed.Given as goal
 
 abbrev pub invariant-loop-number : goal.invariant-loop-number

@@ -5,7 +5,7 @@ use Rattle.watch_arena.proofs.Watching.{index_of}
 use Rattle.lits_core.specs.Literals.{negation_of}
 use Rattle.lits_core.specs.Derivation.{live_clause}
 use Rattle.cert_model.specs.Forced.{asked_of, IsClosedAt}
-use Rattle.point_pool.specs.Needs.{need_at}
+use Rattle.point_encode.specs.Numbers.{need_at}
 use Rattle.point_query.proofs.closes.closes.Goals as goal
 
 pub loop-place-preserved : goal.loop-place-preserved

@@ -2,7 +2,7 @@ use Rattle.std.proofs.Common.{subst}
 use Rattle.std.specs.Prelude.{Contains}
 use Rattle.std.proofs.lemmas.List.Elements.{Contains-append_left, Contains-append_right}
 use Rattle.cert_model.specs.Forced.{selectors_of, need_lits}
-use Rattle.point_pool.specs.Needs.{need_at}
+use Rattle.point_encode.specs.Numbers.{need_at}
 use Rattle.point_query.proofs.closes.is_asked.Goals as goal
 
 pub returns-then-is_selector : goal.returns-then-is_selector

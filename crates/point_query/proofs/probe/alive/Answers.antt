@@ -4,7 +4,7 @@ use Rattle.std.specs.Prelude.{Option, IfSome, IfNone}
 use Rattle.world_model.specs.Alive.{problem_at}
 use Rattle.point_encode.specs.Needs.{need_seen, IsInRange}
 use Rattle.point_pool.specs.Cursors.{IsEmptyPair}
-use Rattle.point_pool.specs.Needs.{need_at}
+use Rattle.point_encode.specs.Numbers.{need_at}
 use Rattle.point_query.specs.Closing.{IsFirstStuck}
 use Rattle.point_query.proofs.Querying.{keeps_still}
 use Rattle.point_pool.proofs.Settling.{cursor_from}
@@ -26,9 +26,9 @@ returns-in-Some-2-clause-answer c =
     let same = c.in_ok-number.ensures.cursor ∙ cursor_from c.go_to.new.self.cursor p m c.in_ok-pair.ensures.problem path in
     let allow = subst (λ o. IsEmptyPair (problem_at p m) o) c.in_default.is c.in_ok-pair.ensures.empty in
     let stuck = subst (λ o. IfSome o (λ (x : ℕ × ℕ). IsFirstStuck w c.settle.new.solver x.0 x.1)) c.in-Some-2.is c.in_ok-number.ensures.closed in
-    let seen = subst (λ q. need_seen q c.need_of.result ≡ need_at q c.in-Some-2.number) (c.problem.ensures ∙ ap (λ s. s.problem) same) c.need_of.ensures.value in
-    let range = subst (λ q. IsInRange q c.need_of.result) (c.problem.ensures ∙ ap (λ s. s.problem) same) c.need_of.ensures.range in
-    (range, closed_at w c.settle.new.solver p m c.in-Some-2.number c.in-Some-2.id (need_seen p c.need_of.result) same stuck allow seen)
+    let seen = subst (λ q. need_seen q c.need_at.result ≡ need_at q c.in-Some-2.number) (c.problem.ensures ∙ ap (λ s. s.problem) same) c.need_at.ensures.value in
+    let range = subst (λ q. IsInRange q c.need_at.result) (c.problem.ensures ∙ ap (λ s. s.problem) same) c.need_at.ensures.range in
+    (range, closed_at w c.settle.new.solver p m c.in-Some-2.number c.in-Some-2.id (need_seen p c.need_at.result) same stuck allow seen)
 
 pub returns-clause-answer : goal.returns-clause-answer
 returns-clause-answer c =

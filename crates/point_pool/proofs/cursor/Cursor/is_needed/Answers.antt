@@ -6,7 +6,7 @@ use Rattle.rcc5_core.specs.declared.Occupancy.TheVariants.{Empty, Occupied, Free
 use Rattle.rcc5_core.specs.Region.{word_at, same_word}
 use Rattle.cert_model.specs.Forced.{region_with}
 use Rattle.world_model.specs.Alive.{problem_at}
-use Rattle.point_pool.specs.Needs.{is_needed}
+use Rattle.point_encode.specs.Numbers.{is_needed}
 use Rattle.point_pool.proofs.Cursors.{needed_region, needed_concept}
 use Rattle.point_pool.proofs.cursor.Cursor.is_needed.Goals as goal
 

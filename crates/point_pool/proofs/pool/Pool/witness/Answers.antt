@@ -2,7 +2,7 @@ use Rattle.std.proofs.Common.{◌≡◌, ◌<◌, [], length, get_or, ◌∙◌,
 use Rattle.std.specs.Prelude.{IsTrue}
 use Rattle.std.proofs.lemmas.List.{get_or_read}
 use Rattle.world_model.specs.Alive.{problem_at, is_point, is_in_need}
-use Rattle.point_pool.specs.Needs.{need_at}
+use Rattle.point_encode.specs.Numbers.{need_at}
 use Rattle.point_pool.specs.Pools.{point_at}
 use Rattle.point_pool.proofs.Pooling.{served_point}
 use Rattle.point_pool.proofs.pool.Pool.witness.Goals as goal

@@ -1,5 +1,5 @@
 use Rattle.world_model.specs.Alive.{problem_at}
-use Rattle.point_pool.specs.Needs.{EachServed, needs_below}
+use Rattle.point_encode.specs.Numbers.{EachServed, needs_below}
 use Rattle.point_pool.proofs.pool.Pool.witnesses.Given as goal
 
 -- the needs so far have their points

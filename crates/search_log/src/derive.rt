@@ -19,9 +19,9 @@ fn are_in_range(problem: &Problem, lits: &[Lit]) -> bool
     lits.iter().all(|lit| lit.variable() < count)
 }
 
-// Adds a clause, and answers its id; none where these hints do not show it, and then nothing has changed.
-#[tactic(auto, using(search_log::proofs::Logs::asker_stays))]
-pub(crate) fn derived(
+/// Adds a clause, and answers its id; none where these hints do not show it, and then nothing has changed.
+#[tactic(auto, using(crate::proofs::Logs::asker_stays))]
+pub fn derived(
     problem: &Problem,
     asker: &mut Asker,
     lits: &[Lit],

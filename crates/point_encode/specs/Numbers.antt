@@ -1,7 +1,7 @@
 -- The needs of a problem by their numbers, and points that serve them.
 use Rattle.cert_model.specs.Forced.{region_with}
-use Rattle.point_pool.specs.declared.needs.Wanted.{Wanted}
-use Rattle.point_pool.specs.declared.needs.Wanted.TheVariants.{Concept, Region}
+use Rattle.point_encode.specs.declared.numbers.Wanted.{Wanted}
+use Rattle.point_encode.specs.declared.numbers.Wanted.TheVariants.{Concept, Region}
 use Rattle.rcc5_core.specs.Region.{same_word, word_at}
 use Rattle.rcc5_core.specs.declared.Occupancy.TheVariants.{Occupied}
 use Rattle.rcc5_core.specs.declared.Region.TheVariants.{Both, LeftOnly, RightOnly}

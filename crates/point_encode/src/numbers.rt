@@ -1,15 +1,15 @@
 //! The needs of a problem by their numbers, and the regions that they speak of.
 ghost use Rattle.cert_model.specs.Forced.{region_with};
 ghost use Rattle.point_encode.specs.Needs.{IsInRange, need_seen, number_of};
-ghost use Rattle.point_pool.specs.Needs.{IsBelow, lies_by, need_at, need_count, wanted_seen};
+ghost use Rattle.point_encode.specs.Numbers.{IsBelow, lies_by, need_at, need_count, wanted_seen};
 ghost use Rattle.rcc5_core.specs.Region.{word_at};
 ghost use Rattle.std.specs.Prelude.{length, ◌<◌, ◌≡◌, ◌≤◌};
 ghost use Rattle.world_model.specs.Alive.{is_in_need};
 ghost use Rattle.world_model.specs.Problem.{concept_count, pair_count};
 
+use crate::need::Need;
 use constraint_set::{MAX_CONCEPTS, MAX_PAIRS, Problem};
 use lits_core::Bits;
-use point_encode::Need;
 use rcc5_core::{Occupancy, Regions};
 
 /// How many pairs there are, which is not too many to count their regions.
@@ -56,15 +56,15 @@ pub fn lies_in(part: u32, left: bool, right: bool) -> bool
     }
 }
 
-// A need, by its concepts: a region of two, by its number among the three, or one concept.
+/// A need, by its concepts: a region of two, by its number among the three, or one concept.
 #[derive(Clone, Copy)]
-pub(crate) enum Wanted {
+pub enum Wanted {
     Region { x: u32, y: u32, part: u32 },
     Concept(u32),
 }
 
-// The need with a number.
-pub(crate) fn by_concepts(problem: &Problem, number: u32) -> Wanted
+/// The need with a number.
+pub fn by_concepts(problem: &Problem, number: u32) -> Wanted
     requires { number < need_count problem.now }
     ensures value { wanted_seen result ≡ need_at problem.now number }
     ensures below { IsBelow (concept_count problem.now) result }
@@ -83,8 +83,8 @@ pub(crate) fn by_concepts(problem: &Problem, number: u32) -> Wanted
     }
 }
 
-// Whether a point is in a need.
-pub(crate) fn is_in(wanted: Wanted, bits: &Bits) -> bool
+/// Whether a point is in a need.
+pub fn is_in(wanted: Wanted, bits: &Bits) -> bool
     requires { IsBelow (length bits.now) wanted }
     ensures { result ≡ is_in_need (wanted_seen wanted) bits.now }
 {
@@ -96,8 +96,8 @@ pub(crate) fn is_in(wanted: Wanted, bits: &Bits) -> bool
     }
 }
 
-/// The need with a number, as callers have it.
-pub fn need_of(problem: &Problem, number: u32) -> Need
+/// The need with a number, by the number of its pair.
+pub fn need_at(problem: &Problem, number: u32) -> Need
     requires { number < need_count problem.now }
     ensures value { need_seen problem.now result ≡ need_at problem.now number }
     ensures range { IsInRange problem.now result }
