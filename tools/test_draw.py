@@ -92,6 +92,8 @@ class Draw(unittest.TestCase):
             code, out, err = draw(text)
             self.assertEqual((code, out), (1, ""), text)
             self.assertIn(says, err)
+        code, _, err = draw("", "no_such_file")
+        self.assertEqual((code, err), (1, "draw: no_such_file: No such file or directory\n"))
         code, _, err = draw(TWO_WORLDS, "--world", "3")
         self.assertEqual(code, 1)
         self.assertIn("there is no world 3: there are 2", err)

@@ -64,7 +64,7 @@ class FromCsv(unittest.TestCase):
 
     def test_a_value_that_is_cut_off_at_the_end(self):
         code, out, err = self.make("1=old", "2=new", old="child,parent\na,b\nb,", new="child,parent\r\nc,\r")
-        self.assertEqual((code, err), (0, ""))
+        self.assertEqual((code, err), (0, "from_csv: note: there are no statements; give their table as statements=FILE\n"))
         self.assertEqual(out, "taxonomy 1\n(b a)\ntaxonomy 2\n(c)\narticulation\n")
 
     def test_names_that_cannot_be_taken(self):
@@ -121,6 +121,11 @@ class FromCsv(unittest.TestCase):
             ("2.Seats,sums,1.Chair 2.Goods", "links:2:22: a part is of another taxonomy than the whole"),
         ]:
             self.refused(says, "1=old", "2=new", "statements=links", old=OLD, new=NEW, links=f"left,relation,right\n{row}\n")
+        says = "links:1:1: the first row has no column `child`; the columns are child, parent; give a table of statements as statements=FILE"
+        self.refused(says, "1=old", "2=new", "statement=links", old=OLD, new=NEW, links=LINKS)
+        row = "2.Seats,sums,1.Arm_chair 1.Sofa"
+        says = "links:2:14: the taxonomy 1 has no concept Arm_chair_1.Sofa; with --blanks, the parts of a sum are separated by commas"
+        self.refused(says, "1=old", "2=new", "statements=links", "--blanks", "_", old=OLD, new=NEW, links=f"left,relation,right\n{row}\n")
 
     def test_limits(self):
         rows = "child,parent\n" + "".join(f"c{k},\n" for k in range(1024))
