@@ -10,3 +10,4 @@ pub mod Climbing
 pub mod Bounding
 pub mod BoundSteps
 pub mod ByItself
+pub mod LyingBehind

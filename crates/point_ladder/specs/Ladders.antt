@@ -42,6 +42,10 @@ pub record IsAlong (old new : LadderState) : Type 0 where
   pub alive : IsAlive (problem_at old.problem new.path)
   pub only : (more : List Rel) → IsPossibleWorld old.problem (old.path ++ more) → (last : List Rel) × (more ≡ rest ++ last)
 
+-- no world begins with a path
+abbrev pub BeginsNone : Problem → List Rel → Type 0
+BeginsNone p m = (rest : List Rel) → IsPossibleWorld p (m ++ rest) → ⊥
+
 -- whether what is in the left one of two sets or not, and in the right one or not, lies in a region of the two
 abbrev pub lies_by : Region → Bool → Bool → Bool
 lies_by LeftOnly left right = left && not right

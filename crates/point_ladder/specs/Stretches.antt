@@ -27,6 +27,12 @@ pub record HasFrames (q : Problem) (points : List (List Bool)) (line : List Rel)
   pub each : (i n : ℕ) → i < length stretches → (stretch_at stretches i).from ≤ n → n ≤ len → (i + 1 < length stretches → n < (stretch_at stretches (i + 1)).from) →
       IsFrame (problem_at q (take n line)) points (stretch_at stretches i).frame
 
+-- the last stretch that begins at a length or before
+pub record IsInForce (stretches : List Stretch) (len i : ℕ) : Type 0 where
+  pub within : i < length stretches
+  pub begun : (stretch_at stretches i).from ≤ len
+  pub last : i + 1 < length stretches → len < (stretch_at stretches (i + 1)).from
+
 -- the first of some stretches, up to the last that begins at a length or before
 pub record IsCut (old new : List Stretch) (len : ℕ) : Type 0 where
   pub fewer : length new ≤ length old

@@ -5,13 +5,14 @@ ghost use Rattle.rcc5_core.specs.RelationSet.{has, only};
 ghost use Rattle.world_model.specs.Problem.{pair_count};
 ghost use Rattle.world_model.specs.Alive.{problem_at, IsAlive};
 ghost use Rattle.point_table.specs.Table.{AreRowsOf};
-ghost use Rattle.point_ladder.specs.Ladders.{IsBoundOf, IsAlong, IsPushed};
+ghost use Rattle.point_ladder.specs.Ladders.{BeginsNone, IsBoundOf, IsAlong, IsPushed};
 ghost use Rattle.point_ladder.specs.Bounds.{bound_to, AreBounds};
 ghost use Rattle.point_ladder.specs.Stretches.{AreNexts};
 
+use crate::behind::{Effort, Ground, is_barren, put_all_first, put_first};
 use crate::bounds::{Bounds, are_same, bound, narrow_all, no_bounds};
 use crate::frame::{first_bare, is_same, leads_on, narrowed};
-use crate::stretches::{Stretch, cut};
+use crate::stretches::{Stretch, cut, in_force};
 use bit_rows::Rows;
 use constraint_set::Problem;
 use point_table::{all_points, allowed_sets, rows_of};
@@ -35,6 +36,8 @@ pub struct Ladder {
     // For each pair the next one that has more relations left than the line's, from it on, or the end.
     nexts: Vec<u32>,
     stretches: Vec<Stretch>,
+    // The pairs whose sets are not whole, those first at which a search failed of late: a hint.
+    order: Vec<u32>,
     alive: bool,
     alloc: Global,
 }
@@ -72,6 +75,9 @@ pub(crate) fn begin(
     Ok(Some((rows, bounds)))
 }
 
+/// So many steps a search for a world behind a path takes at the most: where it takes longer, nothing is shown.
+const MOST_STEPS: usize = 2000;
+
 // The first relation of each set.
 fn first_line(alloc: Global, sets: &[RelSet]) -> Result<Vec<Rel>, AllocError>
     ensures { IfOk result (λ line. length line.items ≡ length sets.now) }
@@ -106,6 +112,19 @@ fn nexts_of(alloc: Global, sets: &[RelSet], line: &[Rel]) -> Result<Vec<u32>, Al
     Ok(nexts)
 }
 
+// The pairs whose sets are not whole.
+fn split_pairs(alloc: Global, sets: &[RelSet]) -> Result<Vec<u32>, AllocError> {
+    let mut pairs = Vec::new(alloc);
+    let mut pair: u32 = 0;
+    for set in sets {
+        if !set.is_whole() {
+            pairs.push(pair)?;
+        }
+        pair = pair.saturating_add(1);
+    }
+    Ok(pairs)
+}
+
 // The ladder at its start.
 fn stand(alloc: Global, problem: Problem, rows: Rows, bounds: Bounds) -> Result<Ladder, AllocError>
     requires rows { AreRowsOf problem rows }
@@ -115,6 +134,7 @@ fn stand(alloc: Global, problem: Problem, rows: Rows, bounds: Bounds) -> Result<
     problem.facts();
     let line = first_line(alloc, &bounds.sets)?;
     let nexts = nexts_of(alloc, &bounds.sets, &line)?;
+    let order = split_pairs(alloc, &bounds.sets)?;
     let mut stretches = Vec::new(alloc);
     let Bounds {
         sets,
@@ -132,6 +152,7 @@ fn stand(alloc: Global, problem: Problem, rows: Rows, bounds: Bounds) -> Result<
         len: 0,
         nexts,
         stretches,
+        order,
         alive,
         alloc,
     })
@@ -260,6 +281,48 @@ impl Ladder {
         if self.len < self.nexts.len() {
             self.len = self.nexts[self.len] as usize;
         }
+    }
+
+    // Whether it is shown that no world begins with the first relations, with so much effort.
+    fn lies_none(&self, len: usize, effort: &mut Effort) -> Result<bool, AllocError>
+        requires alive { IsAlive (problem_at self.now.problem self.now.path) }
+        requires within { len ≤ length self.now.path }
+        ensures { IfOk result (λ none. none ≡ true → BeginsNone self.now.problem (take len self.now.path)) }
+    {
+        self.problem.facts();
+        let place = in_force(&self.stretches, len);
+        let ground = Ground {
+            alloc: self.alloc,
+            problem: &self.problem,
+            rows: &self.rows,
+            sets: &self.sets,
+            from: len,
+            order: &self.order,
+        };
+        is_barren(&ground, 0, &self.stretches[place].frame, effort)
+    }
+
+    /// Whether it is shown that no world begins with the first relations. Nothing is said of when that is not shown.
+    pub fn is_barren(&mut self, len: usize) -> Result<bool, AllocError>
+        requires alive { IsAlive (problem_at self.old.problem self.old.path) }
+        requires within { len ≤ length self.old.path }
+        ensures same { self.new ≡ self.old }
+        ensures none { IfOk result (λ none. none ≡ true → BeginsNone self.old.problem (take len self.old.path)) }
+    {
+        let mut effort = Effort {
+            left: MOST_STEPS,
+            failed: Vec::new(self.alloc),
+        };
+        let none = self.lies_none(len, &mut effort)?;
+        put_all_first(&mut self.order, &effort.failed);
+        Ok(none)
+    }
+
+    /// Has a pair tried before others where it is next to be shown that no world begins with a path: a hint.
+    pub fn promote(&mut self, pair: u32)
+        ensures { self.new ≡ self.old }
+    {
+        put_first(&mut self.order, pair);
     }
 
     /// Takes the path back to its first relations.

@@ -3,6 +3,7 @@
 #![tactic(auto)]
 
 mod alone;
+mod behind;
 mod bounds;
 mod frame;
 mod ladder;

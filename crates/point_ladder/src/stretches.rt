@@ -1,6 +1,6 @@
 //! Stretches of a path, along each of which one frame is in force.
-ghost use Rattle.std.specs.Prelude.{◌<◌, length};
-ghost use Rattle.point_ladder.specs.Stretches.{IsCut};
+ghost use Rattle.std.specs.Prelude.{◌≡◌, ◌<◌, length};
+ghost use Rattle.point_ladder.specs.Stretches.{stretch_at, IsCut, IsInForce};
 
 use bit_rows::Rows;
 
@@ -22,4 +22,17 @@ pub(crate) fn cut(stretches: &mut Vec<Stretch>, len: usize)
         }
         stretches.pop();
     }
+}
+
+// The number of the stretch that is in force at a length.
+pub(crate) fn in_force(stretches: &[Stretch], len: usize) -> usize
+    requires some { 0 < length stretches.now }
+    requires first { (stretch_at stretches.now 0).from ≡ 0 }
+    ensures { IsInForce stretches.now len result }
+{
+    let mut last = stretches.len() - 1;
+    while stretches[last].from > len {
+        last -= 1;
+    }
+    last
 }
