@@ -25,7 +25,7 @@ pub listing_of : (p : Problem) (one : List Rel) (other : Option (List Rel)) (ws 
 listing_of p one other ws e = record { ascending = e.ascending; members = members_from (Between (IsPossibleWorld p) one other) ws e }
 
 -- a place behind a position is onward from it
-onward_of : (one : List Rel) (other : Option (List Rel)) → is_before_end one other ≡ true → IsOnward one other
+pub onward_of : (one : List Rel) (other : Option (List Rel)) → is_before_end one other ≡ true → IsOnward one other
 onward_of one None before = tt
 onward_of one (Some end) before = not_from_false (is_below end one) (below_apart one end before)
 

@@ -154,10 +154,10 @@ goes_in_with p m levels set r ahead leads = record {
       });
     }
 
--- the last level is dropped where no relation is left there
-pub drops_last : (p : Problem) (m : List Rel) (levels : List Level) (k : ℕ) → length levels ≡ k + 1 → IsAhead p m levels →
-    next_of (level_at levels k).set (rel_at m (level_at levels k).depth) ≡ None → IsAhead p m (take k levels)
-drops_last p m levels k sized ahead none = record {
+-- the last level is dropped where no world leaves the path
+pub drops_dead : (p : Problem) (m : List Rel) (levels : List Level) (k : ℕ) → length levels ≡ k + 1 → IsAhead p m levels →
+    ((t : List Rel) → IsPossibleWorld p t → Leaves m (level_at levels k).depth (level_at levels k).set t → ⊥) → IsAhead p m (take k levels)
+drops_dead p m levels k sized ahead none = record {
   levels_are = record {
     deeper = λ i j less h.
         let small : j < k = shorter j h in
@@ -169,7 +169,7 @@ drops_last p m levels k sized ahead none = record {
   };
   all = λ t world h. elim (ahead.all t world h) [
     | inl begins ↦ inl begins
-    | inr branch ↦ inr (still t branch (cases_lt branch.number k))
+    | inr branch ↦ inr (still t world branch (cases_lt branch.number k))
   ];
 }
   where
@@ -179,16 +179,20 @@ drops_last p m levels k sized ahead none = record {
     shorter : (j : ℕ) → j < length (take k levels) → j < k
     shorter j h = omega (arith, Rattle.std.proofs.lemmas.List.length-take-le k levels (omega arith))
 
-    still : (t : List Rel) (b : Branches m levels t) → (b.number < k) ⊎ (k ≤ b.number) → Branches m (take k levels) t
-    still t b (inl small) = record {
+    still : (t : List Rel) → IsPossibleWorld p t → (b : Branches m levels t) → (b.number < k) ⊎ (k ≤ b.number) → Branches m (take k levels) t
+    still t world b (inl small) = record {
       number = b.number;
       among = omega (arith, Rattle.std.proofs.lemmas.List.length-take-le k levels (omega arith));
       leaves = subst (λ (x : Level). Leaves m x.depth x.set t) (sym (kept b.number small)) b.leaves;
     }
-    still t b (inr big) =
+    still t world b (inr big) =
         let last : b.number ≡ k = omega (arith, b.among) in
-        let l = subst (λ i. Leaves m (level_at levels i).depth (level_at levels i).set t) last b.leaves in
-        absurd (none_is_next (level_at levels k).set (rel_at m (level_at levels k).depth) l.rel none l.by_set l.later)
+        absurd (none t world (subst (λ i. Leaves m (level_at levels i).depth (level_at levels i).set t) last b.leaves))
+
+-- as it is where no relation is left there
+pub drops_last : (p : Problem) (m : List Rel) (levels : List Level) (k : ℕ) → length levels ≡ k + 1 → IsAhead p m levels →
+    next_of (level_at levels k).set (rel_at m (level_at levels k).depth) ≡ None → IsAhead p m (take k levels)
+drops_last p m levels k sized ahead none = drops_dead p m levels k sized ahead (λ t world l. none_is_next (level_at levels k).set (rel_at m (level_at levels k).depth) l.rel none l.by_set l.later)
 
 -- the path turns off at its last level by the next relation that is left there
 pub turns_off : (p : Problem) (m : List Rel) (levels : List Level) (k d : ℕ) (r : Rel) → length levels ≡ k + 1 → d ≡ (level_at levels k).depth → IsAhead p m levels →

@@ -4,4 +4,5 @@ pub mod Going
 pub mod Between
 pub mod Room
 pub mod Stepping
+pub mod Retreating
 pub mod Starting

@@ -20,7 +20,7 @@ use Rattle.table_walk.specs.declared.way.Stage.TheVariants.{Standing, Told}
 use Rattle.table_walk.specs.declared.way.Way.{Way}
 use Rattle.table_walk.specs.Ahead.{IsOnward, Lists, ListsBetween, level_at, rel_at, Begins, IsPast, AreLevels, IsAhead, room}
 use Rattle.table_walk.specs.Ways.{problem_of, place, LeadOn, AreNext, IsUnderWay, IsAtTable, IsWay, IsWayBy, at_by, told_by, at_of, left_by, left_of, WentOn}
-use Rattle.point_ladder.specs.Ladders.{IsAlong}
+use Rattle.point_ladder.specs.Ladders.{LadderState, IsAlong}
 use Rattle.table_walk.proofs.Paths.{cut_at, turned, turned_length, turned_take, turned_below}
 use Rattle.world_model.proofs.Relations.{next_is_in}
 use Rattle.table_walk.proofs.Going.{goes_in, goes_in_with, turns_off, only_begun}
@@ -30,6 +30,10 @@ use Rattle.table_walk.proofs.Room.{room_falls, room_some, room_upto}
 -- where no relation waits, a way stands at its path
 pub place_settled : (w : Way) → w.turn ≡ None → place w ≡ w.ladder.path
 place_settled w none = ap (λ o. w.ladder.path ++ option_to_list o) none ∙ append-nil w.ladder.path
+
+-- a way with another ladder
+abbrev pub with_ladder : Way → LadderState → Way
+with_ladder w ladder = record w { ladder = ladder }
 
 -- what begins with a path comes before a later turn of it
 begun_before : (m : List Rel) (d : ℕ) (r : Rel) → d < length m → Rattle.rcc5_core.specs.Relation.rank_of (rel_at m d) < Rattle.rcc5_core.specs.Relation.rank_of r → (t : List Rel) → Begins m t → is_below t (turned m d r) ≡ true

@@ -1,6 +1,7 @@
 //! The possible worlds of a problem one after the other, along the prefixes that a table of all points shows to be alive.
 #![tactic(auto)]
 
+mod retreat;
 mod start;
 mod tables;
 mod way;

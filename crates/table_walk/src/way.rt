@@ -7,6 +7,7 @@ ghost use Rattle.table_walk.specs.Ways.{problem_of, place, IsUnderWay, IsWay, at
 ghost use Rattle.table_walk.specs.declared.way.Stage.TheVariants.{Standing, Told, Past};
 
 use crate::Level;
+use crate::retreat::{Patience, retreat};
 use point_ladder::Ladder;
 use rcc5_core::{Rel, RelSet};
 use std::alloc::AllocError;
@@ -134,10 +135,35 @@ fn enter(way: &mut Way) -> Result<(), AllocError>
 {
     let set = way.ladder.leads_on();
     let Some(rel) = set.first() else {
+        // The pair at which it fails here is tried first where a retreat looks for the reason.
+        let pair = u32::try_from(way.ladder.path().len()).unwrap_or(u32::MAX);
+        way.ladder.promote(pair);
         turn_off(way);
         return Ok(());
     };
     go_on(way, set, rel)
+}
+
+// Takes a step from an alive prefix that is not full: a retreat, if many steps led to no world and none begins with the path, else on.
+fn step(way: &mut Way, kept: usize, patience: &mut Patience) -> Result<(), AllocError>
+    requires way { IsWay way.old }
+    requires standing { way.old.stage ≡ Standing }
+    requires settled { way.old.turn ≡ None }
+    requires short { length way.old.ladder.path < pair_count (problem_of way.old) }
+    ensures went { WentOn way.old way.new }
+    ensures shorter { Begins way.new.ladder.path way.old.ladder.path }
+    ensures less { OnOk result (left_of way.new < left_of way.old) }
+{
+    patience.steps = patience.steps.saturating_add(1);
+    if patience.steps > patience.most {
+        patience.steps = 0;
+        if retreat(way, kept)? {
+            return Ok(());
+        }
+        // There may be a world behind the path, so it goes on for longer before it asks again.
+        patience.most = patience.most.saturating_mul(2);
+    }
+    enter(way)
 }
 
 // Leaves the table that was told, if there is one. How many of its relations are still on the path.
@@ -171,6 +197,7 @@ pub fn next_world(way: &mut Way, pairs: usize) -> Result<Option<usize>, AllocErr
     ensures err { OnErr result (told_of way.new ≡ []) }
 {
     let mut kept = leave(way);
+    let mut patience = Patience::new();
     while way.stage == Stage::Standing {
         settle(way)?;
         go_along(way);
@@ -178,7 +205,7 @@ pub fn next_world(way: &mut Way, pairs: usize) -> Result<Option<usize>, AllocErr
             way.stage = Stage::Told;
             return Ok(Some(kept));
         }
-        enter(way)?;
+        step(way, kept, &mut patience)?;
         kept = kept.min(way.ladder.path().len());
     }
     Ok(None)

@@ -1,18 +1,21 @@
-use Rattle.std.proofs.Common.{◌≡◌, sym, ◌∙◌}
+use Rattle.std.proofs.Common.{◌≡◌, sym, ap, ◌∙◌, subst}
 use Rattle.std.specs.Prelude.{None}
 use Rattle.rcc5_core.specs.RelationSet.{first_of}
-use Rattle.table_walk.specs.Ways.{at_of}
-use Rattle.table_walk.proofs.Stepping.{entered, turned_none}
+use Rattle.table_walk.specs.Ahead.{IsPast}
+use Rattle.table_walk.specs.Ways.{problem_of, place, at_of}
+use Rattle.table_walk.proofs.Stepping.{with_ladder, entered, turned_none}
 use Rattle.table_walk.proofs.way.enter.Goals as goal
 
 pub returns-in_default-clause-went : goal.returns-in_default-clause-went
 returns-in_default-clause-went c =
     let old = c.args.way.now in
     let none : first_of c.leads_on-set.result ≡ None = sym c.first.ensures ∙ c.in_default.is in
+    let same : with_ladder old c.promote.new.self ≡ old = ap (with_ladder old) c.promote.ensures in
+    let past : IsPast (problem_of old) (place old) (at_of c.turn_off.new.way) = subst (λ w. IsPast (problem_of w) (place w) (at_of c.turn_off.new.way)) same c.turn_off.ensures.past in
     record {
-      problem = c.turn_off.ensures.problem;
+      problem = c.turn_off.ensures.problem ∙ ap problem_of same;
       way = c.turn_off.ensures.way;
-      passed = turned_none old c.leads_on-set.result (at_of c.turn_off.new.way) c.requires.standing c.requires.settled c.requires.short c.leads_on-set.ensures none c.turn_off.ensures.past;
+      passed = turned_none old c.leads_on-set.result (at_of c.turn_off.new.way) c.requires.standing c.requires.settled c.requires.short c.leads_on-set.ensures none past;
       untold = c.turn_off.ensures.untold;
     }
 

@@ -4,8 +4,8 @@ use Rattle.table_walk.specs.Ways.{problem_of, IsWay, at_of, told_of, told_table,
 use Rattle.table_walk.proofs.way.next_world.Given as goal
 
 -- past the world that was told, and past no other
-abbrev pub invariant-loop-way : goal.invariant-loop-way
-invariant-loop-way l = record {
+abbrev pub invariant-loop-patience : goal.invariant-loop-patience
+invariant-loop-patience l = record {
   problem : problem_of l.way ≡ problem_of l.fn.way;
   way : IsWay l.way;
   passed : Lists (problem_of l.fn.way) (at_of l.fn.way) (at_of l.way) (told_of l.fn.way);
@@ -13,5 +13,5 @@ invariant-loop-way l = record {
   kept : BeginAlike (told_table (told_of l.fn.way)) l.way.ladder.path l.kept;
 }
 
-abbrev pub decreases-loop-way : goal.decreases-loop-way
-decreases-loop-way l = left_of l.way
+abbrev pub decreases-loop-patience : goal.decreases-loop-patience
+decreases-loop-patience l = left_of l.way

@@ -1,0 +1,17 @@
+use Rattle.std.proofs.Common.{◌≡◌, length}
+use Rattle.table_walk.specs.Ahead.{IsAhead}
+use Rattle.table_walk.specs.Ways.{problem_of, LeadOn}
+use Rattle.table_walk.proofs.retreat.drop_levels.Given as goal
+
+-- levels at which no world leaves the path are dropped
+abbrev pub invariant-loop-way : goal.invariant-loop-way
+invariant-loop-way l = record {
+  ladder : l.way.ladder ≡ l.fn.way.ladder;
+  turn : l.way.turn ≡ l.fn.way.turn;
+  stage : l.way.stage ≡ l.fn.way.stage;
+  ahead : IsAhead (problem_of l.fn.way) l.fn.way.ladder.path l.way.levels.items;
+  leads : LeadOn (problem_of l.fn.way) l.fn.way.ladder.path l.way.levels.items;
+}
+
+abbrev pub decreases-loop-way : goal.decreases-loop-way
+decreases-loop-way l = length l.way.levels.items

@@ -1,0 +1,94 @@
+//! A retreat from a path with which no world begins, to before a short prefix with which none begins either.
+ghost use Rattle.std.specs.Prelude.{◌≡◌, ◌<◌, take, true, false, None, IfOk, IfSome};
+ghost use Rattle.world_model.specs.Alive.{problem_at, IsAlive};
+ghost use Rattle.point_ladder.specs.Ladders.{BeginsNone};
+ghost use Rattle.table_walk.specs.Ahead.{Begins};
+ghost use Rattle.table_walk.specs.Ways.{problem_of, IsWay, left_of, WentOn};
+ghost use Rattle.table_walk.specs.declared.way.Stage.TheVariants.{Standing};
+
+use crate::way::{Way, turn_off};
+use point_ladder::Ladder;
+use std::alloc::AllocError;
+
+// A retreat costs as much as some ten steps, so that one in vain after so many adds little to them.
+const FIRST_PATIENCE: usize = 64;
+
+/// How long a way goes on without a world before it asks whether its path leads to one: a hint.
+#[derive(Clone, Copy, Debug, PartialEq, Eq)]
+pub(crate) struct Patience {
+    /// The steps since the last world or retreat.
+    pub(crate) steps: usize,
+    /// How many these may be.
+    pub(crate) most: usize,
+}
+
+impl Patience {
+    pub(crate) fn new() -> Patience {
+        Patience {
+            steps: 0,
+            most: FIRST_PATIENCE,
+        }
+    }
+}
+
+// How many of the path's first relations are enough that no world begins with them, if that is shown of the whole path. The number is
+// looked for from `kept` on, and need not be the least.
+fn barren_len(ladder: &mut Ladder, kept: usize) -> Result<Option<usize>, AllocError>
+    requires { IsAlive (problem_at ladder.old.problem ladder.old.path) }
+    ensures same { ladder.new ≡ ladder.old }
+    ensures barren { IfOk result (λ found. IfSome found (λ len. BeginsNone ladder.old.problem (take len ladder.old.path))) }
+{
+    let mut high = ladder.path().len();
+    if !ladder.is_barren(high)? {
+        return Ok(None);
+    }
+    let mut low = kept;
+    while low < high {
+        let mid = low + (high - low) / 2;
+        if ladder.is_barren(mid)? {
+            high = mid;
+        } else {
+            low = mid + 1;
+        }
+    }
+    Ok(Some(high))
+}
+
+// Drops the levels that lie behind the path's first relations, so many, with which no world begins.
+fn drop_levels(way: &mut Way, len: usize)
+    requires way { IsWay way.old }
+    requires standing { way.old.stage ≡ Standing }
+    requires settled { way.old.turn ≡ None }
+    requires barren { BeginsNone (problem_of way.old) (take len way.old.ladder.path) }
+    ensures ladder { way.new.ladder ≡ way.old.ladder }
+    ensures turn { way.new.turn ≡ way.old.turn }
+    ensures stage { way.new.stage ≡ way.old.stage }
+    ensures way { IsWay way.new }
+{
+    while way.levels.len() > 0 {
+        let last = way.levels.len() - 1;
+        if way.levels[last].depth < len {
+            return;
+        }
+        way.levels.pop();
+    }
+}
+
+/// Leaves the path, if it is shown that no world begins with it, and with it all others that begin with a short prefix of it with
+/// which none begins either. Whether it left it. It asks of no prefix shorter than `kept`, since a world is known to begin with those.
+pub(crate) fn retreat(way: &mut Way, kept: usize) -> Result<bool, AllocError>
+    requires way { IsWay way.old }
+    requires standing { way.old.stage ≡ Standing }
+    requires settled { way.old.turn ≡ None }
+    ensures went { WentOn way.old way.new }
+    ensures shorter { Begins way.new.ladder.path way.old.ladder.path }
+    ensures less { IfOk result (λ moved. moved ≡ true → left_of way.new < left_of way.old) }
+    ensures stayed { IfOk result (λ moved. moved ≡ false → way.new ≡ way.old) }
+{
+    let Some(len) = barren_len(&mut way.ladder, kept)? else {
+        return Ok(false);
+    };
+    drop_levels(way, len);
+    turn_off(way);
+    Ok(true)
+}
