@@ -1,5 +1,5 @@
 -- What is known while the pairs are gone through.
-use Rattle.std.specs.Prelude.{◌≡◌, ℕ, ◌<◌, Bool, false, if◌then◌else◌, List, [], length, map, filter, slice_index_or, IsTrue}
+use Rattle.std.specs.Prelude.{◌≡◌, ℕ, ◌<◌, Bool, false, if◌then◌else◌, List, [], length, map, filter, slice_index_or, IfSome, IsTrue}
 use Rattle.rcc5_core.specs.declared.Rel.{Rel}
 use Rattle.rcc5_core.specs.declared.RelSet.{RelSet}
 use Rattle.rcc5_core.specs.Relation.{relation_of}
@@ -13,6 +13,9 @@ use Rattle.cert_text.specs.declared.line.Subject.TheVariants.{Narrowed}
 use Rattle.cert_rules.specs.ClaimLists.{Claim}
 use Rattle.split_search.specs.Choosing.{IsMetBy}
 use Rattle.claim_blocks.specs.Blocks.{claimed}
+use Rattle.point_ladder.specs.Ladders.{IsBoundOf}
+use Rattle.pick_search.specs.Picking.{IsKnown}
+use Rattle.mir_report.specs.declared.sight.Help.{Help}
 
 -- a family that meets a problem shows a relation at a pair
 pub record ShowsAt (p : Problem) (pair : ℕ) (rel : Rel) (f : Family) : Type 0 where
@@ -52,3 +55,8 @@ HasPossible p pair set = (rel : Rel) → IsPossibleRelation p pair rel → IsTru
 pub record AreCandidates (p : Problem) (count : ℕ) (sets : List RelSet) : Type 0 where
   pub counted : length sets ≡ count
   pub each : (pair : ℕ) (d : RelSet) → pair < count → HasPossible p pair (slice_index_or sets pair d)
+
+-- what helps to answer questions about a problem: what clashes there, and a ladder at its start with just its worlds
+pub record IsHelp (p : Problem) (help : Help) : Type 0 where
+  pub clashes : IsKnown p help.clashes
+  pub ladder : IfSome help.ladder (IsBoundOf p)

@@ -4,15 +4,15 @@ ghost use Rattle.world_model.specs.Problem.{cross_pairs};
 ghost use Rattle.world_model.specs.Questions.{IsPossibleRelation};
 ghost use Rattle.constraint_set.specs.Shape.{shape_of};
 ghost use Rattle.split_search.specs.Choosing.{IsMetBy};
-ghost use Rattle.pick_search.specs.Picking.{IsKnown};
 ghost use Rattle.mir_report.specs.Possible.{IsPossibleSet, ArePossibleSets};
-ghost use Rattle.mir_report.specs.Steps.{AreCandidates, AreSeen, HasPossible};
+ghost use Rattle.mir_report.specs.Steps.{AreCandidates, AreSeen, HasPossible, IsHelp};
 
 use crate::found::put;
 use crate::possible::{MirSets, RELS};
 use crate::seen::{none_seen, seen_with};
+use crate::sight::{Help, choose_with, new_help};
 use constraint_set::Problem;
-use pick_search::{Known, are_whole, choose_part};
+use pick_search::{are_whole, choose_part};
 use point_ladder::{MOST_POINTS, MOST_TRIES, alive_alone};
 use point_query::Asker;
 use rcc5_core::{Rel, RelSet};
@@ -38,20 +38,20 @@ fn ask_for(
     pair: u32,
     rel: Rel,
     seen: &mut Vec<RelSet>,
-    known: &mut Known,
+    help: &mut Help,
     asker: &mut Asker,
 ) -> Result<bool, AllocError>
     requires shape { asker.old.shape ≡ shape_of problem.now }
-    requires known { IsKnown problem.now known.old }
+    requires help { IsHelp problem.now help.old }
     requires cross { pair < length (cross_pairs problem.now) }
     requires seen { AreSeen problem.now (length (cross_pairs problem.now)) seen.old.items }
     ensures shape { asker.new.shape ≡ asker.old.shape }
-    ensures known { OnOk result (IsKnown problem.now known.new) }
+    ensures help { OnOk result (IsHelp problem.now help.new) }
     ensures seen { OnOk result (AreSeen problem.now (length (cross_pairs problem.now)) seen.new.items) }
     ensures answer { IfOk result (λ some. IsTrue some ↔ IsPossibleRelation problem.now pair rel) }
 {
     let narrowed = problem.narrowed(alloc, pair, RelSet::one(rel))?;
-    let choice = choose_part(alloc, problem, &narrowed, known, asker)?;
+    let choice = choose_with(alloc, problem, &narrowed, pair, rel, help, asker)?;
     match choice {
         Choice::Refuted => Ok(false),
         Choice::Met(family) => {
@@ -69,16 +69,16 @@ fn ask_if_among(
     among: RelSet,
     rel: Rel,
     seen: &mut Vec<RelSet>,
-    known: &mut Known,
+    help: &mut Help,
     asker: &mut Asker,
 ) -> Result<bool, AllocError>
     requires shape { asker.old.shape ≡ shape_of problem.now }
-    requires known { IsKnown problem.now known.old }
+    requires help { IsHelp problem.now help.old }
     requires cross { pair < length (cross_pairs problem.now) }
     requires among { HasPossible problem.now pair among }
     requires seen { AreSeen problem.now (length (cross_pairs problem.now)) seen.old.items }
     ensures shape { asker.new.shape ≡ asker.old.shape }
-    ensures known { OnOk result (IsKnown problem.now known.new) }
+    ensures help { OnOk result (IsHelp problem.now help.new) }
     ensures seen { OnOk result (AreSeen problem.now (length (cross_pairs problem.now)) seen.new.items) }
     ensures answer { IfOk result (λ some. IsTrue some ↔ IsPossibleRelation problem.now pair rel) }
 {
@@ -88,7 +88,7 @@ fn ask_if_among(
     if seen[pair as usize].has(rel) {
         return Ok(true);
     }
-    ask_for(alloc, problem, pair, rel, seen, known, asker)
+    ask_for(alloc, problem, pair, rel, seen, help, asker)
 }
 
 // The possible relations of a pair, which are among some.
@@ -98,22 +98,22 @@ fn ask_pair(
     pair: u32,
     among: RelSet,
     seen: &mut Vec<RelSet>,
-    known: &mut Known,
+    help: &mut Help,
     asker: &mut Asker,
 ) -> Result<RelSet, AllocError>
     requires shape { asker.old.shape ≡ shape_of problem.now }
-    requires known { IsKnown problem.now known.old }
+    requires help { IsHelp problem.now help.old }
     requires cross { pair < length (cross_pairs problem.now) }
     requires among { HasPossible problem.now pair among }
     requires seen { AreSeen problem.now (length (cross_pairs problem.now)) seen.old.items }
     ensures shape { asker.new.shape ≡ asker.old.shape }
-    ensures known { OnOk result (IsKnown problem.now known.new) }
+    ensures help { OnOk result (IsHelp problem.now help.new) }
     ensures seen { OnOk result (AreSeen problem.now (length (cross_pairs problem.now)) seen.new.items) }
     ensures answer { IfOk result (IsPossibleSet problem.now pair) }
 {
     let mut set = RelSet::none();
     'rels: for rel in RELS {
-        if ask_if_among(alloc, problem, pair, among, rel, seen, known, asker)? {
+        if ask_if_among(alloc, problem, pair, among, rel, seen, help, asker)? {
             set = set.with(rel);
         }
     }
@@ -126,15 +126,15 @@ fn ask_all(
     problem: &Problem,
     among: &[RelSet],
     family: Family,
-    known: &mut Known,
+    help: &mut Help,
     asker: &mut Asker,
 ) -> Result<MirSets, AllocError>
     requires shape { asker.old.shape ≡ shape_of problem.now }
-    requires known { IsKnown problem.now known.old }
+    requires help { IsHelp problem.now help.old }
     requires met { IsMetBy problem.now family }
     requires among { AreCandidates problem.now (length (cross_pairs problem.now)) among.now }
     ensures shape { asker.new.shape ≡ asker.old.shape }
-    ensures known { OnOk result (IsKnown problem.now known.new) }
+    ensures help { OnOk result (IsHelp problem.now help.new) }
     ensures sets { IfOk result (λ mir. ArePossibleSets problem.now mir.sets.items) }
 {
     let none = none_seen(alloc, problem)?;
@@ -142,7 +142,7 @@ fn ask_all(
     let mut sets = Vec::new(alloc);
     'pairs: for pair in 0..problem.cross_count() {
         let some = among[pair as usize];
-        let set = ask_pair(alloc, problem, pair, some, &mut seen, known, asker)?;
+        let set = ask_pair(alloc, problem, pair, some, &mut seen, help, asker)?;
         put(&mut sets, set)?;
     }
     Ok(MirSets { sets })
@@ -160,14 +160,14 @@ fn ask_among(
     ensures shape { asker.new.shape ≡ asker.old.shape }
     ensures sets { IfOk result (λ mir. ArePossibleSets problem.now mir.sets.items) }
 {
-    let mut known = Known::new(alloc, problem)?;
-    let choice = choose_part(alloc, problem, problem, &mut known, asker)?;
+    let mut help = new_help(alloc, problem)?;
+    let choice = choose_part(alloc, problem, problem, &mut help.clashes, asker)?;
     match choice {
         Choice::Refuted => {
             let sets = none_seen(alloc, problem)?;
             Ok(MirSets { sets })
         }
-        Choice::Met(family) => ask_all(alloc, problem, among, family, &mut known, asker),
+        Choice::Met(family) => ask_all(alloc, problem, among, family, &mut help, asker),
     }
 }
 

@@ -5,5 +5,6 @@ mod bare;
 mod found;
 mod possible;
 mod seen;
+mod sight;
 
 pub use possible::{MirSets, has_world, mir};

@@ -1,5 +1,5 @@
 -- What a search over pairs shows of a frame behind which no world lies.
-use Rattle.std.proofs.Common.{◌≡◌, ℕ, ◌<◌, ◌≤◌, ◌↔◌, Bool, true, List, [], ◌∷◌, ◌++◌, length, get_or, take, drop, take-append-drop, inl, inr, sym, ap, ◌∙◌, subst, arith}
+use Rattle.std.proofs.Common.{◌≡◌, ℕ, ◌<◌, ◌≤◌, ◌↔◌, Bool, true, List, [], ◌∷◌, ◌++◌, length, get_or, take, drop, take-append-drop, inl, inr, refl, sym, ap, ◌∙◌, subst, arith}
 use Rattle.std.specs.Prelude.{Contains, IsTrue, filter_map}
 use Rattle.std.specs.List.{list_all}
 use Rattle.std.proofs.lemmas.List.{length-take-le, get_or_default, take-take}
@@ -9,15 +9,16 @@ use Rattle.rcc5_core.specs.declared.RelSet.{RelSet}
 use Rattle.rcc5_core.specs.declared.Regions.{Regions}
 use Rattle.rcc5_core.specs.Region.{row_of}
 use Rattle.rcc5_core.specs.RelationSet.{has, only}
-use Rattle.world_model.specs.Problem.{Problem, Constraint, pairs, pair_count, constraints, kept_articulations, as_constraint}
-use Rattle.world_model.specs.Family.{Family, holds, IsPossibleWorld}
+use Rattle.world_model.specs.Problem.{Problem, Constraint, pairs, pair_count, constraints, kept_articulations, as_constraint, narrowed}
+use Rattle.world_model.specs.Family.{Family, holds, table_of, IsPossibleWorld}
 use Rattle.world_model.specs.Node.{pair_at}
+use Rattle.world_model.specs.Questions.{IsMet}
 use Rattle.world_model.specs.Alive.{allowed, problem_at, narrowings_at, IsAlive}
 use Rattle.world_model.specs.Trial.{points_by_trial}
 use Rattle.world_model.proofs.Members.{In, contains_from_in, here, there, all_at, all_from, In-left, In-right, from_append}
 use Rattle.world_model.proofs.PointRules.{Met, met_parts, met_whole}
 use Rattle.world_model.proofs.PointAlive.{met_is_alive}
-use Rattle.world_model.proofs.PointOnce.{narrowed_beyond}
+use Rattle.world_model.proofs.PointOnce.{narrowed_beyond, at_empty}
 use Rattle.world_model.proofs.PointPositions.{relation_in, has-only, met_at_table, prefix_is_alive}
 use Rattle.world_model.proofs.Narrowed.{forced_only, only_some, only_inside}
 use Rattle.bit_rows.specs.Rows.{BitRows, bit_in}
@@ -26,7 +27,7 @@ use Rattle.point_ladder.specs.declared.stretches.Stretch.{Stretch}
 use Rattle.point_ladder.specs.Stretches.{stretch_at, HasFrames, IsInForce}
 use Rattle.point_ladder.specs.Bounds.{IsAliveIn}
 use Rattle.point_ladder.specs.Ladders.{Satisfies, AreMet, left_at, LeadsOn, IsNarrowed, IsFrame, BeginsNone}
-use Rattle.point_ladder.specs.Barren.{with_narrowings, IsBarren, IsFreeAt, IsStand, LiesNone, AreNoneBy}
+use Rattle.point_ladder.specs.Barren.{with_narrowings, IsBarren, IsFreeAt, IsStand, LiesNone, LiesNoneBy, AreNoneBy}
 use Rattle.point_ladder.proofs.Narrowing.{IsNarrower, narrowings_of}
 use Rattle.point_ladder.proofs.Serving.{ShowsPair, alive_here, alive_next, frame_next, holds_next}
 use Rattle.point_ladder.proofs.InForce.{alive_start}
@@ -194,3 +195,32 @@ stand_here s len i stretch is alive upto force read = record {
 -- the places of a stand's frame satisfy it
 pub stand_lives : (p : Problem) (sets : List RelSet) (from : ℕ) (tried : List ℕ) (rows : BitRows) (ns : List Constraint) → IsStand p sets from tried rows ns → Satisfies rows rows.count (bit_in rows 0)
 stand_lives p sets from tried rows ns is = (alive_here (with_narrowings p ns) (points_by_trial p) rows is.alive.allow is.holds is.frame).1 is.alive
+
+-- no family makes a problem with a relation at a free pair where that does not lead on, or where none lies behind
+pub none_with : (p : Problem) (sets : List RelSet) (from : ℕ) (rows : BitRows) (ns : List Constraint) (k : ℕ) (old set : RelSet) (rel : Rel) (l r : ℕ → Bool) →
+    IsStand p sets from [] rows ns → IsFreeAt p from [] k → ShowsPair (pair_at p k) (points_by_trial p) l r → old ≡ get_or sets k old →
+    ((rel : Rel) → IsTrue (has set rel) ↔ IsAliveIn rows l r old rel) → (has set rel ≡ true → LiesNoneBy p sets from (k ∷ []) rows l r rel) → IsMet (with_narrowings p (ns ++ said_at p k (only rel) ∷ [])) → ⊥
+none_with p sets from rows ns k old set rel l r is free shows read exact none met =
+    let ms = ns ++ said_at p k (only rel) ∷ [] in
+    let alive : IsAlive (with_narrowings p ms) = met_is_alive (with_narrowings p ms) met in
+    let allows : has (allowed (with_narrowings p ns) (pair_at p k)) rel ≡ true = alive_allows p ns k rel free.within alive in
+    let leads : LeadsOn rows l r (row_of rel) =
+    subst (λ words. Satisfies rows rows.count (left_at rows l r words) × AreMet words l r (left_at rows l r words)) (forced_only rel)
+    ((alive_next p ns ms k (only rel) rows (points_by_trial p) l r (narrower p ns k rel free.within allows) is.frame shows is.alive.allow is.holds).1 alive) in
+    let there : has set rel ≡ true = (exact rel).1 (ap (λ s. has s rel) (read ∙ is.free k old free) ∙ allows, leads) in
+    let by = none there in
+    by.none ms (stand_next p sets from [] rows by.next ns k rel l r is free shows allows leads by.narrowed) (table_of (with_narrowings p ms) met.0) (met.0, met.1, refl)
+
+-- a pair of which nothing is said where the path is empty, and none was tried
+pub free_at_start : (p : Problem) (k : ℕ) → k < pair_count p → IsFreeAt p 0 [] k
+free_at_start p k within = record { within = within; behind = omega arith; apart = λ i. omega (arith, i.1) }
+
+-- the same of a ladder's problem, whose path is empty
+pub none_of_ladder : (s : Inside) (i k : ℕ) (stretch : Stretch) (old set : RelSet) (rel : Rel) (l r : ℕ → Bool) → Keeps s → IsAlive (problem_at (problem_of s) (path_of s)) → IsInForce s.stretches.items 0 i →
+    stretch ≡ get_or s.stretches.items i stretch → k < pair_count s.problem → ShowsPair (pair_at s.problem k) (points_of s) l r → old ≡ get_or s.sets.items k old →
+    ((rel : Rel) → IsTrue (has set rel) ↔ IsAliveIn stretch.frame l r old rel) → (has set rel ≡ true → LiesNoneBy s.problem s.sets.items 0 (k ∷ []) stretch.frame l r rel) →
+    IsMet (narrowed (problem_of s) (pair_at (problem_of s) k) (only rel)) → ⊥
+none_of_ladder s i k stretch old set rel l r is alive force read within shows was exact none =
+    none_with s.problem s.sets.items 0 stretch.frame (problem_of s).narrowings k old set rel l r
+    (subst (λ (q : Problem). IsStand s.problem s.sets.items 0 [] stretch.frame q.narrowings) (at_empty (problem_of s)) (stand_here s 0 i stretch is alive (omega arith) force read))
+    (free_at_start s.problem k within) shows was exact none

@@ -1,5 +1,5 @@
 //! Whether a world lies behind a frame: a search over the pairs whose sets are not whole.
-ghost use Rattle.std.specs.Prelude.{◌≡◌, ◌<◌, ◌≤◌, true, length, take, IsTrue, IfOk};
+ghost use Rattle.std.specs.Prelude.{◌≡◌, ◌∷◌, ◌<◌, ◌≤◌, true, length, take, IsTrue, IfOk};
 ghost use Rattle.rcc5_core.specs.RelationSet.{has};
 ghost use Rattle.rcc5_core.specs.Region.{row_of};
 ghost use Rattle.bit_rows.specs.Rows.{bit_in, has_bit};
@@ -9,8 +9,9 @@ ghost use Rattle.point_ladder.specs.Barren.{IsFreeAt, LiesNone, LiesNoneBy, AreN
 
 use crate::bounds::bound;
 use crate::frame::{is_same, narrowed};
-use bit_rows::Rows;
+use bit_rows::{Rows, first_place, has_bit};
 use constraint_set::Problem;
+use lits_core::Bits;
 use rcc5_core::{Rel, RelSet};
 use std::alloc::{AllocError, Global};
 
@@ -26,12 +27,64 @@ pub(crate) struct Ground<'a> {
     pub(crate) order: &'a [u32],
 }
 
-/// How many steps a search may take yet, and the pairs at which it failed: hints.
+/// How many steps a search may take yet, the pairs at which it failed, whether points are wanted if it does not, and those that
+/// it found: hints.
 #[derive(Drop)]
 pub(crate) struct Effort {
     pub(crate) left: usize,
     pub(crate) failed: Vec<u32>,
+    pub(crate) wanted: bool,
+    pub(crate) found: Option<Vec<Bits>>,
 }
+
+/// So many steps a search for a world takes at the most: where it takes longer, nothing is shown.
+const MOST_STEPS: usize = 2000;
+
+/// The effort of a new search.
+pub(crate) fn new_effort(alloc: Global, wanted: bool) -> Effort {
+    Effort {
+        left: MOST_STEPS,
+        failed: Vec::new(alloc),
+        wanted,
+        found: None,
+    }
+}
+
+// The point with a number, by the rows of the concepts.
+fn point_of(ground: &Ground, place: usize) -> Result<Bits, AllocError> {
+    let mut bits = Bits::new(ground.alloc, ground.rows.count())?;
+    for concept in 0..ground.rows.count() {
+        if has_bit(ground.rows.row(concept), place) {
+            bits.set(concept, true);
+        }
+    }
+    Ok(bits)
+}
+
+// Notes points that serve all rows of a frame: those that have to stay, and the first of each row of which one has to.
+fn note_found(ground: &Ground, frame: &Rows, effort: &mut Effort) -> Result<(), AllocError>
+    requires { 2 ≤ frame.now.count }
+{
+    if !effort.wanted {
+        return Ok(());
+    }
+    let mut points = Vec::new(ground.alloc);
+    for place in 0..frame.width().saturating_mul(64) {
+        if has_bit(frame.row(1), place) {
+            points.push(point_of(ground, place)?)?;
+        }
+    }
+    for row in 2..frame.count() {
+        if let Some(place) = first_place(frame.row(row)) {
+            points.push(point_of(ground, place)?)?;
+        }
+    }
+    effort.found = Some(points);
+    Ok(())
+}
+
+/// A frame that is soon dropped is made with no look at the rows before a new one: that would take longer than it saves.
+const FEW_COMPARED: usize = 0;
 
 /// So many pairs are kept at which a search failed: the first ones tell most.
 const MOST_FAILED: usize = 4;
@@ -60,6 +113,18 @@ pub(crate) fn put_first(order: &mut Vec<u32>, pair: u32) {
     }
 }
 
+/// An order with one more pair before the others.
+pub(crate) fn led_by(alloc: Global, pair: u32, order: &[u32]) -> Result<Vec<u32>, AllocError>
+    ensures { IfOk result (λ longer. longer.items ≡ pair ∷ order.now) }
+{
+    let mut longer = Vec::with_capacity(alloc, order.len().saturating_add(1))?;
+    longer.push(pair)?;
+    for other in order {
+        longer.push(*other)?;
+    }
+    Ok(longer)
+}
+
 /// Puts some pairs before the others of an order, the last one first.
 pub(crate) fn put_all_first(order: &mut Vec<u32>, pairs: &[u32]) {
     for pair in pairs {
@@ -79,7 +144,7 @@ fn is_free(ground: &Ground, at: usize, pair: u32) -> bool
 
 // Whether no world lies behind a frame in which the pair at the place before has a relation.
 #[cycle(barren)]
-fn is_barren_by(
+pub(crate) fn is_barren_by(
     ground: &Ground,
     at: usize,
     frame: &Rows,
@@ -98,7 +163,7 @@ fn is_barren_by(
     if is_same(frame, left, right, rel.row()) {
         return is_barren(ground, at, frame, effort);
     }
-    let next = narrowed(ground.alloc, frame, left, right, rel.row())?;
+    let next = narrowed(ground.alloc, frame, left, right, rel.row(), FEW_COMPARED)?;
     is_barren(ground, at, &next, effort)
 }
 
@@ -149,7 +214,11 @@ pub(crate) fn is_barren(
     requires lives { Satisfies frame.now frame.now.count (bit_in frame.now 0) }
     ensures { IfOk result (λ none. none ≡ true → LiesNone ground.now.problem.now ground.now.sets.now ground.now.from (take at ground.now.order.now) frame.now) }
 {
-    if at >= ground.order.len() || effort.left == 0 {
+    if at >= ground.order.len() {
+        note_found(ground, frame, effort)?;
+        return Ok(false);
+    }
+    if effort.left == 0 {
         return Ok(false);
     }
     effort.left -= 1;

@@ -10,7 +10,7 @@ ghost use Rattle.point_table.specs.Table.{AreRowsOf};
 ghost use Rattle.point_ladder.specs.Ladders.{Satisfies, IsNarrowed, AreSeen};
 ghost use Rattle.point_ladder.specs.Bounds.{AreBounds, IsAliveIn};
 
-use crate::frame::{is_same, leads_by, narrowed, seen};
+use crate::frame::{MOST_COMPARED, is_same, leads_by, narrowed, seen};
 use crate::start::{first_frame, is_alive};
 use bit_rows::{Cells, Rows};
 use constraint_set::Problem;
@@ -107,7 +107,7 @@ fn narrow_frame(
     ensures { OnOk result (IsNarrowed frame.old frame.new (has_bit left.now) (has_bit right.now) words) }
 {
     if !is_same(frame, left, right, words) {
-        *frame = narrowed(alloc, frame, left, right, words)?;
+        *frame = narrowed(alloc, frame, left, right, words, MOST_COMPARED)?;
     }
     Ok(())
 }

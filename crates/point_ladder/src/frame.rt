@@ -209,14 +209,21 @@ pub(crate) fn is_same(frame: &Rows, left: &[u64], right: &[u64], words: Regions)
     are_met(frame.row(1), left, right, words)
 }
 
-// So many of the rows before a new one are set beside it: each row beside each would take too long where they are many.
-const MOST_COMPARED: usize = 1024;
+/// So many of the rows before a new one are set beside it: each row beside each would take too long where they are many.
+pub(crate) const MOST_COMPARED: usize = 1024;
+
+/// The first places of a frame's rows, and how many of the rows before a new one are set beside it: hints.
+#[derive(Drop)]
+pub(crate) struct Sieve {
+    firsts: Vec<usize>,
+    most: usize,
+}
 
 // The first row that is set beside the last one.
-fn first_compared(last: usize) -> usize
+fn first_compared(last: usize, most: usize) -> usize
     ensures { 2 ≤ result }
 {
-    last.saturating_sub(MOST_COMPARED).max(2)
+    last.saturating_sub(most).max(2)
 }
 
 // Whether a row may be inside another, by its first place: most are not, and one bit tells.
@@ -228,7 +235,7 @@ fn may_be_inside(firsts: &[usize], one: usize, other: &[u64]) -> bool {
 }
 
 // Whether a row is met wherever those before it are: it has a place that has to stay, or all of one of them.
-fn is_needless(frame: &Rows, firsts: &[usize], last: usize) -> bool
+fn is_needless(frame: &Rows, sieve: &Sieve, last: usize) -> bool
     requires { last < frame.now.count }
     ensures { result ≡ true → (some : ℕ → Bool) → Satisfies frame.now last some → SomePlace (λ k. bit_in frame.now last k && some k) }
 {
@@ -239,8 +246,8 @@ fn is_needless(frame: &Rows, firsts: &[usize], last: usize) -> bool
     if have_common(frame.row(1), row) {
         return true;
     }
-    for other in first_compared(last)..last {
-        if may_be_inside(firsts, other, row) && is_inside(frame.row(other), row) {
+    for other in first_compared(last, sieve.most)..last {
+        if may_be_inside(&sieve.firsts, other, row) && is_inside(frame.row(other), row) {
             return true;
         }
     }
@@ -248,13 +255,13 @@ fn is_needless(frame: &Rows, firsts: &[usize], last: usize) -> bool
 }
 
 // Drops the last row if it is needless, and takes its place among those that have to stay if it is the only one.
-fn settle(frame: &mut Rows, firsts: &[usize])
+fn settle(frame: &mut Rows, sieve: &Sieve)
     requires some { 0 < frame.old.width }
     requires three { 3 ≤ frame.old.count }
     ensures { IsOwing frame.old frame.new (λ _. Unit {0}) }
 {
     let last = frame.count() - 1;
-    if is_needless(frame, firsts, last) {
+    if is_needless(frame, sieve, last) {
         frame.pop();
         return;
     }
@@ -270,17 +277,18 @@ fn settle(frame: &mut Rows, firsts: &[usize])
 }
 
 // Notes the first place of a row that was added, if one was. The first places of rows are hints.
-fn note_first(frame: &Rows, firsts: &mut Vec<usize>) -> Result<(), AllocError> {
-    let row = firsts.len();
+fn note_first(frame: &Rows, sieve: &mut Sieve) -> Result<(), AllocError> {
+    let row = sieve.firsts.len();
     if row < frame.count() {
-        firsts.push(first_place(frame.row(row)).unwrap_or(0))?;
+        sieve.firsts.push(first_place(frame.row(row)).unwrap_or(0))?;
     }
     Ok(())
 }
 
-// The first places of the two rows of a new frame: nothing is set beside these.
-pub(crate) fn new_firsts(alloc: Global) -> Result<Vec<usize>, AllocError> {
-    vec![in alloc; 0; 2]
+// The sieve of a new frame: nothing is set beside its first two rows.
+pub(crate) fn new_sieve(alloc: Global, most: usize) -> Result<Sieve, AllocError> {
+    let firsts = vec![in alloc; 0; 2]?;
+    Ok(Sieve { firsts, most })
 }
 
 // Adds that one place has to stay of what two rows have in common in some cells of two sets.
@@ -291,7 +299,7 @@ pub(crate) fn add_need(
     right: &[u64],
     cells: Cells,
     frame: &mut Rows,
-    firsts: &mut Vec<usize>,
+    sieve: &mut Sieve,
 ) -> Result<(), AllocError>
     requires some { 0 < frame.old.width }
     requires width { length one.now ≤ frame.old.width }
@@ -299,8 +307,8 @@ pub(crate) fn add_need(
     ensures { OnOk result (IsOwing frame.old frame.new (λ some. SomePlace (λ k. meets_at one.now other.now left.now right.now cells k && some k))) }
 {
     frame.push(one, other, left, right, cells)?;
-    settle(frame, firsts);
-    note_first(frame, firsts)?;
+    settle(frame, sieve);
+    note_first(frame, sieve)?;
     Ok(())
 }
 
@@ -312,7 +320,7 @@ fn add_region(
     words: Regions,
     region: Region,
     frame: &mut Rows,
-    firsts: &mut Vec<usize>,
+    sieve: &mut Sieve,
 ) -> Result<(), AllocError>
     requires some { 0 < frame.old.width }
     requires width { length mask.now ≤ frame.old.width }
@@ -321,7 +329,7 @@ fn add_region(
     ensures { OnOk result (IsOwing frame.old frame.new (λ some. IsMet words (has_bit left.now) (has_bit right.now) some region)) }
 {
     if is_occupied(words, region) {
-        add_need(mask, mask, left, right, region_cell(region), frame, firsts)?;
+        add_need(mask, mask, left, right, region_cell(region), frame, sieve)?;
     }
     Ok(())
 }
@@ -333,7 +341,7 @@ pub(crate) fn add_regions(
     right: &[u64],
     words: Regions,
     frame: &mut Rows,
-    firsts: &mut Vec<usize>,
+    sieve: &mut Sieve,
 ) -> Result<(), AllocError>
     requires some { 0 < frame.old.width }
     requires width { length mask.now ≤ frame.old.width }
@@ -341,9 +349,9 @@ pub(crate) fn add_regions(
     requires mask { AreWithin (bit_in frame.old 0) (has_bit mask.now) }
     ensures { OnOk result (IsOwing frame.old frame.new (AreMet words (has_bit left.now) (has_bit right.now))) }
 {
-    add_region(mask, left, right, words, Region::LeftOnly, frame, firsts)?;
-    add_region(mask, left, right, words, Region::Both, frame, firsts)?;
-    add_region(mask, left, right, words, Region::RightOnly, frame, firsts)?;
+    add_region(mask, left, right, words, Region::LeftOnly, frame, sieve)?;
+    add_region(mask, left, right, words, Region::Both, frame, sieve)?;
+    add_region(mask, left, right, words, Region::RightOnly, frame, sieve)?;
     Ok(())
 }
 
@@ -354,7 +362,7 @@ fn add_open(
     right: &[u64],
     cells: Cells,
     frame: &mut Rows,
-    firsts: &mut Vec<usize>,
+    sieve: &mut Sieve,
 ) -> Result<(), AllocError>
     requires some { 0 < frame.old.width }
     requires width { old.now.width ≡ frame.old.width }
@@ -363,18 +371,19 @@ fn add_open(
     ensures { OnOk result (IsOwing frame.old frame.new (λ some. (r : ℕ) → 2 ≤ r → r < old.now.count → SomePlace (λ k. open_at old.now (has_bit left.now) (has_bit right.now) cells r k && some k))) }
 {
     for row in 2..old.count() {
-        add_need(old.row(row), old.row(0), left, right, cells, frame, firsts)?;
+        add_need(old.row(row), old.row(0), left, right, cells, frame, sieve)?;
     }
     Ok(())
 }
 
-// The frame after words were said of two sets.
+// The frame after words were said of two sets. So many rows are set beside each new one: a hint.
 pub(crate) fn narrowed(
     alloc: Global,
     frame: &Rows,
     left: &[u64],
     right: &[u64],
     words: Regions,
+    most: usize,
 ) -> Result<Rows, AllocError>
     requires some { 0 < frame.now.width }
     requires two { 2 ≤ frame.now.count }
@@ -382,11 +391,11 @@ pub(crate) fn narrowed(
 {
     let mask = frame.row(0);
     let kept = kept_cells(words);
-    let mut firsts = new_firsts(alloc)?;
+    let mut sieve = new_sieve(alloc, most)?;
     let mut next = Rows::new(alloc, frame.width());
     next.push(mask, mask, left, right, kept)?;
     next.push_copy(frame.row(1))?;
-    add_regions(mask, left, right, words, &mut next, &mut firsts)?;
-    add_open(frame, left, right, kept, &mut next, &mut firsts)?;
+    add_regions(mask, left, right, words, &mut next, &mut sieve)?;
+    add_open(frame, left, right, kept, &mut next, &mut sieve)?;
     Ok(next)
 }

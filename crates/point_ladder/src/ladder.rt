@@ -2,19 +2,26 @@
 ghost use Rattle.std.specs.Prelude.{◌≡◌, true, ◌<◌, ◌≤◌, ◌++◌, ◌∷◌, ◌↔◌, [], length, take, IfOk, OnErr, IfSome, IsTrue};
 ghost use Rattle.rcc5_core.specs.declared.Rel.{Rel};
 ghost use Rattle.rcc5_core.specs.RelationSet.{has, only};
-ghost use Rattle.world_model.specs.Problem.{pair_count};
+ghost use Rattle.world_model.specs.Problem.{narrowed, pair_count};
+ghost use Rattle.world_model.specs.Node.{pair_at};
+ghost use Rattle.world_model.specs.Questions.{IsMet};
 ghost use Rattle.world_model.specs.Alive.{problem_at, IsAlive};
 ghost use Rattle.point_table.specs.Table.{AreRowsOf};
 ghost use Rattle.point_ladder.specs.Ladders.{BeginsNone, IsBoundOf, IsAlong, IsPushed};
 ghost use Rattle.point_ladder.specs.Bounds.{bound_to, AreBounds};
+ghost use Rattle.point_ladder.specs.declared.Sight.TheVariants.{Nothing};
 ghost use Rattle.point_ladder.specs.Stretches.{AreNexts};
 
-use crate::behind::{Effort, Ground, is_barren, put_all_first, put_first};
+use crate::Sight;
+use crate::behind::{
+    Effort, Ground, is_barren, is_barren_by, led_by, new_effort, put_all_first, put_first,
+};
 use crate::bounds::{Bounds, are_same, bound, narrow_all, no_bounds};
-use crate::frame::{first_bare, is_same, leads_on, narrowed};
+use crate::frame::{MOST_COMPARED, first_bare, is_same, leads_on, narrowed};
 use crate::stretches::{Stretch, cut, in_force};
 use bit_rows::Rows;
 use constraint_set::Problem;
+use lits_core::Bits;
 use point_table::{all_points, allowed_sets, rows_of};
 use rcc5_core::{Rel, RelSet};
 use std::alloc::{AllocError, Global};
@@ -75,9 +82,6 @@ pub(crate) fn begin(
     Ok(Some((rows, bounds)))
 }
 
-/// So many steps a search for a world behind a path takes at the most: where it takes longer, nothing is shown.
-const MOST_STEPS: usize = 2000;
-
 // The first relation of each set.
 fn first_line(alloc: Global, sets: &[RelSet]) -> Result<Vec<Rel>, AllocError>
     ensures { IfOk result (λ line. length line.items ≡ length sets.now) }
@@ -123,6 +127,19 @@ fn split_pairs(alloc: Global, sets: &[RelSet]) -> Result<Vec<u32>, AllocError> {
         pair = pair.saturating_add(1);
     }
     Ok(pairs)
+}
+
+// What a look for a world comes to, by whether none was shown to be, and points that were found.
+fn sight_of(none: bool, found: Option<Vec<Bits>>) -> Sight
+    ensures { result ≡ Nothing → none ≡ true }
+{
+    if none {
+        return Sight::Nothing;
+    }
+    match found {
+        Some(points) => Sight::Points(points),
+        None => Sight::Unclear,
+    }
 }
 
 // The ladder at its start.
@@ -261,7 +278,7 @@ impl Ladder {
         let last = self.stretches.len() - 1;
         let frame = &self.stretches[last].frame;
         if !is_same(frame, left, right, rel.row()) {
-            let frame = narrowed(self.alloc, frame, left, right, rel.row())?;
+            let frame = narrowed(self.alloc, frame, left, right, rel.row(), MOST_COMPARED)?;
             self.stretches.push(Stretch {
                 from: pair + 1,
                 frame,
@@ -309,13 +326,54 @@ impl Ladder {
         ensures same { self.new ≡ self.old }
         ensures none { IfOk result (λ none. none ≡ true → BeginsNone self.old.problem (take len self.old.path)) }
     {
-        let mut effort = Effort {
-            left: MOST_STEPS,
-            failed: Vec::new(self.alloc),
-        };
+        let mut effort = new_effort(self.alloc, false);
         let none = self.lies_none(len, &mut effort)?;
         put_all_first(&mut self.order, &effort.failed);
         Ok(none)
+    }
+
+    // Whether it is shown that no world has a relation at a pair, with so much effort.
+    fn has_none_with(&self, pair: u32, rel: Rel, effort: &mut Effort) -> Result<bool, AllocError>
+        requires alive { IsAlive (problem_at self.now.problem self.now.path) }
+        requires start { self.now.path ≡ [] }
+        requires within { pair < pair_count self.now.problem }
+        ensures { IfOk result (λ none. none ≡ true → IsMet (narrowed self.now.problem (pair_at self.now.problem pair) (only rel)) → ⊥) }
+    {
+        self.problem.facts();
+        let (left, right) = self.problem.pair_at(pair);
+        let (left, right) = (self.rows.row(left as usize), self.rows.row(right as usize));
+        let place = in_force(&self.stretches, 0);
+        let frame = &self.stretches[place].frame;
+        let set = bound(frame, left, right, self.sets[pair as usize]);
+        if !set.has(rel) {
+            return Ok(true);
+        }
+        let order = led_by(self.alloc, pair, &self.order)?;
+        let ground = Ground {
+            alloc: self.alloc,
+            problem: &self.problem,
+            rows: &self.rows,
+            sets: &self.sets,
+            from: 0,
+            order: &order,
+        };
+        is_barren_by(&ground, 1, frame, left, right, rel, effort)
+    }
+
+    /// Looks for a world that has a relation at a pair, where no relation is on the path.
+    pub fn look_for(&mut self, pair: u32, rel: Rel) -> Result<Sight, AllocError>
+        requires start { self.old.path ≡ [] }
+        requires within { pair < pair_count self.old.problem }
+        ensures same { self.new ≡ self.old }
+        ensures none { IfOk result (λ sight. sight ≡ Nothing → IsMet (narrowed self.old.problem (pair_at self.old.problem pair) (only rel)) → ⊥) }
+    {
+        if !self.is_alive() {
+            return Ok(Sight::Unclear);
+        }
+        let mut effort = new_effort(self.alloc, true);
+        let none = self.has_none_with(pair, rel, &mut effort)?;
+        put_all_first(&mut self.order, &effort.failed);
+        Ok(sight_of(none, effort.found.take()))
     }
 
     /// Has a pair tried before others where it is next to be shown that no world begins with a path: a hint.

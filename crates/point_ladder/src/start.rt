@@ -8,7 +8,7 @@ ghost use Rattle.point_table.specs.Points.{AreAllowed};
 ghost use Rattle.point_table.specs.Table.{AreRowsOf};
 ghost use Rattle.point_ladder.specs.Ladders.{AreWithin, IsOwing, PairsMet, ConceptsMet, IsFrame};
 
-use crate::frame::{add_need, add_regions, lives, new_firsts};
+use crate::frame::{MOST_COMPARED, Sieve, add_need, add_regions, lives, new_sieve};
 use bit_rows::{Cells, Rows};
 use constraint_set::Problem;
 use rcc5_core::{RelSet, forced};
@@ -37,7 +37,7 @@ fn add_pairs(
     rows: &Rows,
     full: &Rows,
     frame: &mut Rows,
-    firsts: &mut Vec<usize>,
+    sieve: &mut Sieve,
 ) -> Result<(), AllocError>
     requires sets { AreAllowed problem.now sets.now }
     requires rows { AreRowsOf problem.now rows.now }
@@ -52,7 +52,7 @@ fn add_pairs(
         let (left, right) = problem.pair_at(pair);
         let (left, right) = (rows.row(left as usize), rows.row(right as usize));
         let words = forced(sets[pair as usize]);
-        add_regions(full.row(0), left, right, words, frame, firsts)?;
+        add_regions(full.row(0), left, right, words, frame, sieve)?;
     }
     Ok(())
 }
@@ -62,7 +62,7 @@ fn add_concepts(
     problem: &Problem,
     rows: &Rows,
     frame: &mut Rows,
-    firsts: &mut Vec<usize>,
+    sieve: &mut Sieve,
 ) -> Result<(), AllocError>
     requires rows { AreRowsOf problem.now rows.now }
     requires wide { rows.now.width ≡ frame.old.width }
@@ -72,7 +72,7 @@ fn add_concepts(
 {
     for concept in 0..rows.count() {
         let row = rows.row(concept);
-        add_need(row, row, row, row, Cells::all(), frame, firsts)?;
+        add_need(row, row, row, row, Cells::all(), frame, sieve)?;
     }
     Ok(())
 }
@@ -82,7 +82,7 @@ fn add_nonempty(
     problem: &Problem,
     rows: &Rows,
     frame: &mut Rows,
-    firsts: &mut Vec<usize>,
+    sieve: &mut Sieve,
 ) -> Result<(), AllocError>
     requires rows { AreRowsOf problem.now rows.now }
     requires wide { rows.now.width ≡ frame.old.width }
@@ -91,7 +91,7 @@ fn add_nonempty(
     ensures { OnOk result (IsOwing frame.old frame.new (λ some. problem.now.switches.nonempty ≡ true → ConceptsMet (points_by_trial problem.now) (concept_count problem.now) some)) }
 {
     if problem.switches().nonempty {
-        add_concepts(problem, rows, frame, firsts)?;
+        add_concepts(problem, rows, frame, sieve)?;
     }
     Ok(())
 }
@@ -110,12 +110,12 @@ pub(crate) fn first_frame(
     ensures { IfOk result (λ frame. IsFrame problem.now (points_by_trial problem.now) frame) }
 {
     let full = full_row(alloc, rows.width(), count)?;
-    let mut firsts = new_firsts(alloc)?;
+    let mut sieve = new_sieve(alloc, MOST_COMPARED)?;
     let mut frame = Rows::new(alloc, rows.width());
     frame.push_copy(full.row(0))?;
     frame.push_empty()?;
-    add_pairs(problem, sets, rows, &full, &mut frame, &mut firsts)?;
-    add_nonempty(problem, rows, &mut frame, &mut firsts)?;
+    add_pairs(problem, sets, rows, &full, &mut frame, &mut sieve)?;
+    add_nonempty(problem, rows, &mut frame, &mut sieve)?;
     Ok(frame)
 }
 
