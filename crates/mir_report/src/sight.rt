@@ -85,29 +85,29 @@ fn choice_of(alloc: Global, problem: &Problem, sight: Sight) -> Result<Option<Ch
 fn look_at(
     alloc: Global,
     problem: &Problem,
-    narrowed: &Problem,
+    part: &Problem,
     pair: u32,
     rel: Rel,
     help: &mut Help,
 ) -> Result<Option<Choice>, AllocError>
     requires help { IsHelp problem.now help.old }
     requires within { pair < pair_count problem.now }
-    requires narrowed { narrowed.now ≡ narrowed problem.now (pair_at problem.now pair) (only rel) }
+    requires part { part.now ≡ narrowed problem.now (pair_at problem.now pair) (only rel) }
     ensures help { IsHelp problem.now help.new }
-    ensures choice { IfOk result (λ found. IfSome found (IsChoice narrowed.now)) }
+    ensures choice { IfOk result (λ found. IfSome found (IsChoice part.now)) }
 {
     let Some(ladder) = &mut help.ladder else {
         return Ok(None);
     };
     let sight = ladder.look_for(pair, rel)?;
-    choice_of(alloc, narrowed, sight)
+    choice_of(alloc, part, sight)
 }
 
 /// Whether a family meets a problem where a pair is narrowed to a relation: by the table, and where that does not tell by picks.
 pub(crate) fn choose_with(
     alloc: Global,
     problem: &Problem,
-    narrowed: &Problem,
+    part: &Problem,
     pair: u32,
     rel: Rel,
     help: &mut Help,
@@ -116,15 +116,15 @@ pub(crate) fn choose_with(
     requires shape { asker.old.shape ≡ shape_of problem.now }
     requires help { IsHelp problem.now help.old }
     requires within { pair < pair_count problem.now }
-    requires narrowed { narrowed.now ≡ narrowed problem.now (pair_at problem.now pair) (only rel) }
-    requires alike { SameShape narrowed.now problem.now }
+    requires part { part.now ≡ narrowed problem.now (pair_at problem.now pair) (only rel) }
+    requires alike { SameShape part.now problem.now }
     ensures shape { asker.new.shape ≡ asker.old.shape }
     ensures help { OnOk result (IsHelp problem.now help.new) }
-    ensures choice { IfOk result (IsChoice narrowed.now) }
+    ensures choice { IfOk result (IsChoice part.now) }
 {
-    let seen = look_at(alloc, problem, narrowed, pair, rel, help)?;
+    let seen = look_at(alloc, problem, part, pair, rel, help)?;
     match seen {
         Some(choice) => Ok(choice),
-        None => choose_part(alloc, problem, narrowed, &mut help.clashes, asker),
+        None => choose_part(alloc, problem, part, &mut help.clashes, asker),
     }
 }

@@ -10,7 +10,7 @@ pairs-init c =
     let p = c.args.problem.now in
     record {
       shape = refl;
-      known = c.requires.known;
+      help = c.requires.help;
       seen = c.in_ok-seen.ensures;
       count = ap length c.new-sets.ensures.items;
       each = subst (λ sets. (k : ℕ) (one : RelSet) → slice_get sets k ≡ Some one → IsPossibleSet p k one) (sym c.new-sets.ensures.items) (λ k one e. cc);
@@ -25,7 +25,7 @@ pairs-preserved c =
     let more = c.in_ok-put.ensures in
     record {
       shape = c.ask_pair.ensures.shape ∙ c.pairs.invariant.shape;
-      known = c.in_ok-set.ensures.known;
+      help = c.in_ok-set.ensures.help;
       seen = c.in_ok-set.ensures.seen;
       count =
           let long = ap length more in

@@ -1,6 +1,7 @@
-use Rattle.std.proofs.Common.{true≢false, refl, sym, subst, ◌∙◌}
+use Rattle.std.proofs.Common.{true≢false, refl, sym, ap, subst, ◌∙◌}
+use Rattle.world_model.specs.Node.{pair_at}
+use Rattle.world_model.specs.Problem.{narrowed}
 use Rattle.split_search.specs.Choosing.{IsChoice}
-use Rattle.pick_search.proofs.Narrowing.{part_narrowed}
 use Rattle.mir_report.proofs.Laws.{cross_within}
 use Rattle.mir_report.proofs.Subjects.{met_by_above, met_is_possible}
 use Rattle.mir_report.proofs.bare.ask_for.Goals as goal
@@ -8,11 +9,11 @@ use Rattle.mir_report.proofs.bare.ask_for.Goals as goal
 pub narrowed-requires : goal.narrowed-requires
 narrowed-requires c = cross_within c.args.problem.now c.args.pair c.requires.cross
 
-pub choose_part-requires-clause-shape : goal.choose_part-requires-clause-shape
-choose_part-requires-clause-shape c = c.requires.shape ∙ sym c.in_ok-narrowed.ensures.shape
+pub choose_with-requires-clause-within : goal.choose_with-requires-clause-within
+choose_with-requires-clause-within c = cross_within c.args.problem.now c.args.pair c.requires.cross
 
-pub choose_part-requires-clause-part : goal.choose_part-requires-clause-part
-choose_part-requires-clause-part c = part_narrowed c.args.problem.now c.in_ok-narrowed.narrowed c.args.pair c.args.rel c.one.result c.one.ensures c.in_ok-narrowed.ensures.value c.in_ok-narrowed.ensures.shape
+pub choose_with-requires-clause-part : goal.choose_with-requires-clause-part
+choose_with-requires-clause-part c = c.in_ok-narrowed.ensures.value ∙ ap (narrowed c.args.problem.now (pair_at c.args.problem.now c.args.pair)) c.one.ensures
 
 pub seen_with-requires-clause-met : goal.seen_with-requires-clause-met
 seen_with-requires-clause-met c =

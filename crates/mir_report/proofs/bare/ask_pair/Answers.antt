@@ -13,7 +13,7 @@ use Rattle.mir_report.proofs.bare.ask_pair.Goals.{then-branch, else-branch}
 pub rels-init : goal.rels-init
 rels-init c = record {
   shape = refl;
-  known = c.requires.known;
+  help = c.requires.help;
   seen = c.requires.seen;
   each = λ q. (λ h. absurd (true≢false (sym h ∙ ap (λ set. has set q) c.none-set.ensures ∙ has_none q)), λ h. absurd (omega (arith, h.0.1)));
 }
@@ -32,7 +32,7 @@ rels-preserved c =
     ] in
     record {
       shape = c.ask_if_among.ensures.shape ∙ c.rels.invariant.shape;
-      known = said.known;
+      help = said.help;
       seen = said.seen;
       each = subst (λ rels. HasThose (IsPossibleRelation p pair) rels c.if-branch.set) (sym more) each;
     }
