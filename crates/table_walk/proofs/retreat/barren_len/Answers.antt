@@ -7,7 +7,7 @@ loop-low-init c =
     record {
       same = c.in_ok-is_barren.ensures.same;
       within = omega (arith, ap length c.path-high.ensures);
-      barren = c.in_ok-is_barren.ensures.barren (search rules);
+      barren = c.in_ok-is_barren.ensures.none (search rules);
     }
 
 pub loop-low-preserved-then-branch : goal.loop-low-preserved-then-branch
@@ -17,5 +17,5 @@ loop-low-preserved-then-branch c =
     record {
       same = c.in_ok-is_barren-2.ensures.same ∙ kept.same;
       within = omega (arith, kept.within, c.loop-low-test.true);
-      barren = subst (λ (l : LadderState). BeginsNone l.problem (take mid l.path)) kept.same (c.in_ok-is_barren-2.ensures.barren (search rules));
+      barren = subst (λ (l : LadderState). BeginsNone l.problem (take mid l.path)) kept.same (c.in_ok-is_barren-2.ensures.none (search rules));
     }
