@@ -10,7 +10,7 @@ use crate::way::{Way, turn_off};
 use point_ladder::Ladder;
 use std::alloc::AllocError;
 
-// A retreat costs as much as some ten steps, so that one in vain after so many adds little to them.
+// A retreat asks about a prefix for each time that the path's length may be halved, so that one after so many steps adds little.
 const FIRST_PATIENCE: usize = 64;
 
 /// How long a way goes on without a world before it asks whether its path leads to one: a hint.
