@@ -2,7 +2,7 @@
 ghost use Rattle.std.specs.Prelude.{◌≡◌, ◌<◌, ◌≤◌, All, length, true, IfOk, IfSome, OnOk};
 ghost use Rattle.rcc5_core.specs.RelationSet.{only};
 ghost use Rattle.world_model.specs.Node.{pair_at};
-ghost use Rattle.world_model.specs.Problem.{narrowed, pair_count};
+ghost use Rattle.world_model.specs.Problem.{Problem, narrowed, pair_count};
 ghost use Rattle.world_model.specs.Questions.{IsMet};
 ghost use Rattle.constraint_set.specs.Shape.{SameShape, shape_of};
 ghost use Rattle.point_ladder.specs.declared.Sight.TheVariants.{Nothing};
@@ -24,7 +24,12 @@ use std::alloc::{AllocError, Global};
 pub(crate) struct Help {
     pub(crate) clashes: Known,
     ladder: Option<Ladder>,
+    // How many looks by the table told nothing, but for those that others made up for: a hint.
+    futile: usize,
 }
+
+/// After so many looks that told nothing the table is not asked any more.
+const MOST_FUTILE: usize = 64;
 
 /// Nothing is known to clash yet.
 pub(crate) fn new_help(alloc: Global, problem: &Problem) -> Result<Help, AllocError>
@@ -32,7 +37,11 @@ pub(crate) fn new_help(alloc: Global, problem: &Problem) -> Result<Help, AllocEr
 {
     let clashes = Known::new(alloc, problem)?;
     let ladder = Ladder::bounded(alloc, problem, MOST_POINTS, MOST_TRIES)?;
-    Ok(Help { clashes, ladder })
+    Ok(Help {
+        clashes,
+        ladder,
+        futile: 0,
+    })
 }
 
 // Whether each of some points has a bit for so many concepts.
@@ -103,6 +112,20 @@ fn look_at(
     choice_of(alloc, part, sight)
 }
 
+// Notes whether a look told something. The table is dropped where too many told nothing.
+fn note_look(help: &mut Help, told: bool)
+    ensures { (p : Problem) → IsHelp p help.old → IsHelp p help.new }
+{
+    if told {
+        help.futile = help.futile.saturating_sub(1);
+        return;
+    }
+    help.futile = help.futile.saturating_add(1);
+    if help.futile > MOST_FUTILE {
+        help.ladder = None;
+    }
+}
+
 /// Whether a family meets a problem where a pair is narrowed to a relation: by the table, and where that does not tell by picks.
 pub(crate) fn choose_with(
     alloc: Global,
@@ -123,6 +146,7 @@ pub(crate) fn choose_with(
     ensures choice { IfOk result (IsChoice part.now) }
 {
     let seen = look_at(alloc, problem, part, pair, rel, help)?;
+    note_look(help, seen.is_some());
     match seen {
         Some(choice) => Ok(choice),
         None => choose_part(alloc, problem, part, &mut help.clashes, asker),

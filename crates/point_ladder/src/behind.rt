@@ -38,7 +38,7 @@ pub(crate) struct Effort {
 }
 
 /// So many steps a search for a world takes at the most: where it takes longer, nothing is shown.
-const MOST_STEPS: usize = 2000;
+const MOST_STEPS: usize = 1000;
 
 /// The effort of a new search.
 pub(crate) fn new_effort(alloc: Global, wanted: bool) -> Effort {

@@ -82,6 +82,9 @@ pub(crate) fn begin(
     Ok(Some((rows, bounds)))
 }
 
+/// Frames with more words than so many for each pair, over all pairs that are to be tried, are too large for a look.
+const MOST_WORDS_A_PAIR: usize = 2000;
+
 // The first relation of each set.
 fn first_line(alloc: Global, sets: &[RelSet]) -> Result<Vec<Rel>, AllocError>
     ensures { IfOk result (λ line. length line.items ≡ length sets.now) }
@@ -360,6 +363,15 @@ impl Ladder {
         is_barren_by(&ground, 1, frame, left, right, rel, effort)
     }
 
+    // Whether a look takes little beside asking for points one by one, which takes the longer the more pairs there are.
+    fn is_small(&self) -> bool {
+        let Some(first) = self.stretches.first() else {
+            return false;
+        };
+        let words = first.frame.count().saturating_mul(first.frame.width());
+        words.saturating_mul(self.order.len()) <= MOST_WORDS_A_PAIR.saturating_mul(self.sets.len())
+    }
+
     /// Looks for a world that has a relation at a pair, where no relation is on the path.
     pub fn look_for(&mut self, pair: u32, rel: Rel) -> Result<Sight, AllocError>
         requires start { self.old.path ≡ [] }
@@ -367,7 +379,7 @@ impl Ladder {
         ensures same { self.new ≡ self.old }
         ensures none { IfOk result (λ sight. sight ≡ Nothing → IsMet (narrowed self.old.problem (pair_at self.old.problem pair) (only rel)) → ⊥) }
     {
-        if !self.is_alive() {
+        if !self.is_alive() || !self.is_small() {
             return Ok(Sight::Unclear);
         }
         let mut effort = new_effort(self.alloc, true);
