@@ -28,6 +28,9 @@ pub(crate) struct Help {
     futile: usize,
 }
 
+/// By a table of more points than so many for each pair a look takes longer than asking for points one by one.
+const MOST_POINTS_A_PAIR: usize = 4;
+
 /// After so many looks that told nothing the table is not asked any more.
 const MOST_FUTILE: usize = 64;
 
@@ -36,7 +39,8 @@ pub(crate) fn new_help(alloc: Global, problem: &Problem) -> Result<Help, AllocEr
     ensures { IfOk result (IsHelp problem.now) }
 {
     let clashes = Known::new(alloc, problem)?;
-    let ladder = Ladder::bounded(alloc, problem, MOST_POINTS, MOST_TRIES)?;
+    let few = MOST_POINTS_A_PAIR.saturating_mul(problem.pair_count() as usize);
+    let ladder = Ladder::bounded(alloc, problem, MOST_POINTS.min(few), MOST_TRIES)?;
     Ok(Help {
         clashes,
         ladder,
