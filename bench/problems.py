@@ -13,7 +13,11 @@ doubtful SIZE K       two trees of SIZE/2 concepts, K children to a concept, eac
                       for each third, which may overlap it too
 vague SIZE COUNT      two trees of SIZE/2 concepts, three children to a concept, with COUNT statements between drawn ones: disjoint, or a set
                       that has disjoint besides
+revised SEED SIZE     two trees of SIZE/2 concepts, the second a revision of the first in which eight things were put elsewhere, and what is so of
+                      most concepts beside their counterparts, three in ten of these statements with other relations that might hold
+unclear SEED SIZE     the same with twenty things put elsewhere, half of the statements left out, and half of the others not sure
 repeated SIZE COUNT   flat, SIZE/2 concepts a side, with COUNT statements, each pair's equals again and again, and a disjoint last"""
+import random
 import sys
 
 
@@ -144,8 +148,77 @@ def vague(size, count):
     return ["taxonomy 1", *rows, "taxonomy 2", *rows, "articulation", *said]
 
 
+def hierarchy(rng, things, count):
+    """Nested groups of things: each its parent's number, and its things."""
+    groups, leaves = [(None, frozenset(range(things)))], [0]
+    while len(groups) < count:
+        at = max((leaf for leaf in leaves if len(groups[leaf][1]) > 1), key=lambda leaf: len(groups[leaf][1]) * rng.random())
+        members = sorted(groups[at][1])
+        rng.shuffle(members)
+        parts = min(rng.randint(2, 4), len(members))
+        cuts = [0, *sorted(rng.sample(range(1, len(members)), parts - 1)), len(members)]
+        leaves.remove(at)
+        for low, high in zip(cuts, cuts[1:]):
+            leaves.append(len(groups))
+            groups.append((at, frozenset(members[low:high])))
+    return groups
+
+
+def moved(rng, groups, moves):
+    """The same groups where some things were put from one leaf into another."""
+    kids = {at: [k for k, group in enumerate(groups) if group[0] == at] for at in range(len(groups))}
+    held = {at: set(groups[at][1]) for at in kids if not kids[at]}
+    for _ in range(moves):
+        source, target = rng.sample(sorted(held), 2)
+        if len(held[source]) > 1:
+            thing = rng.choice(sorted(held[source]))
+            held[source].discard(thing), held[target].add(thing)
+    of = lambda at: set(held[at]) if not kids[at] else set().union(*[of(k) for k in kids[at]])
+    return [(groups[at][0], frozenset(of(at))) for at in range(len(groups))]
+
+
+def relation(one, other):
+    if one == other:
+        return "equals"
+    if one < other:
+        return "is_included_in"
+    if one > other:
+        return "includes"
+    return "overlaps" if one & other else "disjoint"
+
+
+def revision(seed, size, moves, said, doubt):
+    rng = random.Random(seed)
+    left = hierarchy(rng, 3 * size // 2, size // 2)
+    right = moved(rng, left, moves)
+    words = ["equals", "includes", "is_included_in", "overlaps", "disjoint"]
+    lines = []
+    for taxonomy, groups in ((1, left), (2, right)):
+        lines.append(f"taxonomy {taxonomy}")
+        for at in range(len(groups)):
+            kids = [f"c{k}" for k in range(len(groups)) if groups[k][0] == at]
+            if kids:
+                lines.append("(" + " ".join([f"c{at}", *kids]) + ")")
+    lines.append("articulation")
+    for at, (_, members) in enumerate(left):
+        if rng.random() < said:
+            best = max(range(len(right)), key=lambda k: len(members & right[k][1]) / len(members | right[k][1]))
+            true = relation(members, right[best][1])
+            rels = [word for word in words if word == true or rng.random() < 0.3] if rng.random() < doubt else [true]
+            lines.append(f"[1.c{at} {rels[0] if len(rels) == 1 else '{' + ' '.join(rels) + '}'} 2.c{best}]")
+    return lines
+
+
+def revised(seed, size):
+    return revision(seed, size, 8, 0.7, 0.3)
+
+
+def unclear(seed, size):
+    return revision(seed, size, 20, 0.5, 0.5)
+
+
 FAMILIES = {"generated": generated, "flat": two_roots, "loose": loose, "chain": chain, "sums": sums, "split": split, "roots": roots, "planted": planted,
-            "doubtful": doubtful, "repeated": repeated, "vague": vague}
+            "doubtful": doubtful, "repeated": repeated, "vague": vague, "revised": revised, "unclear": unclear}
 
 if __name__ == "__main__":
     kind, one, other = sys.argv[1], int(sys.argv[2]), int(sys.argv[3])
