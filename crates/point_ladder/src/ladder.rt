@@ -83,7 +83,10 @@ pub(crate) fn begin(
 }
 
 /// Frames with more words than so many for each pair, over all pairs that are to be tried, are too large for a look.
-const MOST_WORDS_A_PAIR: usize = 2000;
+const MOST_WORDS_A_PAIR: usize = 200;
+
+/// In such frames a search for a world behind a path takes so many steps at the most, since each takes as long as one of the walk.
+const FEW_STEPS: usize = 10;
 
 // The first relation of each set.
 fn first_line(alloc: Global, sets: &[RelSet]) -> Result<Vec<Rel>, AllocError>
@@ -330,6 +333,9 @@ impl Ladder {
         ensures none { IfOk result (λ none. none ≡ true → BeginsNone self.old.problem (take len self.old.path)) }
     {
         let mut effort = new_effort(self.alloc, false);
+        if !self.is_small() {
+            effort.left = FEW_STEPS;
+        }
         let none = self.lies_none(len, &mut effort)?;
         put_all_first(&mut self.order, &effort.failed);
         Ok(none)
