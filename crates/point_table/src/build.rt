@@ -288,9 +288,9 @@ fn no_rules(alloc: Global, count: usize) -> Result<Rules, AllocError>
     Ok(Rules {
         implied: empty_rows(alloc, count, width)?,
         excluded: empty_rows(alloc, count, width)?,
+        last: empty_lists(alloc, count)?,
         heads: Vec::new(alloc),
         covers: Rows::new(alloc, width),
-        last: empty_lists(alloc, count)?,
     })
 }
 

@@ -1,9 +1,11 @@
 //! All points of a problem, by a search through the lists of bits that turns back where no point begins.
-ghost use Rattle.std.specs.Prelude.{◌≡◌, ◌+◌, ◌-◌, ◌<◌, true, false, [], ◌∷◌, ◌++◌, if◌then◌else◌, length, IfOk};
+ghost use Rattle.std.specs.Prelude.{◌≡◌, ◌+◌, ◌-◌, ◌<◌, true, false, [], ◌∷◌, ◌++◌, if◌then◌else◌, length, IfOk, IfSome};
 ghost use Rattle.world_model.specs.Problem.{concept_count};
 ghost use Rattle.world_model.specs.Alive.{is_point};
+ghost use Rattle.world_model.specs.Trial.{points_by_trial};
 ghost use Rattle.point_table.specs.Growing.{points_below, IsTried, AreTerms};
 
+use crate::build::nothing_known;
 use crate::points::is_point;
 use crate::rules::Rules;
 use bit_rows::Rows;
@@ -23,11 +25,11 @@ pub(crate) struct Terms<'a> {
 
 // How far a search has come: the bits tried, the points found, and how many points and tries it may have.
 #[derive(Drop)]
-pub(crate) struct Search {
-    pub(crate) tried: Vec<bool>,
-    pub(crate) points: Vec<Bits>,
-    pub(crate) most: usize,
-    pub(crate) tries: usize,
+struct Search {
+    tried: Vec<bool>,
+    points: Vec<Bits>,
+    most: usize,
+    tries: usize,
 }
 
 /// Bits of a list.
@@ -56,7 +58,7 @@ fn add_if_point(alloc: Global, terms: &Terms, search: &mut Search) -> Result<boo
 
 // Adds all points that begin with the bits tried, unless it takes too long or they are too many.
 #[cycle(grow)]
-pub(crate) fn grow(
+fn grow(
     alloc: Global,
     terms: &Terms,
     search: &mut Search,
@@ -113,4 +115,28 @@ fn grow_by(
     let done = grow(alloc, terms, search, &next, left - 1)?;
     search.tried.pop();
     Ok(done)
+}
+
+// All points of a problem, if they are at most so many and are found in so many tries.
+pub(crate) fn grow_all(
+    alloc: Global,
+    terms: &Terms,
+    most: usize,
+    tries: usize,
+) -> Result<Option<Vec<Bits>>, AllocError>
+    requires { AreTerms terms.now }
+    ensures { IfOk result (λ found. IfSome found (λ points. points.items ≡ points_by_trial terms.now.problem.now)) }
+{
+    let count = terms.problem.concept_count() as usize;
+    let known = nothing_known(alloc, terms.rules.implied.width())?;
+    let mut search = Search {
+        tried: Vec::new(alloc),
+        points: Vec::new(alloc),
+        most,
+        tries,
+    };
+    if !grow(alloc, terms, &mut search, &known, count)? {
+        return Ok(None);
+    }
+    Ok(Some(search.points))
 }

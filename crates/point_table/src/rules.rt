@@ -8,13 +8,25 @@ use bit_rows::{Rows, has_bit, have_common, is_inside};
 use std::alloc::{AllocError, Global};
 
 // What follows from a concept's bit, and what does not go with it; and heads that need one of a row, by the last concept in it.
-#[derive(Drop)]
 pub(crate) struct Rules {
     pub(crate) implied: Rows,
     pub(crate) excluded: Rows,
     pub(crate) heads: Vec<usize>,
     pub(crate) covers: Rows,
     pub(crate) last: Vec<Vec<usize>>,
+}
+
+// Written out, so that letting one go is a call.
+impl Drop for Rules {
+    fn drop(self) {
+        let Rules {
+            implied: _,
+            excluded: _,
+            heads: _,
+            covers: _,
+            last: _,
+        } = self;
+    }
 }
 
 impl Rules {

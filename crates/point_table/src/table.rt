@@ -7,8 +7,8 @@ ghost use Rattle.bit_rows.specs.Rows.{word_bit, has_bit};
 ghost use Rattle.point_table.specs.Points.{AreAllowed};
 ghost use Rattle.point_table.specs.Table.{point_at, AreShown};
 
-use crate::build::{nothing_known, rules_of};
-use crate::grow::{Search, Terms, grow};
+use crate::build::rules_of;
+use crate::grow::{Terms, grow_all};
 use crate::points::{allowed_sets, pairs_with_empty};
 use bit_rows::{Cells, Rows, with_bit};
 use constraint_set::Problem;
@@ -31,24 +31,13 @@ pub fn all_points(
     problem.facts();
     let pairs = pairs_with_empty(alloc, problem, sets)?;
     let rules = rules_of(alloc, problem, sets, &pairs)?;
-    let count = problem.concept_count() as usize;
-    let known = nothing_known(alloc, rules.implied.width())?;
     let terms = Terms {
         problem,
         sets,
         pairs: &pairs,
         rules: &rules,
     };
-    let mut search = Search {
-        tried: Vec::new(alloc),
-        points: Vec::new(alloc),
-        most,
-        tries,
-    };
-    if !grow(alloc, &terms, &mut search, &known, count)? {
-        return Ok(None);
-    }
-    Ok(Some(search.points))
+    grow_all(alloc, &terms, most, tries)
 }
 
 // The bits that 64 points have of a concept, from one place on.
