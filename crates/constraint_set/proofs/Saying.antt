@@ -1,10 +1,11 @@
 -- What statements say of pairs, one after another.
 use Rattle.std.proofs.Common.{◌≡◌, ℕ, ◌+◌, ◌<◌, Bool, true, false, cond, eqb, List, [], ◌∷◌, ◌++◌, map, length, take, get_or, replicate, Option, None, Some, inl, inr, refl, sym, ap, ◌∙◌, subst, arith}
-use Rattle.std.specs.Prelude.{if◌then◌else◌}
+use Rattle.std.specs.Prelude.{if◌then◌else◌, nat_eq, IsTrue}
 use Rattle.std.specs.List.{cons_option}
-use Rattle.std.specs.Option.{option_to_list}
-use Rattle.std.proofs.lemmas.Bool.{eq-eqb, eqb-true, cases_eq, false_from_ne_true}
-use Rattle.std.proofs.lemmas.List.{take_more, append-nil, length-take-le}
+use Rattle.std.specs.Map.{lookup}
+use Rattle.std.specs.Option.{option_to_list, unwrap_or}
+use Rattle.std.proofs.lemmas.Bool.{eq-eqb, eqb-true, cases_eq, false_from_ne_true, true≢false}
+use Rattle.std.proofs.lemmas.List.{take_more, append-nil, length-map, length-take-le}
 use Rattle.rcc5_core.specs.declared.RelSet.{RelSet}
 use Rattle.rcc5_core.specs.RelationSet.{both_of, every_rel}
 use Rattle.world_model.specs.declared.Articulation.{Articulation}
@@ -13,7 +14,7 @@ use Rattle.world_model.specs.Alive.{is_about, meet_of, said_of}
 use Rattle.world_model.specs.Node.{pair_at}
 use Rattle.world_model.proofs.PointOnce.{both_of_every, said_of-append}
 use Rattle.world_model.proofs.PointWhole.{about_is, about_from}
-use Rattle.constraint_set.specs.Sets.{set_at, Narrows, AreSets, Says, said_if, kept_statements, IsState}
+use Rattle.constraint_set.specs.Sets.{set_at, mark_of, Narrows, AreMarked, AreSets, Says, said_if, kept_statements, IsState}
 use Rattle.constraint_set.specs.Shape.{with_state}
 
 -- one statement, on a pair that it is about and on another
@@ -50,6 +51,22 @@ says_from_narrows p old new pair c at only narrows = record { after = λ stateme
       where
         same_pair : (q : ℕ × ℕ) (l r : ℕ) → q.0 ≡ l → q.1 ≡ r → q ≡ (l, r)
         same_pair q l r e f = ap (λ x. (x, q.1)) e ∙ ap (λ y. (l, y)) f
+
+-- the set of one pair met with another is put in the place of what was there
+pub put_narrows : (old new : List (ℕ × RelSet)) (pair : ℕ) (set met : RelSet) → met ≡ both_of (set_at old pair) set →
+    ((k : ℕ) → lookup (nat_eq k) new ≡ cond (nat_eq pair k) (Some met) (lookup (nat_eq k) old)) → Narrows old new pair set
+put_narrows old new pair set met is puts k = ap (λ found. unwrap_or found every_rel) (puts k) ∙ elim (cases_eq k pair) [
+  | inl same ↦
+      ap (λ b. unwrap_or (cond b (Some met) (lookup (nat_eq k) old)) every_rel) (eq-eqb pair k (sym same)) ∙ is ∙
+      sym (ap (λ b. if b then both_of (set_at old pair) set else set_at old k) (eq-eqb k pair same))
+  | inr other ↦
+      ap (λ b. unwrap_or (cond b (Some met) (lookup (nat_eq k) old)) every_rel) (false_from_ne_true (eqb pair k) (λ t. other (sym (eqb-true pair k t)))) ∙
+      sym (ap (λ b. if b then both_of (set_at old pair) set else set_at old k) (false_from_ne_true (eqb k pair) (λ t. other (eqb-true k pair t))))
+]
+
+-- more marks serve as well
+pub more_marks : (sets : List (ℕ × RelSet)) (marks more : List Bool) → ((k : ℕ) → IsTrue (mark_of marks k) → IsTrue (mark_of more k)) → AreMarked sets marks → AreMarked sets more
+more_marks sets marks more stay marked k none = marked k (false_from_ne_true (mark_of marks k) (λ t. true≢false (sym (stay k t) ∙ none)))
 
 kept_push : (flags : List Bool) (arts : List Articulation) (b : Bool) (a : Articulation) → length flags ≡ length arts →
     kept_statements (flags ++ b ∷ []) (arts ++ a ∷ []) ≡ kept_statements flags arts ++ said_if b a
@@ -99,6 +116,16 @@ true_flags arts n flags e f = e ∙ ap (λ m. replicate m true) f ∙ all arts
     all : (arts : List Articulation) → replicate (length arts) true ≡ map (λ _. true) arts
     all [] = refl
     all (a ∷ arts) = ap (λ l. true ∷ l) (all arts)
+
+-- the first state: all is kept, and nothing is narrowed
+pub first_state : (shape : Problem) (flags : List Bool) (sets : List (ℕ × RelSet)) → flags ≡ map (λ _. true) shape.articulations →
+    AreSets shape (kept_statements flags shape.articulations) sets → IsState shape flags sets [] []
+first_state shape flags sets all said = record {
+  flags_counted = ap length all ∙ length-map {B = Bool} shape.articulations (λ _. true);
+  about_pairs = refl;
+  kept_said = said;
+  narrowed_said = record { each = λ k within. refl };
+}
 
 -- a state, by equal parts
 pub same_state : (shape shape' : Problem) (flags flags' : List Bool) (kept kept' : List (ℕ × RelSet)) (narrowings narrowings' : List Constraint) (narrowed narrowed' : List (ℕ × RelSet)) →

@@ -9,7 +9,6 @@ use std::alloc::{AllocError, Global};
 use std::marker::Model;
 
 /// The owners of the concepts, with all pairs in their order, and where the rows of each concept begin.
-#[derive(Drop)]
 pub(crate) struct Numbering {
     owners: Vec<u32>,
     ends: Vec<u32>,
@@ -17,6 +16,20 @@ pub(crate) struct Numbering {
     inside: Vec<u32>,
     numbered: Vec<(u16, u16)>,
     cross: u32,
+}
+
+// Written out, so that letting one go is a call.
+impl Drop for Numbering {
+    fn drop(self) {
+        let Numbering {
+            owners: _,
+            ends: _,
+            crossing: _,
+            inside: _,
+            numbered: _,
+            cross: _,
+        } = self;
+    }
 }
 
 impl Model for Numbering {

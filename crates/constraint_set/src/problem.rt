@@ -1,5 +1,5 @@
 //! Problems, which share what stays the same.
-ghost use Rattle.std.specs.Prelude.{◌≡◌, ◌<◌, ◌≤◌, ℕ, length, map, IfOk, IsTrue, slice_get, slice_index, sum_by};
+ghost use Rattle.std.specs.Prelude.{◌≡◌, ◌<◌, ◌≤◌, ℕ, true, [], length, map, IfOk, IsTrue, slice_get, slice_index, sum_by};
 ghost use Rattle.std.specs.List.{list_all};
 ghost use Rattle.rcc5_core.specs.declared.RelSet.{RelSet};
 ghost use Rattle.world_model.specs.Problem.{concept_count, owner_of, parent_of, children_of, pair_count, cross_pairs, restricted, narrowed, is_articulation};
@@ -8,7 +8,7 @@ ghost use Rattle.world_model.specs.Node.{pair_at};
 ghost use Rattle.constraint_set.specs.Build.{size_of, problem_of};
 ghost use Rattle.constraint_set.specs.Facts.{all_fit, is_said, IsBuilt};
 ghost use Rattle.constraint_set.specs.Readers.{taxonomy_of, name_of, is_sum_at, sum_places, all_sums, rule_at};
-ghost use Rattle.constraint_set.specs.Shape.{SameShape, OneShapeShares};
+ghost use Rattle.constraint_set.specs.Shape.{SameShape, OneShapeShares, with_state};
 
 use crate::limits::{MAX_ARTICULATIONS, MAX_CONCEPTS, MAX_PAIRS, MAX_TAXONOMIES};
 use crate::shape::Shape;
@@ -72,6 +72,13 @@ impl Problem {
         ensures { IfOk result (λ p. p ≡ problem_of (map (λ v. v.items) ids.items) forests.items articulations.items switches) }
     {
         let shape = Shape::new(alloc, ids, &forests, articulations, switches)?;
+        Problem::of_shape(alloc, shape)
+    }
+
+    // The problem of a shape: all articulations are kept, and nothing is narrowed.
+    fn of_shape(alloc: Global, shape: Shape) -> Result<Problem, AllocError>
+        ensures { IfOk result (λ p. p ≡ with_state shape (map (λ _. true) shape.articulations) []) }
+    {
         let kept = Kept::all(alloc, &shape)?;
         Ok(Problem {
             shape: Rc::new(alloc, shape)?,
@@ -283,8 +290,8 @@ impl Problem {
     {
         let kept = Kept::new(alloc, &self.shape, kept)?;
         Ok(Problem {
-            shape: self.shape.clone()?,
             kept: Rc::new(alloc, kept)?,
+            shape: self.shape.clone()?,
             narrowed: self.narrowed.clone()?,
         })
     }

@@ -20,7 +20,6 @@ use world_model::{Articulation, Switches};
 
 /// Taxonomies, concepts, articulations and switches, with the pairs by number and the places of the
 /// sums.
-#[derive(Drop)]
 pub(crate) struct Shape {
     taxonomies: Vec<Vec<u8>>,
     names: Vec<Vec<u8>>,
@@ -30,6 +29,22 @@ pub(crate) struct Shape {
     articulations: Vec<Articulation>,
     sums: Vec<u32>,
     switches: Switches,
+}
+
+// Written out, so that letting one go is a call.
+impl Drop for Shape {
+    fn drop(self) {
+        let Shape {
+            taxonomies: _,
+            names: _,
+            numbering: _,
+            parents: _,
+            children: _,
+            articulations: _,
+            sums: _,
+            switches: _,
+        } = self;
+    }
 }
 
 impl Model for Shape {

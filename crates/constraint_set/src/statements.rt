@@ -35,10 +35,19 @@ const BLOCK: u32 = 8;
 /// For each pair that something is said of, by its number, what all of that has in common.
 ///
 /// Most pairs are asked about often and nothing is said of them: a mark for each block of pairs tells so without a look into the map.
-#[derive(Drop)]
 pub(crate) struct Sets {
     by_pair: HashMap<u32, RelSet>,
     marks: Vec<bool>,
+}
+
+// Written out, so that letting one go is a call.
+impl Drop for Sets {
+    fn drop(self) {
+        let Sets {
+            by_pair: _,
+            marks: _,
+        } = self;
+    }
 }
 
 impl Model for Sets {
