@@ -6,7 +6,7 @@ ghost use Rattle.point_ladder.specs.Bounds.{AreBounds};
 ghost use Rattle.point_ladder.specs.Alone.{IsAliveAlone, AreAliveAlone};
 
 use crate::bounds::{Bounds, bound};
-use crate::ladder::begin;
+use crate::start::begin;
 use bit_rows::Rows;
 use constraint_set::Problem;
 use rcc5_core::RelSet;

@@ -117,11 +117,9 @@ pub(crate) fn put_first(order: &mut Vec<u32>, pair: u32) {
 pub(crate) fn led_by(alloc: Global, pair: u32, order: &[u32]) -> Result<Vec<u32>, AllocError>
     ensures { IfOk result (λ longer. longer.items ≡ pair ∷ order.now) }
 {
-    let mut longer = Vec::with_capacity(alloc, order.len().saturating_add(1))?;
+    let mut longer = Vec::new(alloc);
     longer.push(pair)?;
-    for other in order {
-        longer.push(*other)?;
-    }
+    longer.extend_from_slice(order)?;
     Ok(longer)
 }
 

@@ -69,14 +69,14 @@ pub(crate) fn first_bare(frame: &Rows, left: &[u64], right: &[u64], words: Regio
         return None;
     }
     let mask = frame.row(0);
-    if !is_met(mask, left, right, words, Region::LeftOnly) {
-        return Some(0);
-    }
-    if !is_met(mask, left, right, words, Region::Both) {
-        return Some(1);
-    }
-    if !is_met(mask, left, right, words, Region::RightOnly) {
-        return Some(2);
+    for (number, region) in [
+        (0, Region::LeftOnly),
+        (1, Region::Both),
+        (2, Region::RightOnly),
+    ] {
+        if !is_met(mask, left, right, words, region) {
+            return Some(number);
+        }
     }
     None
 }

@@ -10,19 +10,18 @@ ghost use Rattle.point_table.specs.Table.{AreRowsOf};
 ghost use Rattle.point_ladder.specs.Ladders.{BeginsNone, IsBoundOf, IsAlong, IsPushed};
 ghost use Rattle.point_ladder.specs.Bounds.{bound_to, AreBounds};
 ghost use Rattle.point_ladder.specs.declared.Sight.TheVariants.{Nothing};
-ghost use Rattle.point_ladder.specs.Stretches.{AreNexts};
 
 use crate::Sight;
 use crate::behind::{
     Effort, Ground, is_barren, is_barren_by, led_by, new_effort, put_all_first, put_first,
 };
-use crate::bounds::{Bounds, are_same, bound, narrow_all, no_bounds};
+use crate::bounds::{Bounds, bound, narrow_all};
 use crate::frame::{MOST_COMPARED, first_bare, is_same, leads_on, narrowed};
+use crate::start::{begin, first_line, nexts_of, split_pairs};
 use crate::stretches::{Stretch, cut, in_force};
 use bit_rows::Rows;
 use constraint_set::Problem;
 use lits_core::Bits;
-use point_table::{all_points, allowed_sets, rows_of};
 use rcc5_core::{Rel, RelSet};
 use std::alloc::{AllocError, Global};
 use std::marker::Model;
@@ -62,78 +61,11 @@ impl Model for Ladder {
     ghost invariant = { λ s. IsLadder s.problem (bound_to s.problem s.sets.items s.bounds) s.sets.items s.rows s.line.items s.len s.nexts.items s.stretches.items s.alive };
 }
 
-// The rows of a problem's points, and its pairs before any is narrowed.
-pub(crate) fn begin(
-    alloc: Global,
-    problem: &Problem,
-    most: usize,
-    tries: usize,
-) -> Result<Option<(Rows, Bounds)>, AllocError>
-    ensures rows { IfOk result (λ found. IfSome found (λ both. AreRowsOf problem.now both.0)) }
-    ensures bounds { IfOk result (λ found. IfSome found (λ both. AreBounds problem.now both.1)) }
-    ensures none { IfOk result (λ found. IfSome found (λ both. both.1.count ≡ 0)) }
-{
-    let sets = allowed_sets(alloc, problem)?;
-    let Some(points) = all_points(alloc, problem, &sets, most, tries)? else {
-        return Ok(None);
-    };
-    let rows = rows_of(alloc, &points, problem.concept_count() as usize)?;
-    let bounds = no_bounds(alloc, problem, sets, &rows, points.len())?;
-    Ok(Some((rows, bounds)))
-}
-
 /// Frames with more words than so many for each pair, over all pairs that are to be tried, are too large for a look.
 const MOST_WORDS_A_PAIR: usize = 200;
 
 /// In such frames a search for a world behind a path takes so many steps at the most, since each takes as long as one of the walk.
 const FEW_STEPS: usize = 10;
-
-// The first relation of each set.
-fn first_line(alloc: Global, sets: &[RelSet]) -> Result<Vec<Rel>, AllocError>
-    ensures { IfOk result (λ line. length line.items ≡ length sets.now) }
-{
-    let mut line = Vec::new(alloc);
-    for set in sets {
-        line.push(set.first().unwrap_or(Rel::Equals))?;
-    }
-    Ok(line)
-}
-
-// Whether a set has one relation, and no other.
-fn is_decided(set: RelSet, rel: Rel) -> bool
-    ensures { result ≡ true → set ≡ only rel }
-{
-    are_same(set, RelSet::one(rel))
-}
-
-// For each set the next one that has more than the line's relation, from it on, or the end.
-fn nexts_of(alloc: Global, sets: &[RelSet], line: &[Rel]) -> Result<Vec<u32>, AllocError>
-    requires lined { length line.now ≡ length sets.now }
-    requires few { length sets.now < 4294967296 }
-    ensures { IfOk result (λ nexts. AreNexts sets.now line.now nexts.items) }
-{
-    let mut nexts = Vec::new(alloc);
-    for pair in 0..sets.len() {
-        if !is_decided(sets[pair], line[pair]) {
-            nexts.resize(pair + 1, pair as u32)?;
-        }
-    }
-    nexts.resize(sets.len(), sets.len() as u32)?;
-    Ok(nexts)
-}
-
-// The pairs whose sets are not whole.
-fn split_pairs(alloc: Global, sets: &[RelSet]) -> Result<Vec<u32>, AllocError> {
-    let mut pairs = Vec::new(alloc);
-    let mut pair: u32 = 0;
-    for set in sets {
-        if !set.is_whole() {
-            pairs.push(pair)?;
-        }
-        pair = pair.saturating_add(1);
-    }
-    Ok(pairs)
-}
 
 // What a look for a world comes to, by whether none was shown to be, and points that were found.
 fn sight_of(none: bool, found: Option<Vec<Bits>>) -> Sight

@@ -1,17 +1,22 @@
-//! The frame of a problem itself.
-ghost use Rattle.std.specs.Prelude.{◌≡◌, ℕ, ◌*◌, ◌/◌, ◌<◌, ◌≤◌, ◌↔◌, nat_lt, true, length, IsTrue, IfOk, OnOk};
+//! The start of a ladder: the frame of a problem itself, and a line of relations.
+ghost use Rattle.std.specs.Prelude.{◌≡◌, ℕ, ◌*◌, ◌/◌, ◌<◌, ◌≤◌, ◌↔◌, nat_lt, true, length, IsTrue, IfOk, IfSome, OnOk};
+ghost use Rattle.rcc5_core.specs.RelationSet.{only};
 ghost use Rattle.world_model.specs.Problem.{concept_count, pair_count};
 ghost use Rattle.world_model.specs.Alive.{all_allow, IsAlive};
 ghost use Rattle.world_model.specs.Trial.{points_by_trial};
 ghost use Rattle.bit_rows.specs.Rows.{bit_in};
 ghost use Rattle.point_table.specs.Points.{AreAllowed};
 ghost use Rattle.point_table.specs.Table.{AreRowsOf};
+ghost use Rattle.point_ladder.specs.Bounds.{AreBounds};
+ghost use Rattle.point_ladder.specs.Stretches.{AreNexts};
 ghost use Rattle.point_ladder.specs.Ladders.{AreWithin, IsOwing, PairsMet, ConceptsMet, IsFrame};
 
+use crate::bounds::{Bounds, are_same, no_bounds};
 use crate::frame::{MOST_COMPARED, Sieve, add_need, add_regions, lives, new_sieve};
 use bit_rows::{Cells, Rows};
 use constraint_set::Problem;
-use rcc5_core::{RelSet, forced};
+use point_table::{all_points, allowed_sets, rows_of};
+use rcc5_core::{Rel, RelSet, forced};
 use std::alloc::{AllocError, Global};
 
 // One row with all of so many places.
@@ -142,4 +147,71 @@ pub(crate) fn is_alive(problem: &Problem, sets: &[RelSet], frame: &Rows) -> bool
         return false;
     }
     lives(frame)
+}
+
+// The rows of a problem's points, and its pairs before any is narrowed.
+pub(crate) fn begin(
+    alloc: Global,
+    problem: &Problem,
+    most: usize,
+    tries: usize,
+) -> Result<Option<(Rows, Bounds)>, AllocError>
+    ensures rows { IfOk result (λ found. IfSome found (λ both. AreRowsOf problem.now both.0)) }
+    ensures bounds { IfOk result (λ found. IfSome found (λ both. AreBounds problem.now both.1)) }
+    ensures none { IfOk result (λ found. IfSome found (λ both. both.1.count ≡ 0)) }
+{
+    let sets = allowed_sets(alloc, problem)?;
+    let Some(points) = all_points(alloc, problem, &sets, most, tries)? else {
+        return Ok(None);
+    };
+    let rows = rows_of(alloc, &points, problem.concept_count() as usize)?;
+    let bounds = no_bounds(alloc, problem, sets, &rows, points.len())?;
+    Ok(Some((rows, bounds)))
+}
+
+// The first relation of each set.
+pub(crate) fn first_line(alloc: Global, sets: &[RelSet]) -> Result<Vec<Rel>, AllocError>
+    ensures { IfOk result (λ line. length line.items ≡ length sets.now) }
+{
+    let mut line = Vec::new(alloc);
+    for set in sets {
+        line.push(set.first().unwrap_or(Rel::Equals))?;
+    }
+    Ok(line)
+}
+
+// Whether a set has one relation, and no other.
+fn is_decided(set: RelSet, rel: Rel) -> bool
+    ensures { result ≡ true → set ≡ only rel }
+{
+    are_same(set, RelSet::one(rel))
+}
+
+// For each set the next one that has more than the line's relation, from it on, or the end.
+pub(crate) fn nexts_of(alloc: Global, sets: &[RelSet], line: &[Rel]) -> Result<Vec<u32>, AllocError>
+    requires lined { length line.now ≡ length sets.now }
+    requires few { length sets.now < 4294967296 }
+    ensures { IfOk result (λ nexts. AreNexts sets.now line.now nexts.items) }
+{
+    let mut nexts = Vec::new(alloc);
+    for pair in 0..sets.len() {
+        if !is_decided(sets[pair], line[pair]) {
+            nexts.resize(pair + 1, pair as u32)?;
+        }
+    }
+    nexts.resize(sets.len(), sets.len() as u32)?;
+    Ok(nexts)
+}
+
+// The pairs whose sets are not whole.
+pub(crate) fn split_pairs(alloc: Global, sets: &[RelSet]) -> Result<Vec<u32>, AllocError> {
+    let mut pairs = Vec::new(alloc);
+    let mut pair: u32 = 0;
+    for set in sets {
+        if !set.is_whole() {
+            pairs.push(pair)?;
+        }
+        pair = pair.saturating_add(1);
+    }
+    Ok(pairs)
 }

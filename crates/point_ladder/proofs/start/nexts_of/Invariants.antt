@@ -1,5 +1,5 @@
 use Rattle.point_ladder.proofs.Along.{AreWaiting}
-use Rattle.point_ladder.proofs.ladder.nexts_of.Given as goal
+use Rattle.point_ladder.proofs.start.nexts_of.Given as goal
 
 abbrev pub invariant-loop-pair : goal.invariant-loop-pair
 invariant-loop-pair l = AreWaiting l.sets l.line l.nexts.items l.pair

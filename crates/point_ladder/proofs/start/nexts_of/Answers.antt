@@ -2,8 +2,8 @@ use Rattle.std.proofs.Common.{◌≡◌, ◌+◌, ◌∙◌, length, refl, sym, 
 use Rattle.std.proofs.lemmas.List.{get_or_default}
 use Rattle.rcc5_core.specs.RelationSet.{only, every_rel}
 use Rattle.point_ladder.proofs.Along.{AreWaiting, waits_more, none_waits, nexts_end}
-use Rattle.point_ladder.proofs.ladder.nexts_of.Goals as goal
-use Rattle.point_ladder.proofs.ladder.nexts_of.Goals.{then-not-is_decided+in_ok-resize, else-not-is_decided}
+use Rattle.point_ladder.proofs.start.nexts_of.Goals as goal
+use Rattle.point_ladder.proofs.start.nexts_of.Goals.{then-not-is_decided+in_ok-resize, else-not-is_decided}
 
 pub loop-pair-preserved : goal.loop-pair-preserved
 loop-pair-preserved c =

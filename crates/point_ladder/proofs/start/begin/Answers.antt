@@ -1,7 +1,7 @@
 use Rattle.std.proofs.Common.{◌≡◌, sym, ◌∙◌}
 use Rattle.world_model.specs.Trial.{points_by_trial}
 use Rattle.point_table.proofs.Begins.{full_points}
-use Rattle.point_ladder.proofs.ladder.begin.Goals as goal
+use Rattle.point_ladder.proofs.start.begin.Goals as goal
 
 pub rows_of-requires : goal.rows_of-requires
 rows_of-requires c =
