@@ -1,5 +1,5 @@
 -- The draws one by one, and the blocks that they give.
-use Rattle.std.proofs.Common.{◌≡◌, ◌+◌, ◌%◌, ℕ, zero, suc, [], ◌∷◌, map, length, add-one, refl, sym, ap, ◌∙◌}
+use Rattle.std.proofs.Common.{◌≡◌, ◌+◌, ◌%◌, ℕ, zero, suc, ◌∷◌, map, length, add-one, refl, sym, ap, ◌∙◌}
 use Rattle.std.specs.List.{range_with_len}
 use Rattle.std.proofs.lemmas.List.FromFn.{length-map-range_with_len}
 use Rattle.trial_make.specs.Draws.{next_draw, draw, block_of, blocks_of}

@@ -1,6 +1,7 @@
 //! The problem of a seed and a size.
-ghost use Rattle.std.specs.Prelude.{◌≡◌, ◌<◌, IfOk, length, map, codes, ◌∷◌, []};
+ghost use Rattle.std.specs.Prelude.{◌≡◌, ◌<◌, true, false, IfOk, length, map, codes, ◌∷◌, []};
 ghost use Rattle.constraint_set.specs.Facts.{IsAsRead};
+ghost use Rattle.trial_make.specs.Names.{trees};
 ghost use Rattle.trial_make.specs.Made.{IsSize, problem_from, made};
 ghost use Rattle.trial_make.specs.Plans.{IsPlan};
 
@@ -9,6 +10,7 @@ use crate::sayings::articulations;
 use crate::taxonomy::taxonomy;
 use constraint_set::{Problem, Switches};
 use std::alloc::{AllocError, Global};
+use taxon_tree::Forest;
 
 // The names of the two taxonomies.
 fn two_names(alloc: Global) -> Result<Vec<Vec<u8>>, AllocError>
@@ -19,6 +21,17 @@ fn two_names(alloc: Global) -> Result<Vec<Vec<u8>>, AllocError>
     Ok(vec![in alloc; one, other]?)
 }
 
+// The two taxonomies of some blocks and single concepts.
+fn two_taxonomies(alloc: Global, blocks: &[Block], singles: u32) -> Result<Vec<Forest>, AllocError>
+    requires plan { IsPlan blocks.now }
+    requires few { singles < 3 }
+    ensures { IfOk result (λ forests. forests.items ≡ trees false blocks.now singles ∷ trees true blocks.now singles ∷ []) }
+{
+    let one = taxonomy(alloc, blocks, singles, false)?;
+    let other = taxonomy(alloc, blocks, singles, true)?;
+    Ok(vec![in alloc; one, other]?)
+}
+
 // The problem of some blocks and single concepts, in which all rules hold.
 fn problem_from(alloc: Global, blocks: &[Block], singles: u32) -> Result<Problem, AllocError>
     requires plan { IsPlan blocks.now }
@@ -26,16 +39,15 @@ fn problem_from(alloc: Global, blocks: &[Block], singles: u32) -> Result<Problem
     requires few { singles < 3 }
     ensures { IfOk result (λ p. p ≡ problem_from blocks.now singles) }
 {
+    let forests = two_taxonomies(alloc, blocks, singles)?;
+    let said = articulations(alloc, &forests[0], &forests[1], blocks, singles)?;
     let names = two_names(alloc)?;
-    let one = taxonomy(alloc, blocks, singles, false)?;
-    let other = taxonomy(alloc, blocks, singles, true)?;
-    let said = articulations(alloc, &one, &other, blocks, singles)?;
     let all_on = Switches {
         nonempty: true,
         sibling: true,
         coverage: true,
     };
-    Problem::new(alloc, names, vec![in alloc; one, other]?, said, all_on)
+    Problem::new(alloc, names, forests, said, all_on)
 }
 
 /// The problem of a seed and a size, which is how many concepts it has. All rules hold in it.

@@ -3,7 +3,7 @@ ghost use Rattle.std.specs.Prelude.{◌≡◌, ◌<◌, ◌+◌, ◌∷◌, [], 
 ghost use Rattle.std.specs.Prelude.{true, false};
 ghost use Rattle.rcc5_core.specs.declared.Rel.TheVariants.{Equals};
 ghost use Rattle.rcc5_core.specs.RelationSet.{only};
-ghost use Rattle.trial_make.specs.Names.{trees};
+ghost use Rattle.trial_make.specs.Names.{block_name, left_name, right_name, trees};
 ghost use Rattle.trial_make.specs.Made.{said_of, said_by, articulations};
 ghost use Rattle.trial_make.specs.Plans.{IsPlan, BothHave, BothHaveBlock};
 
@@ -37,6 +37,54 @@ fn equal() -> RelSet
     RelSet::one(Rel::Equals)
 }
 
+// Says something of the whole of the block with a number.
+fn say_of_whole(
+    alloc: Global,
+    said: &mut Vec<Articulation>,
+    one: &Forest,
+    other: &Forest,
+    number: u32,
+    set: RelSet,
+) -> Result<(), AllocError>
+    requires { BothHave one.now other.now (block_name number) }
+    ensures { OnOk result (said.new.items ≡ said.old.items ++ said_of one.now other.now (block_name number) set ∷ []) }
+{
+    let name = block_name(alloc, number)?;
+    say(said, one, other, &name, set)
+}
+
+// Says something of the left child of the block with a number.
+fn say_of_left(
+    alloc: Global,
+    said: &mut Vec<Articulation>,
+    one: &Forest,
+    other: &Forest,
+    number: u32,
+    set: RelSet,
+) -> Result<(), AllocError>
+    requires { BothHave one.now other.now (left_name number) }
+    ensures { OnOk result (said.new.items ≡ said.old.items ++ said_of one.now other.now (left_name number) set ∷ []) }
+{
+    let name = left_name(alloc, number)?;
+    say(said, one, other, &name, set)
+}
+
+// Says something of the right child of the block with a number.
+fn say_of_right(
+    alloc: Global,
+    said: &mut Vec<Articulation>,
+    one: &Forest,
+    other: &Forest,
+    number: u32,
+    set: RelSet,
+) -> Result<(), AllocError>
+    requires { BothHave one.now other.now (right_name number) }
+    ensures { OnOk result (said.new.items ≡ said.old.items ++ said_of one.now other.now (right_name number) set ∷ []) }
+{
+    let name = right_name(alloc, number)?;
+    say(said, one, other, &name, set)
+}
+
 // Says what the form of a block says of it.
 fn say_of_block(
     alloc: Global,
@@ -48,23 +96,22 @@ fn say_of_block(
     requires { BothHaveBlock one.now other.now block.now.number }
     ensures { OnOk result (said.new.items ≡ said.old.items ++ said_by one.now other.now block.now.number block.now.form) }
 {
-    let whole = block_name(alloc, block.number)?;
-    let left = left_name(alloc, block.number)?;
-    let right = right_name(alloc, block.number)?;
+    let number = block.number;
     match block.form {
-        Form::Loose => say(said, one, other, &whole, equal()),
+        Form::Loose => say_of_whole(alloc, said, one, other, number, equal()),
         Form::Children => {
-            say(said, one, other, &left, equal())?;
-            say(said, one, other, &right, equal())
+            say_of_left(alloc, said, one, other, number, equal())?;
+            say_of_right(alloc, said, one, other, number, equal())
         }
         Form::WholeAndLeft => {
-            say(said, one, other, &whole, equal())?;
-            say(said, one, other, &left, equal())
+            say_of_whole(alloc, said, one, other, number, equal())?;
+            say_of_left(alloc, said, one, other, number, equal())
         }
         Form::AllThree => {
-            say(said, one, other, &left, equal().with(Rel::Disjoint))?;
-            say(said, one, other, &right, equal())?;
-            say(said, one, other, &whole, equal())
+            let set = equal().with(Rel::Disjoint);
+            say_of_left(alloc, said, one, other, number, set)?;
+            say_of_right(alloc, said, one, other, number, equal())?;
+            say_of_whole(alloc, said, one, other, number, equal())
         }
     }
 }

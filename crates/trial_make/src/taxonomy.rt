@@ -58,16 +58,14 @@ fn top_row(alloc: Global, blocks: &[Block], singles: u32) -> Result<Vec<Vec<u8>>
 fn block_row(alloc: Global, block: &Block, swaps: bool) -> Result<Vec<Vec<u8>>, AllocError>
     ensures { IfOk result (λ row. map (λ name. name.items) row.items ≡ block_name block.now.number ∷ kids swaps block.now) }
 {
-    let mut row = Vec::new(alloc);
-    row.push(block_name(alloc, block.number)?)?;
+    let whole = block_name(alloc, block.number)?;
+    let left = left_name(alloc, block.number)?;
+    let right = right_name(alloc, block.number)?;
     if swaps && block.is_swapped {
-        row.push(right_name(alloc, block.number)?)?;
-        row.push(left_name(alloc, block.number)?)?;
+        Ok(vec![in alloc; whole, right, left]?)
     } else {
-        row.push(left_name(alloc, block.number)?)?;
-        row.push(right_name(alloc, block.number)?)?;
+        Ok(vec![in alloc; whole, left, right]?)
     }
-    Ok(row)
 }
 
 // Takes a row in. No row of a taxonomy that is made has a fault, so that only memory may be wanting.
@@ -82,6 +80,35 @@ fn put_row(forest: &mut Forest, row: &[Vec<u8>]) -> Result<(), AllocError>
     }
 }
 
+// Takes in the row of the root.
+fn put_top(
+    alloc: Global,
+    forest: &mut Forest,
+    blocks: &[Block],
+    singles: u32,
+) -> Result<(), AllocError>
+    requires { singles < 3 }
+    ensures ok { OnOk result (add_row 1024 forest.old (codes "r" ∷ tops blocks.now singles) ≡ Ok forest.new) }
+    ensures forest { OnOk result (IsForest forest.new) }
+{
+    let row = top_row(alloc, blocks, singles)?;
+    put_row(forest, &row)
+}
+
+// Takes in the row of a block.
+fn put_block(
+    alloc: Global,
+    forest: &mut Forest,
+    block: &Block,
+    swaps: bool,
+) -> Result<(), AllocError>
+    ensures ok { OnOk result (add_row 1024 forest.old (block_name block.now.number ∷ kids swaps block.now) ≡ Ok forest.new) }
+    ensures forest { OnOk result (IsForest forest.new) }
+{
+    let row = block_row(alloc, block, swaps)?;
+    put_row(forest, &row)
+}
+
 /// The taxonomy of some blocks and single concepts, which swaps the children of blocks or doesn't.
 pub(crate) fn taxonomy(
     alloc: Global,
@@ -94,11 +121,9 @@ pub(crate) fn taxonomy(
     ensures { IfOk result (λ forest. forest ≡ trees swaps blocks.now singles) }
 {
     let mut forest = Forest::new(alloc);
-    let first = top_row(alloc, blocks, singles)?;
-    put_row(&mut forest, &first)?;
+    put_top(alloc, &mut forest, blocks, singles)?;
     for block in blocks {
-        let row = block_row(alloc, block, swaps)?;
-        put_row(&mut forest, &row)?;
+        put_block(alloc, &mut forest, block, swaps)?;
     }
     Ok(forest)
 }

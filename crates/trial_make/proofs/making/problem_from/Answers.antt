@@ -1,4 +1,4 @@
-use Rattle.std.proofs.Common.{◌≡◌, ℕ, List, [], ◌∷◌, ◌∙◌, true, false, IfOk, length, map, codes, ap, subst, arith}
+use Rattle.std.proofs.Common.{◌≡◌, ℕ, List, [], ◌∷◌, ◌∙◌, true, false, IfOk, length, map, codes, get_or, ap, subst, arith}
 use Rattle.std.specs.List.{list_all, sum_by}
 use Rattle.std.proofs.lemmas.List.{length-map}
 use Rattle.taxon_tree.specs.Trees.{Trees}
@@ -13,26 +13,21 @@ use Rattle.trial_make.proofs.Fits.{made_fit, made_said, length-articulations}
 use Rattle.trial_make.proofs.Members.{length-trees}
 use Rattle.trial_make.proofs.making.problem_from.Goals as goal
 
--- the forests and what is said of them are those of the blocks
-are_forests : {forests : List Trees} {one other : Trees} (blocks : List Block) (singles : ℕ) → forests ≡ one ∷ other ∷ [] → one ≡ trees false blocks singles
-    → other ≡ trees true blocks singles → forests ≡ trees false blocks singles ∷ trees true blocks singles ∷ []
-are_forests {other = other} blocks singles is one_is other_is =
-    is ∙ ap (λ (t : Trees). t ∷ other ∷ []) one_is ∙ ap (λ (t : Trees). trees false blocks singles ∷ t ∷ []) other_is
-
-are_said : {said : List Articulation} {one other : Trees} (blocks : List Block) (singles : ℕ) → said ≡ articulations one other blocks singles → one ≡ trees false blocks singles
-    → other ≡ trees true blocks singles → said ≡ articulations (trees false blocks singles) (trees true blocks singles) blocks singles
-are_said {other = other} blocks singles is one_is other_is =
+-- what is said of the two forests is said of the taxonomies of the blocks
+are_said : {said : List Articulation} {forests : List Trees} {one other : Trees} (blocks : List Block) (singles : ℕ) → said ≡ articulations one other blocks singles
+    → forests ≡ trees false blocks singles ∷ trees true blocks singles ∷ [] → one ≡ get_or forests 0 one → other ≡ get_or forests 1 other
+    → said ≡ articulations (trees false blocks singles) (trees true blocks singles) blocks singles
+are_said {one = one} {other = other} blocks singles is forests_are first second =
+    let one_is : one ≡ trees false blocks singles = first ∙ ap (λ (forests : List Trees). get_or forests 0 one) forests_are in
+    let other_is : other ≡ trees true blocks singles = second ∙ ap (λ (forests : List Trees). get_or forests 1 other) forests_are in
     is ∙ ap (λ (t : Trees). articulations t other blocks singles) one_is ∙ ap (λ (t : Trees). articulations (trees false blocks singles) t blocks singles) other_is
 
-forests_are : (c : goal.In_ok-vec) → c.in_ok-vec.field-0.items ≡ trees false c.args.blocks.now c.args.singles ∷ trees true c.args.blocks.now c.args.singles ∷ []
-forests_are c = are_forests c.args.blocks.now c.args.singles c.in_ok-vec.ensures.items c.in_ok-one.ensures c.in_ok-other.ensures
-
-said_are : (c : goal.In_ok-vec) → c.in_ok-said.said.items ≡ articulations (trees false c.args.blocks.now c.args.singles) (trees true c.args.blocks.now c.args.singles) c.args.blocks.now c.args.singles
-said_are c = are_said c.args.blocks.now c.args.singles c.in_ok-said.ensures c.in_ok-one.ensures c.in_ok-other.ensures
+said_are : (c : goal.In_ok-names) → c.in_ok-said.said.items ≡ articulations (trees false c.args.blocks.now c.args.singles) (trees true c.args.blocks.now c.args.singles) c.args.blocks.now c.args.singles
+said_are c = are_said c.args.blocks.now c.args.singles c.in_ok-said.ensures c.in_ok-forests.ensures c.index.ensures c.index-2.ensures
 
 pub new-requires-clause-fit : goal.new-requires-clause-fit
 new-requires-clause-fit c =
-    ap (λ (forests : List Trees). all_fit forests c.in_ok-said.said.items all_on) (forests_are c)
+    ap (λ (forests : List Trees). all_fit forests c.in_ok-said.said.items all_on) c.in_ok-forests.ensures
     ∙ ap (λ (list : List Articulation). all_fit (trees false c.args.blocks.now c.args.singles ∷ trees true c.args.blocks.now c.args.singles ∷ []) list all_on) (said_are c)
     ∙ made_fit c.args.blocks.now c.args.singles c.requires.small c.requires.few all_on
 
@@ -51,25 +46,24 @@ new-requires-clause-few c =
 
 pub new-requires-clause-concepts : goal.new-requires-clause-concepts
 new-requires-clause-concepts c =
-    omega (arith, ap (sum_by size_of) (forests_are c), length-trees false c.args.blocks.now c.args.singles, length-trees true c.args.blocks.now c.args.singles, c.requires.small, c.requires.few)
+    omega (arith, ap (sum_by size_of) c.in_ok-forests.ensures, length-trees false c.args.blocks.now c.args.singles, length-trees true c.args.blocks.now c.args.singles, c.requires.small, c.requires.few)
 
 pub new-requires-clause-named : goal.new-requires-clause-named
 new-requires-clause-named c =
-    omega (arith, ap length c.in_ok-names.ensures, length-map c.in_ok-names.names.items (λ name. name.items), ap length (forests_are c))
+    omega (arith, ap length c.in_ok-names.ensures, length-map c.in_ok-names.names.items (λ name. name.items), ap length c.in_ok-forests.ensures)
 
 pub new-requires-clause-two : goal.new-requires-clause-two
-new-requires-clause-two c = omega (arith, ap length (forests_are c))
+new-requires-clause-two c = omega (arith, ap length c.in_ok-forests.ensures)
 
 pub new-requires-clause-eight : goal.new-requires-clause-eight
-new-requires-clause-eight c = omega (arith, ap length (forests_are c))
+new-requires-clause-eight c = omega (arith, ap length c.in_ok-forests.ensures)
 
 pub returns : goal.returns
 returns c =
     let blocks = c.args.blocks.now in
     let singles = c.args.singles in
-    let same : problem_of (map (λ name. name.items) c.in_ok-names.names.items) c.in_ok-vec.field-0.items c.in_ok-said.said.items all_on ≡ problem_from blocks singles =
-    ap (λ (ids : List (List ℕ)). problem_of ids c.in_ok-vec.field-0.items c.in_ok-said.said.items all_on) c.in_ok-names.ensures
-    ∙ ap (λ (forests : List Trees). problem_of (codes "1" ∷ codes "2" ∷ []) forests c.in_ok-said.said.items all_on) (are_forests blocks singles c.in_ok-vec.ensures.items c.in_ok-one.ensures c.in_ok-other.ensures)
-    ∙ ap (λ (list : List Articulation). problem_of (codes "1" ∷ codes "2" ∷ []) (trees false blocks singles ∷ trees true blocks singles ∷ []) list all_on)
-    (are_said blocks singles c.in_ok-said.ensures c.in_ok-one.ensures c.in_ok-other.ensures) in
+    let same : problem_of (map (λ name. name.items) c.in_ok-names.names.items) c.in_ok-forests.forests.items c.in_ok-said.said.items all_on ≡ problem_from blocks singles =
+    ap (λ (ids : List (List ℕ)). problem_of ids c.in_ok-forests.forests.items c.in_ok-said.said.items all_on) c.in_ok-names.ensures
+    ∙ ap (λ (forests : List Trees). problem_of (codes "1" ∷ codes "2" ∷ []) forests c.in_ok-said.said.items all_on) c.in_ok-forests.ensures
+    ∙ ap (λ (list : List Articulation). problem_of (codes "1" ∷ codes "2" ∷ []) (trees false blocks singles ∷ trees true blocks singles ∷ []) list all_on) (are_said blocks singles c.in_ok-said.ensures c.in_ok-forests.ensures c.index.ensures c.index-2.ensures) in
     subst (λ (q : Problem). IfOk c.new.result (λ p. p ≡ q)) same c.new.ensures

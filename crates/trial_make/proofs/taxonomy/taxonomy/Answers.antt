@@ -1,4 +1,4 @@
-use Rattle.std.proofs.Common.{take, ◌≡◌, ◌∷◌, ◌∙◌, Ok, map, ap, codes, sym, arith}
+use Rattle.std.proofs.Common.{take, ◌≡◌, ◌∷◌, ◌∙◌, Ok, ap, codes, sym, arith}
 use Rattle.std.proofs.lemmas.List.{take_all}
 use Rattle.taxon_tree.specs.Row.{add_row}
 use Rattle.taxon_tree.specs.Trees.{Trees, no_trees}
@@ -8,22 +8,17 @@ use Rattle.trial_make.proofs.taxonomy.taxonomy.Goals as goal
 
 pub loop-block-init : goal.loop-block-init
 loop-block-init c =
-    let row = ap (map (λ name. name.items)) c.deref.ensures.value ∙ c.in_ok-first.ensures in
-    let made : add_row 1024 c.new-forest.result (codes "r" ∷ tops c.args.blocks.now c.args.singles) ≡ Ok c.put_row.new.forest =
-    ap (add_row 1024 c.new-forest.result) (sym row) ∙ c.in_ok-put_row.ensures.ok in
-    let from : add_row 1024 no_trees (codes "r" ∷ tops c.args.blocks.now c.args.singles) ≡ Ok c.put_row.new.forest =
-    ap (λ (f : Trees). add_row 1024 f (codes "r" ∷ tops c.args.blocks.now c.args.singles)) (sym c.new-forest.ensures) ∙ made in
-    let first = first_row c.args.swaps c.args.blocks.now c.args.singles c.put_row.new.forest from in
-    record { grown = first.0; root = first.1; forest = c.in_ok-put_row.ensures.forest }
+    let from : add_row 1024 no_trees (codes "r" ∷ tops c.args.blocks.now c.args.singles) ≡ Ok c.put_top.new.forest =
+    ap (λ (f : Trees). add_row 1024 f (codes "r" ∷ tops c.args.blocks.now c.args.singles)) (sym c.new-forest.ensures) ∙ c.in_ok-put_top.ensures.ok in
+    let first = first_row c.args.swaps c.args.blocks.now c.args.singles c.put_top.new.forest from in
+    record { grown = first.0; root = first.1; forest = c.in_ok-put_top.ensures.forest }
 
 pub loop-block-preserved : goal.loop-block-preserved
 loop-block-preserved c =
     let blocks = c.args.blocks.now in
-    let row = ap (map (λ name. name.items)) c.deref-in-loop-block.ensures.value ∙ c.in_ok-row.ensures in
-    let made = ap (add_row 1024 c.loop-block.forest) (sym row) ∙ c.in_ok-put_row-2.ensures.ok in
-    let next = block_row-grown c.args.swaps blocks c.args.singles c.loop-block.block-index _ c.loop-block.forest c.put_row-in-loop-block.new.forest
-    c.requires.plan c.loop-block-test.true c.loop-block.invariant.grown c.loop-block.invariant.root c.loop-block.invariant.forest made in
-    record { grown = next.0; root = next.1; forest = c.in_ok-put_row-2.ensures.forest }
+    let next = block_row-grown c.args.swaps blocks c.args.singles c.loop-block.block-index _ c.loop-block.forest c.put_block.new.forest
+    c.requires.plan c.loop-block-test.true c.loop-block.invariant.grown c.loop-block.invariant.root c.loop-block.invariant.forest c.in_ok-put_block.ensures.ok in
+    record { grown = next.0; root = next.1; forest = c.in_ok-put_block.ensures.forest }
 
 pub returns : goal.returns
 returns c =
