@@ -1,9 +1,10 @@
 //! The parts of a solver.
-ghost use Rattle.std.specs.Prelude.{◌≡◌, ◌+◌, ◌≤◌, ℕ, true, false, [], length, slice_index_or, IfOk, OnOk, OnErr, Contains};
+ghost use Rattle.std.specs.Prelude.{◌≡◌, ◌+◌, ◌<◌, ◌≤◌, ℕ, true, false, [], length, slice_index_or, IfOk, OnOk, OnErr, Contains};
+ghost use Rattle.std.specs.Vec.{vec_len, vec_capacity};
 ghost use Rattle.lits_core.specs.Literals.{variable_of, is_negative};
 ghost use Rattle.lits_core.specs.Derivation.{first_state};
 ghost use Rattle.clause_arena.specs.Records.{record_at};
-ghost use Rattle.watch_arena.specs.Trails.{IsTrail, AreInRange};
+ghost use Rattle.watch_arena.specs.Trails.{IsTrail, AreInRange, Adds};
 ghost use Rattle.conflict_clause.specs.Taught.{IsTaught};
 
 use crate::order::Order;
@@ -62,9 +63,9 @@ impl Learner {
         ensures empty { IfOk result (λ l. seen l ≡ record { variables = variables; state = first_state []; waiting = []; idle = [] }) }
     {
         Ok(Learner {
-            order: Order::new(alloc, variables)?,
-            analyzer: Analyzer::new(alloc, variables)?,
             trail: Trail::new(alloc, variables)?,
+            analyzer: Analyzer::new(alloc, variables)?,
+            order: Order::new(alloc, variables)?,
             variables,
             given: 0,
             last: 0,
@@ -175,11 +176,30 @@ impl Learner {
         ensures line { IfOk result (λ at. AddsLine (seen self.old) (seen self.new) lits hints (record_at self.new.trail.records at).id) }
         ensures err { OnErr result (seen self.new ≡ seen self.old) }
     {
+        let at = self.keep(lits.lits())?;
+        self.waiting.push_reserved(Line::Derive {
+            id: self.last,
+            lits,
+            hints,
+        });
+        Ok(at)
+    }
+
+    // One record more, under the next id, and room for its line.
+    fn keep(&mut self, lits: &[Lit]) -> Result<Ref, AllocError>
+        requires { AreInRange lits.now self.old.trail.variables }
+        ensures same { KeepsRest self.old self.new }
+        ensures waiting { self.new.waiting.items ≡ self.old.waiting.items }
+        ensures room { OnOk result (vec_len self.new.waiting < vec_capacity self.new.waiting) }
+        ensures last { OnOk result (self.new.last ≡ self.old.last + 1) }
+        ensures at { IfOk result (λ at. at ≡ length self.old.trail.records) }
+        ensures adds { OnOk result (Adds self.old.trail self.new.trail lits.now self.new.last) }
+        ensures err { OnErr result ((self.new.trail ≡ self.old.trail) × (self.new.last ≡ self.old.last)) }
+    {
         let id = next_id(self.last)?;
         self.waiting.reserve(1)?;
-        let at = self.trail.add(lits.lits(), id)?;
+        let at = self.trail.add(lits, id)?;
         self.last = id;
-        self.waiting.push_reserved(Line::Derive { id, lits, hints });
         Ok(at)
     }
 }

@@ -44,8 +44,8 @@ impl Learner {
         ensures line { IfOk result (AddsLine (seen self.old) (seen self.new) lits.now hints.now) }
         ensures err { OnErr result (seen self.new ≡ seen self.old) }
     {
-        let clause = Clause::from_lits(self.alloc, lits)?;
         let ids = Ids::new(Vec::from_slice(self.alloc, hints)?);
+        let clause = Clause::from_lits(self.alloc, lits)?;
         let at = self.note(clause, ids)?;
         Ok(self.trail.arena().id_of(at))
     }

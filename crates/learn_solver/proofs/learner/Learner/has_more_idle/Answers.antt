@@ -1,6 +1,5 @@
-use Rattle.std.proofs.Common.{◌≡◌, ◌∙◌, ◌-◌, ◌≤◌, ℕ, length, ap, arith}
+use Rattle.std.proofs.Common.{◌≡◌, ◌∙◌, length, ap, arith}
 use Rattle.std.proofs.lemmas.Bool.Decides.{nat_tests}
-use Rattle.learn_solver.specs.States.{idle_of}
 use Rattle.learn_solver.proofs.Idle.{few_idle}
 use Rattle.learn_solver.proofs.learner.Learner.has_more_idle.Goals as goal
 

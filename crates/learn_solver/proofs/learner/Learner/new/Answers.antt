@@ -28,11 +28,11 @@ first-seen t variables lines e h = rw (e, h) refl
 
 pub returns-clause-sound : goal.returns-clause-sound
 returns-clause-sound c =
-    let e = c.in_ok-new-3.ensures in
+    let e = c.in_ok-new.ensures in
     record {
       variables = ap (λ (t : TrailState). t.variables) (sym e);
       analyzer = c.in_ok-new-2.ensures ∙ ap (λ (t : TrailState). t.variables) (sym e);
-      order = ap length c.in_ok-new.ensures ∙ length-replicate c.args.variables false ∙ ap (λ (t : TrailState). t.variables) (sym e);
+      order = ap length c.in_ok-new-3.ensures ∙ length-replicate c.args.variables false ∙ ap (λ (t : TrailState). t.variables) (sym e);
       records = subst (λ (t : TrailState). AreRecords t.records 0) (sym e) none-sound;
       last = λ at lt. absurd (let size = ap (λ (t : TrailState). length t.records) e in omega arith);
       noted = λ at lit lt. absurd (omega arith);
@@ -40,4 +40,4 @@ returns-clause-sound c =
     }
 
 pub returns-clause-empty : goal.returns-clause-empty
-returns-clause-empty c = first-seen c.in_ok-new-3.field-0 c.args.variables c.new-4.result.items c.in_ok-new-3.ensures c.new-4.ensures.items
+returns-clause-empty c = first-seen c.in_ok-new.field-0 c.args.variables c.new-4.result.items c.in_ok-new.ensures c.new-4.ensures.items
