@@ -1,10 +1,22 @@
 -- The text of a line, piece by piece.
-use Rattle.std.proofs.Common.{◌≡◌, ℕ, ◌^◌, ◌<◌, ◌≤◌, List, ◌∷◌, ◌++◌, append_assoc, length, get_or, codes, decimal, All, sym, ap, ◌∙◌, arith}
+use Rattle.std.proofs.Common.{◌≡◌, ℕ, ◌+◌, ◌^◌, ◌<◌, ◌≤◌, List, ◌∷◌, ◌++◌, append_assoc, length, get_or, drop, codes, decimal, All, sym, ap, ◌∙◌, arith, add-one, drop-cons}
 use Rattle.std.proofs.lemmas.List.{get_or_default}
 use Rattle.lits_core.specs.declared.Line.TheVariants.{Derive, Forget}
 use Rattle.proof_text.specs.Words.{parted}
 use Rattle.proof_text.specs.Lines.{literal_text, list_words, line_text, IsId}
 use Rattle.proof_text.proofs.WordLemmas.{joined-parted, parted-append}
+
+-- one word more of a list is put, and the words to come are one fewer
+pub word_put : (word : ℕ → List ℕ) (items before after all : List ℕ) (k : ℕ) → k < length items → before ++ parted 32 (list_words word (drop k items)) ≡ all →
+    after ≡ before ++ 32 ∷ word (get_or items k 0) → after ++ parted 32 (list_words word (drop (k + 1) items)) ≡ all
+word_put word items before after all k within so_far is =
+    let x = get_or items k 0 in
+    let to_come = parted 32 (list_words word (drop (k + 1) items)) in
+    let more : drop k items ≡ x ∷ drop (k + 1) items = rw add-one (drop-cons items k 0 within) in
+    ap (λ t. t ++ to_come) is
+    ∙ append_assoc before (32 ∷ word x) to_come
+    ∙ sym (ap (λ rest. before ++ parted 32 (list_words word rest)) more)
+    ∙ so_far
 
 -- a derive line in its four pieces
 pub derive_text : (id : ℕ) (lits hints kind first front text : List ℕ) → kind ≡ codes "d" → first ≡ kind ++ 32 ∷ decimal id →

@@ -9,3 +9,15 @@ returns c = record {
   ids = (omega arith, all_below (2 ^ 64) c.args.hints.now (λ k h. omega (arith, c.type_inv.hints k)));
   literals = c.in_ok-put_literals.ensures.small;
 }
+
+pub returns-in_err-out-clause-ids : goal.returns-in_err-out-clause-ids
+returns-in_err-out-clause-ids c = (omega arith, all_below (2 ^ 64) c.args.hints.now (λ k h. omega (arith, c.type_inv.hints k)))
+
+pub returns-in_err-put_id-clause-ids : goal.returns-in_err-put_id-clause-ids
+returns-in_err-put_id-clause-ids c = (omega arith, all_below (2 ^ 64) c.args.hints.now (λ k h. omega (arith, c.type_inv.hints k)))
+
+pub returns-in_err-put_literals-clause-ids : goal.returns-in_err-put_literals-clause-ids
+returns-in_err-put_literals-clause-ids c = (omega arith, all_below (2 ^ 64) c.args.hints.now (λ k h. omega (arith, c.type_inv.hints k)))
+
+pub returns-in_err-put_ids-clause-ids : goal.returns-in_err-put_ids-clause-ids
+returns-in_err-put_ids-clause-ids c = (omega arith, all_below (2 ^ 64) c.args.hints.now (λ k h. omega (arith, c.type_inv.hints k)))
