@@ -179,3 +179,7 @@ IsLearnt-ended t level start n lits hints back trail is some lt s f lower a hint
       up_to = a.up_to;
       below = below-top t a.others back t.level a.second some (λ lit c. subst (λ (k : ℕ). level_in t.places lit < k) is (kept lit c).below);
     }
+
+-- the literal behind the first one, in literals that are the arranged ones
+pub second-arranged : (t : TrailState) (first : ℕ) (old new lits : List ℕ) (back : ℕ) → IsArranged t first old new back → lits ≡ new → MatchOption (slice_get lits 1) (back ≡ 0) (λ (lit : ℕ). level_in t.places lit ≡ back)
+second-arranged t first old new lits back arranged same = subst (λ (xs : List ℕ). MatchOption (slice_get xs 1) (back ≡ 0) (λ (lit : ℕ). level_in t.places lit ≡ back)) (sym (same ∙ arranged.split)) arranged.second

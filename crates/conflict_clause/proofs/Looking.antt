@@ -1,17 +1,18 @@
 -- What meeting literals keeps.
-use Rattle.std.proofs.Common.{◌≡◌, ◌≢◌, ◌∙◌, ◌⊎◌, ℕ, ◌<◌, ◌≤◌, Bool, true, false, List, [], ◌∷◌, ◌++◌, length, get_or, set, min, Some, sym, ap, subst, arith, inl, inr}
+use Rattle.std.proofs.Common.{◌≡◌, ◌≢◌, ◌∙◌, ◌⊎◌, ℕ, ◌<◌, ◌≤◌, Bool, true, false, true≢false, List, [], ◌∷◌, ◌++◌, length, get_or, set, min, Some, sym, ap, subst, arith, inl, inr}
 use Rattle.std.specs.List.{All, Contains}
 use Rattle.std.proofs.lemmas.Bool.{cases_Bool, cases_eq, cases_lt}
-use Rattle.std.proofs.lemmas.List.{get_or-set_other}
-use Rattle.std.proofs.lemmas.List.Elements.{Contains-append_left, Contains-push}
+use Rattle.std.proofs.lemmas.List.{get_or-set_other, get_or-set_same}
+use Rattle.std.proofs.lemmas.List.Elements.{Contains-append_left, Contains-push, Contains-push_cases}
 use Rattle.lits_core.specs.Literals.{negation_of, variable_of}
 use Rattle.lits_core.proofs.LiteralLemmas.{variable_of-negation, negation-negation}
 use Rattle.clause_arena.specs.Records.{Record, record_at}
+use Rattle.watch_arena.specs.declared.places.Place.{Place}
 use Rattle.watch_arena.specs.Places.{place_at, is_false}
 use Rattle.watch_arena.specs.Trails.{TrailState, IsTrail}
 use Rattle.conflict_clause.specs.declared.notes.Notes.{Notes}
-use Rattle.conflict_clause.specs.Search.{IsNoted, IsClear, IsLooking, Meets, is_met}
-use Rattle.conflict_clause.proofs.AtPlaces.{place-once, false_below, false_from}
+use Rattle.conflict_clause.specs.Search.{IsNoted, IsClear, IsLooking, IsLower, Meets, is_met}
+use Rattle.conflict_clause.proofs.AtPlaces.{place-once, false_below, false_from, level_in-place}
 
 -- the same variables are noted
 pub IsNoted-same : (old new : Notes) (a b : ℕ) → IsNoted old a → new.marks ≡ old.marks → new.met.items ≡ old.met.items → a ≡ b → IsNoted new b
@@ -24,6 +25,23 @@ IsNoted-same old new a b n marks met same = record {
 -- where one variable more was met, a place of another one was met before
 other_met : (marks : List Bool) (v w : ℕ) → w ≢ v → get_or (set marks v true) w false ≡ true → get_or marks w false ≡ true
 other_met marks v w ne h = sym (get_or-set_other marks v w true false ne) ∙ h
+
+-- a variable that was marked is met, and those that were met before are so still
+pub is_met-marked : (old new : Notes) (v : ℕ) → new.marks ≡ set old.marks v true → v < length old.marks → is_met new v ≡ true
+is_met-marked old new v is lt = ap (λ (bs : List Bool). get_or bs v false) is ∙ get_or-set_same old.marks v true false lt
+
+still_met : (old new : Notes) (v w : ℕ) → new.marks ≡ set old.marks v true → v < length old.marks → is_met old w ≡ true → is_met new w ≡ true
+still_met old new v w is lt met = elim (cases_eq w v) [
+  | inl same ↦ subst (λ (u : ℕ). is_met new u ≡ true) (sym same) (is_met-marked old new v is lt)
+  | inr other ↦ ap (λ (bs : List Bool). get_or bs w false) is ∙ get_or-set_other old.marks v w true false other ∙ met
+]
+
+-- a literal that is met or false, and was not met, is false
+pub false_unmet : (places : List Place) (n : Notes) (lit : ℕ) → (is_met n (variable_of lit) ≡ true) ⊎ (is_false places lit ≡ true) → is_met n (variable_of lit) ≡ false → is_false places lit ≡ true
+false_unmet places n lit either unmet = elim either [
+  | inl met ↦ absurd (true≢false (sym met ∙ unmet))
+  | inr off ↦ off
+]
 
 -- a literal was met and is kept
 pub IsLooking-kept : (t : TrailState) (level : ℕ) (old new : Notes) (lit q : ℕ) → IsTrail t → IsLooking t level old → IsNoted new t.variables → new.marks ≡ set old.marks (variable_of lit) true → new.lits.items ≡ old.lits.items ++ lit ∷ [] → new.lowest ≡ old.lowest → q < length t.places → (place_at t.places q).lit ≡ negation_of lit → IsLooking t level new
@@ -65,6 +83,27 @@ IsLooking-lowered t level old new lit q trail l noted marks lits lowest lt is hi
         let now : new.lowest ≡ q = omega arith in
         subst (λ (n : ℕ). level ≤ (place_at t.places n).level) (sym now) high
   ];
+}
+
+-- a literal of a lower level was met and is kept
+pub Meets-kept : (t : TrailState) (level : ℕ) (old new : Notes) (lit q : ℕ) → IsTrail t → new.marks ≡ set old.marks (variable_of lit) true → variable_of lit < length old.marks → new.lits.items ≡ old.lits.items ++ lit ∷ [] → new.lowest ≡ old.lowest → is_false t.places lit ≡ true → q < length t.places → (place_at t.places q).lit ≡ negation_of lit → (place_at t.places q).level < level → Meets t level old new
+Meets-kept t level old new lit q trail marks lt lits lowest off within is low = record {
+  marks = λ w met. still_met old new (variable_of lit) w marks lt met;
+  kept = λ other c. subst (λ (xs : List ℕ). Contains xs other) (sym lits) (Contains-append_left old.lits.items (lit ∷ []) other c);
+  added = λ other c. elim (Contains-push_cases old.lits.items lit other (subst (λ (xs : List ℕ). Contains xs other) lits c)) [
+    | inl before ↦ inl before
+    | inr same ↦ inr (let at = level_in-place t q lit trail within is in subst (λ (x : ℕ). IsLower t level x) same (record { off = off; below = omega arith }))
+  ];
+  lowest = omega arith;
+}
+
+-- a literal was met, and its place is to be looked at
+pub Meets-lowered : (t : TrailState) (level : ℕ) (old new : Notes) (lit q : ℕ) → new.marks ≡ set old.marks (variable_of lit) true → variable_of lit < length old.marks → new.lits.items ≡ old.lits.items → new.lowest ≡ min old.lowest q → Meets t level old new
+Meets-lowered t level old new lit q marks lt lits lowest = record {
+  marks = λ w met. still_met old new (variable_of lit) w marks lt met;
+  kept = λ other c. subst (λ (xs : List ℕ). Contains xs other) (sym lits) c;
+  added = λ other c. inl (subst (λ (xs : List ℕ). Contains xs other) lits c);
+  lowest = omega arith;
 }
 
 -- meeting goes on

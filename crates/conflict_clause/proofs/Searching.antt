@@ -139,3 +139,13 @@ Finds-kept t level p old new lt assumed lowest lits = record {
   ];
   lowest = omega arith;
 }
+
+-- what meeting literals finds
+pub Finds-met : (t : TrailState) (level p : ℕ) (old new : Notes) → Meets t level old new → Finds t level p old new
+Finds-met t level p old new meets = record {
+  added = λ lit c. elim (meets.added lit c) [
+    | inl before ↦ inl before
+    | inr lower ↦ inr (inl lower)
+  ];
+  lowest = meets.lowest;
+}

@@ -233,8 +233,8 @@ impl Notes {
         ensures lits { IfOk result (λ closing. closing.lits ≡ self.now.lits.items) }
         ensures hints { IfOk result (λ closing. closing.hints ≡ reverse self.now.hints.items) }
     {
-        let lits = Clause::from_lits(alloc, &self.lits)?;
         let hints = in_order(alloc, &self.hints)?;
+        let lits = Clause::from_lits(alloc, &self.lits)?;
         Ok(Closing { lits, hints })
     }
 
@@ -316,8 +316,7 @@ impl Notes {
         self.start(trail, at, level)?;
         self.walk(trail, trail.place_count(), 1, level)?;
         let back = self.arrange(trail)?;
-        let lits = Clause::from_lits(alloc, &self.lits)?;
-        let hints = in_order(alloc, &self.hints)?;
+        let Closing { lits, hints } = self.closing(alloc)?;
         Ok(Learnt { lits, hints, back })
     }
 }

@@ -1,9 +1,9 @@
-use Rattle.std.proofs.Common.{◌≡◌, ◌∙◌, ℕ, List, true, length, sym, ap, subst, arith, inl, inr, get_or, below_more}
+use Rattle.std.proofs.Common.{◌≡◌, ◌∙◌, ℕ, List, true, length, sym, ap, subst, arith, inl, inr, get_or, below_more, refl}
 use Rattle.lits_core.specs.Literals.{variable_of}
 use Rattle.clause_arena.specs.Records.{Record, record_at}
 use Rattle.watch_arena.proofs.Watching.{contains_at, index_of}
 use Rattle.conflict_clause.specs.Search.{is_met}
-use Rattle.conflict_clause.proofs.Looking.{Meets-trans, literal}
+use Rattle.conflict_clause.proofs.Looking.{Meets-refl, Meets-trans, literal}
 use Rattle.conflict_clause.proofs.notes.Notes.meet_all.Goals as goal
 
 pub meet-requires-clause-range : goal.meet-requires-clause-range
@@ -24,6 +24,14 @@ meet-requires-clause-off c =
       | inr off ↦ inr off
     ]
 
+pub loop-k-init : goal.loop-k-init
+loop-k-init c = record {
+  looking = c.requires.looking;
+  meets = Meets-refl c.args.trail.now c.args.level c.args.self.now;
+  met = λ j lt. absurd (omega arith);
+  hints = refl;
+}
+
 pub loop-k-preserved : goal.loop-k-preserved
 loop-k-preserved c =
     let P : ℕ → Type 0 = λ j. is_met c.meet.new.self (variable_of (get_or (record_at c.args.trail.now.records c.args.at).lits j 0)) ≡ true in
@@ -43,3 +51,18 @@ returns-clause-met c lit has =
     let size = c.len_of-k-end.ensures in
     let same = ap (λ (rs : List Record). length (record_at rs c.args.at).lits) c.arena-arena.ensures in
     subst (λ (x : ℕ). is_met c.loop-k.self (variable_of x) ≡ true) entry.2 (c.loop-k.invariant.met entry.0 (omega arith))
+
+pub returns-in_err-meet-clause-noted : goal.returns-in_err-meet-clause-noted
+returns-in_err-meet-clause-noted c = c.meet.ensures.noted
+
+pub returns-in_err-meet-clause-hints : goal.returns-in_err-meet-clause-hints
+returns-in_err-meet-clause-hints c = c.meet.ensures.hints ∙ c.loop-k.invariant.hints
+
+pub returns-clause-noted : goal.returns-clause-noted
+returns-clause-noted c = c.loop-k.invariant.looking.noted
+
+pub returns-clause-looking : goal.returns-clause-looking
+returns-clause-looking c = c.loop-k.invariant.looking
+
+pub returns-clause-meets : goal.returns-clause-meets
+returns-clause-meets c = c.loop-k.invariant.meets

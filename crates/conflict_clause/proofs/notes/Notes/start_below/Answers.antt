@@ -1,11 +1,11 @@
-use Rattle.std.proofs.Common.{◌≡◌, ◌∙◌, ℕ, ◌<◌, Bool, true, false, List, length, ◌∷◌, ◌++◌, [], set, sym, ap, subst, inl, inr, get_or, arith}
+use Rattle.std.proofs.Common.{◌≡◌, ◌∙◌, ℕ, ◌<◌, Bool, true, false, List, length, ◌∷◌, ◌++◌, [], set, refl, sym, ap, subst, inl, inr, get_or, arith}
 use Rattle.std.specs.List.{Contains}
 use Rattle.std.proofs.lemmas.List.{get_or-set_same}
 use Rattle.std.proofs.lemmas.List.Elements.{Contains-push, Contains-push_cases}
 use Rattle.lits_core.specs.Literals.{variable_of}
 use Rattle.clause_arena.specs.Records.{record_at}
 use Rattle.watch_arena.specs.Places.{place_at}
-use Rattle.conflict_clause.proofs.Looking.{reason-off}
+use Rattle.conflict_clause.proofs.Looking.{IsNoted-same, reason-off}
 use Rattle.conflict_clause.proofs.Endings.{IsSearch-below, none_in}
 use Rattle.conflict_clause.proofs.notes.Notes.start_below.Goals as goal
 
@@ -42,3 +42,17 @@ returns-clause-only c lit has =
           ∙ c.lit_on-lit.ensures
       | inr lower ↦ let none = lower.below in absurd (omega arith)
     ]
+
+pub returns-in_err-enter-clause-noted : goal.returns-in_err-enter-clause-noted
+returns-in_err-enter-clause-noted c =
+    IsNoted-same c.enter.new.self _ _ _ c.enter.ensures.noted refl refl (ap length c.begin.ensures.marks ∙ c.requires.clear.size)
+
+pub returns-in_err-push-clause-noted : goal.returns-in_err-push-clause-noted
+returns-in_err-push-clause-noted c =
+    IsNoted-same c.enter.new.self _ _ _ c.enter.ensures.noted refl refl (ap length c.begin.ensures.marks ∙ c.requires.clear.size)
+
+pub returns-in_err-apply-clause-noted : goal.returns-in_err-apply-clause-noted
+returns-in_err-apply-clause-noted c = c.apply.ensures.noted
+
+pub returns-clause-noted : goal.returns-clause-noted
+returns-clause-noted c = c.apply.ensures.noted
