@@ -372,14 +372,16 @@ impl Engine {
         ensures empty { IfOk result (λ e. IsEmpty e variables) }
     {
         let count = variables as usize;
+
+        // What takes memory is made first, so that little has to be let go where there is none.
         Ok(Engine {
-            arena: Arena::new(alloc),
-            chains: Chains::new(alloc, 2 * count)?,
-            shorts: Shorts::new(alloc),
             marks: Column::new(alloc, 2 * count)?,
-            places: Places::new(alloc, count)?,
             heads: Column::new(alloc, count)?,
             firsts: Column::new(alloc, count)?,
+            places: Places::new(alloc, count)?,
+            chains: Chains::new(alloc, 2 * count)?,
+            arena: Arena::new(alloc),
+            shorts: Shorts::new(alloc),
             head: 0,
             first: 0,
             variables: count,

@@ -1,7 +1,9 @@
-use Rattle.std.proofs.Common.{◌≡◌, ◌<◌, ◌*◌, List, ℕ, length, get_or, Some, sym, ap, arith, length-set}
+use Rattle.std.proofs.Common.{◌≡◌, ◌∙◌, ◌<◌, ◌*◌, List, ℕ, length, get_or, Some, sym, ap, subst, arith, length-set}
 use Rattle.std.specs.List.{Contains}
 use Rattle.lits_core.proofs.LiteralLemmas.{negation-below}
+use Rattle.clause_arena.specs.Records.{Record}
 use Rattle.watch_arena.specs.declared.engine.Engine.{Engine}
+use Rattle.watch_arena.specs.Engines.{IsSound}
 use Rattle.watch_arena.proofs.Watching.{contains_at}
 use Rattle.watch_arena.proofs.Adding.{Added}
 use Rattle.watch_arena.proofs.engine.Engine.add_watched.Goals as goal
@@ -48,3 +50,23 @@ returns-clause-ok c =
 pub returns-clause-sound : goal.returns-clause-sound
 returns-clause-sound c =
     (Added c.args.self.now c.lower.new.self c.put.new.self c.put_front.new.self c.put_front-2.new.self c.args.codes.now c.args.id c.from_code-first.result c.from_code-second.result c.in_ok-at.at c.false_since.result c.false_since-2.result c.min-since.result c.requires.sound c.requires.range c.requires.two c.requires.differ c.from_code-first.ensures c.from_code-second.ensures c.false_since.ensures c.false_since-2.ensures c.min-since.ensures c.lower.ensures.sound c.lower.ensures.lowered c.lower.ensures.same c.in_ok-at.ensures.at c.in_ok-at.ensures.ok c.put_front.ensures c.put_front-2.ensures).sound
+
+pub returns-clause-places : goal.returns-clause-places
+returns-clause-places c = record {
+  places = ap (λ (e : Engine). e.places.list) c.put_front-2.ensures ∙ ap (λ (e : Engine). e.places.list) c.put_front.ensures ∙ ap (λ (e : Engine). e.places.list) c.lower.ensures.same;
+  variables = ap (λ (e : Engine). e.variables) c.put_front-2.ensures ∙ ap (λ (e : Engine). e.variables) c.put_front.ensures ∙ ap (λ (e : Engine). e.variables) c.lower.ensures.same;
+  moves = ap (λ (e : Engine). e.moves) c.put_front-2.ensures ∙ ap (λ (e : Engine). e.moves) c.put_front.ensures ∙ ap (λ (e : Engine). e.moves) c.lower.ensures.same;
+}
+
+pub returns-clause-at : goal.returns-clause-at
+returns-clause-at c = c.in_ok-at.ensures.at ∙ ap (λ (e : Engine). length e.arena) c.lower.ensures.same
+
+pub returns-in_err-at-clause-sound : goal.returns-in_err-at-clause-sound
+returns-in_err-at-clause-sound c = subst (λ (rs : List Record). IsSound (record c.lower.new.self { arena = rs })) (sym c.in_err-at.ensures.err) c.lower.ensures.sound
+
+pub returns-in_err-at-clause-places : goal.returns-in_err-at-clause-places
+returns-in_err-at-clause-places c = record {
+  places = ap (λ (e : Engine). e.places.list) c.lower.ensures.same;
+  variables = ap (λ (e : Engine). e.variables) c.lower.ensures.same;
+  moves = ap (λ (e : Engine). e.moves) c.lower.ensures.same;
+}

@@ -1,4 +1,4 @@
-use Rattle.std.proofs.Common.{◌∙◌, ℕ, List, length, Option, Some, None, sym, subst, ap, arith, rules}
+use Rattle.std.proofs.Common.{◌∙◌, ℕ, List, length, Option, Some, None, refl, sym, subst, ap, arith, rules}
 use Rattle.std.specs.Prelude.{IfSome}
 use Rattle.clause_arena.specs.declared.place.Link.{Link}
 use Rattle.clause_arena.specs.Records.{Record, record_at}
@@ -46,3 +46,24 @@ put_front-requires-clause-entry c =
     let here = IsEntry-exchanged c.lead_past.new.self.arena c.args.entry c.args.k c.args.lit both.0 in
     let there = subst (λ (rs : List Record). IsEntry rs (fresh c.lead_past.new.self.arena c.args.entry.at c.args.k) c.args.entry) (sym c.swap_lits.ensures) here in
     subst (λ (n : ℕ). IsEntry c.swap_lits.new.self n c.args.entry) (both.1 ∙ sym c.lit_at-fresh.ensures) there
+
+pub lit_at-fresh-requires-clause-of_the_list : goal.lit_at-fresh-requires-clause-of_the_list
+lit_at-fresh-requires-clause-of_the_list c =
+    (IsEntry-at c.args.self.now c.args.lit c.args.prev.now c.args.entry c.requires.sound c.requires.range (IsAt-walking c.args.self.now c.args.lit c.args.prev.now c.args.entry c.requires.walking)).within
+
+pub lit_at-fresh-requires-clause-in_range : goal.lit_at-fresh-requires-clause-in_range
+lit_at-fresh-requires-clause-in_range c = c.requires.fresh.within
+
+pub link-next-requires-clause-of_the_list : goal.link-next-requires-clause-of_the_list
+link-next-requires-clause-of_the_list c =
+    (IsEntry-at c.args.self.now c.args.lit c.args.prev.now c.args.entry c.requires.sound c.requires.range (IsAt-walking c.args.self.now c.args.lit c.args.prev.now c.args.entry c.requires.walking)).within
+
+pub lead_past-requires-clause-range : goal.lead_past-requires-clause-range
+lead_past-requires-clause-range c = let lists = c.requires.sound.lists in let range = c.requires.range in omega arith
+
+pub swap_lits-requires-clause-of_the_list : goal.swap_lits-requires-clause-of_the_list
+swap_lits-requires-clause-of_the_list c =
+    (IsExchange-past c.args.self.now c.args.lit c.args.k c.args.prev.now c.args.entry c.link-next.result c.lead_past.new.self.arena c.requires.sound c.requires.range (IsAt-walking c.args.self.now c.args.lit c.args.prev.now c.args.entry c.requires.walking) c.requires.fresh c.link-next.ensures (ap (λ (e : Engine). e.arena) c.lead_past.ensures)).0.entry.within
+
+pub returns : goal.returns
+returns c = rw (c.put_front.ensures, c.swap_lits.ensures, c.lead_past.ensures, c.link-next.ensures, c.lit_at-fresh.ensures) refl
