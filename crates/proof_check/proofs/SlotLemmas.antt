@@ -1,6 +1,6 @@
 -- Slots by their places.
 use Rattle.std.proofs.Common.{◌≡◌, ℕ, zero, suc, true, eqb, List, [], ◌∷◌, ◌++◌, Option, Some, None, refl, sym, ap, ◌∙◌, length, get_or, set, ◌<◌, ◌≤◌, arith}
-use Rattle.std.specs.Prelude.{is_none, is_ok, if◌then◌else◌, Result, Ok}
+use Rattle.std.specs.Prelude.{is_none}
 use Rattle.std.proofs.lemmas.Bool.{and_from, eq-eqb, ne_eqb, cond-true, cond-false}
 use Rattle.lits_core.specs.Derivation.{derived_clause, distinct_ids, without_id}
 use Rattle.proof_check.specs.Slots.{filled, entry_at, id_of}
@@ -107,7 +107,3 @@ distinct-filled (Some entry ∷ slots) h =
     and_from _ _
     (ap is_none (absent-none slots entry.0 (λ place e. let at : zero ≡ suc place = h entry.0 zero (suc place) refl e in cc)))
     (distinct-filled slots (λ id place other a b. let is : suc place ≡ suc other = h id (suc place) (suc other) a b in cc))
-
--- what a push that does not fail leaves
-pub pushed : {S T E : Type 0} (result : Result T E) (ok : T) (new reserved old : List S) (slot : S) → new ≡ (if is_ok result then reserved ++ slot ∷ [] else reserved) → result ≡ Ok ok → reserved ≡ old → new ≡ old ++ slot ∷ []
-pushed {S} {T} {E} result ok new reserved old slot e o r = e ∙ cond-true (is_ok result) _ _ (ap is_ok o) ∙ ap (λ (xs : List S). xs ++ slot ∷ []) r

@@ -58,7 +58,7 @@ impl Entries {
         let place = self.slots.len();
         self.slots.reserve(1)?;
         self.places.insert(id, place)?;
-        self.slots.push(Some((id, lits))).unwrap();
+        self.slots.push_reserved(Some((id, lits)));
         Ok(())
     }
 

@@ -1,19 +1,19 @@
-use Rattle.std.proofs.Common.{◌≡◌, ℕ, List, ◌++◌, ◌∷◌, [], Some, None, ap, ◌∙◌, length, cond, is_eq, nat_cmp, arith}
+use Rattle.std.proofs.Common.{◌≡◌, ℕ, List, ◌++◌, ◌∷◌, [], Option, Some, None, ap, ◌∙◌, length, cond, is_eq, nat_cmp, arith}
 use Rattle.std.specs.BTreeMap.{get}
 use Rattle.lits_core.specs.Derivation.{derived_clause}
 use Rattle.proof_check.specs.Slots.{filled}
 use Rattle.proof_check.proofs.PlaceLemmas.{places-push}
-use Rattle.proof_check.proofs.SlotLemmas.{filled-push, pushed}
+use Rattle.proof_check.proofs.SlotLemmas.{filled-push}
 use Rattle.proof_check.proofs.entries.Entries.push.Goals as goal
 
 pub invariant_of-self-2 : goal.invariant_of-self-2
 invariant_of-self-2 c =
-    let all = pushed c.push.result c.unwrap.result c.push.new.self.items c.reserve.new.self.items c.self.inside.slots.items (Some (c.args.id, c.args.lits)) c.push.ensures.items c.unwrap.ensures c.reserve.ensures.items in
+    let all = c.push_reserved.ensures.items ∙ ap (λ (slots : List (Option (ℕ × List ℕ))). slots ++ Some (c.args.id, c.args.lits) ∷ []) c.reserve.ensures.items in
     let free : derived_clause (filled c.self.inside.slots.items) c.args.id ≡ None = rw c.self.view_is c.requires in
     let place : c.len-place.result ≡ length c.self.inside.slots.items = omega (arith, c.self.inside.slots.ok.0) in
     rw all (places-push c.self.inside.slots.items c.self.inside.places c.insert.new.self c.args.id c.args.lits c.self.invariant free (λ q. c.in_ok-insert.ensures.updates.0 q ∙ ap (λ (n : ℕ). cond (is_eq (nat_cmp c.args.id q)) (Some n) (get nat_cmp c.self.inside.places q)) place))
 
 pub returns-clause-ok : goal.returns-clause-ok
 returns-clause-ok c =
-    let all = pushed c.push.result c.unwrap.result c.push.new.self.items c.reserve.new.self.items c.self.inside.slots.items (Some (c.args.id, c.args.lits)) c.push.ensures.items c.unwrap.ensures c.reserve.ensures.items in
+    let all = c.push_reserved.ensures.items ∙ ap (λ (slots : List (Option (ℕ × List ℕ))). slots ++ Some (c.args.id, c.args.lits) ∷ []) c.reserve.ensures.items in
     ap filled all ∙ filled-push c.self.inside.slots.items (c.args.id, c.args.lits) ∙ ap (λ (es : List (ℕ × List ℕ)). es ++ (c.args.id, c.args.lits) ∷ []) c.self.view_is
