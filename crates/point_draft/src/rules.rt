@@ -98,23 +98,33 @@ fn put_in(rows: &mut Vec<Row>, row: u32, place: u32, on: bool) {
 impl Rules {
     // Those of a problem, at the empty path.
     pub(crate) fn new(alloc: Global, problem: &Problem) -> Result<Rules, AllocError> {
-        let count = problem.concept_count() as usize;
-        let mut rules = Rules {
+        let mut rules = Rules::none(alloc, problem.concept_count() as usize)?;
+        rules.add_problem(alloc, problem)?;
+        Ok(rules)
+    }
+
+    // None, of so many concepts.
+    fn none(alloc: Global, count: usize) -> Result<Rules, AllocError> {
+        Ok(Rules {
             above: empty_rows(alloc, count)?,
             below: empty_rows(alloc, count)?,
             apart: empty_rows(alloc, count)?,
-            covers: Vec::new(alloc),
             covers_of: no_numbers(alloc, count)?,
+            covers: Vec::new(alloc),
             added: Vec::new(alloc),
             marks: Vec::new(alloc),
-        };
-        rules.add_trees(alloc, problem)?;
-        rules.add_sums(alloc, problem)?;
+        })
+    }
+
+    // Writes down what a problem says at the empty path.
+    fn add_problem(&mut self, alloc: Global, problem: &Problem) -> Result<(), AllocError> {
+        self.add_trees(alloc, problem)?;
+        self.add_sums(alloc, problem)?;
         for pair in 0..problem.pair_count() {
-            rules.add_regions(problem, pair, forced(problem.allowed(pair)))?;
+            self.add_regions(problem, pair, forced(problem.allowed(pair)))?;
         }
-        rules.added.clear();
-        Ok(rules)
+        self.added.clear();
+        Ok(())
     }
 
     // Whether it is known that the first of two concepts lies in the second, or that they have nothing in common.

@@ -225,6 +225,18 @@ impl Story {
             Why::Step(number) => self.tell_step(terms, mark.concept, number),
         }
     }
+
+    // The same of a clash, and of each mark that it rests on, the last one first.
+    fn tell_all(&mut self, terms: &Terms, clash: Mark) -> Result<(), AllocError> {
+        self.tell(terms, clash)?;
+        self.rests.set(clash.concept as usize);
+        for mark in terms.board.marks.iter().rev() {
+            if self.rests.has(mark.concept) {
+                self.tell(terms, *mark)?;
+            }
+        }
+        Ok(())
+    }
 }
 
 // The place of a concept among some.
@@ -245,13 +257,7 @@ pub(crate) fn step_of(alloc: Global, terms: &Terms, clash: Mark) -> Result<Step,
         lits: Vec::new(alloc),
         hints: Vec::new(alloc),
     };
-    story.tell(terms, clash)?;
-    story.rests.set(clash.concept as usize);
-    for mark in terms.board.marks.iter().rev() {
-        if story.rests.has(mark.concept) {
-            story.tell(terms, *mark)?;
-        }
-    }
+    story.tell_all(terms, clash)?;
     let Story {
         lits,
         mut hints,
