@@ -1,4 +1,13 @@
+use Rattle.std.proofs.Common.{◌<◌, List, length, sym, subst}
+use Rattle.clause_arena.specs.Records.{Record}
+use Rattle.watch_arena.proofs.Watching.{live_within}
 use Rattle.conflict_clause.proofs.notes.Notes.apply.Goals as goal
+
+pub id_of-requires : goal.id_of-requires
+id_of-requires c = subst (λ (rs : List Record). c.args.at < length rs) (sym c.arena.ensures) (live_within c.args.trail.now.records c.args.at c.requires.live)
+
+pub returns-clause-hints : goal.returns-clause-hints
+returns-clause-hints c = cc (c.in_ok-push.ensures.items, c.meet_all.ensures.hints, c.id_of.ensures, c.arena.ensures)
 
 -- what is said of the variables and of the literals is said whatever the hints
 

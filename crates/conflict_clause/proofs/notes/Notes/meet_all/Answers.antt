@@ -1,7 +1,7 @@
-use Rattle.std.proofs.Common.{◌≡◌, ◌∙◌, ℕ, List, true, length, sym, ap, subst, arith, inl, inr, get_or, below_more, refl}
+use Rattle.std.proofs.Common.{◌≡◌, ◌∙◌, ◌<◌, ℕ, List, true, length, sym, ap, subst, arith, inl, inr, get_or, below_more, refl}
 use Rattle.lits_core.specs.Literals.{variable_of}
 use Rattle.clause_arena.specs.Records.{Record, record_at}
-use Rattle.watch_arena.proofs.Watching.{contains_at, index_of}
+use Rattle.watch_arena.proofs.Watching.{contains_at, index_of, live_within}
 use Rattle.conflict_clause.specs.Search.{is_met}
 use Rattle.conflict_clause.proofs.Looking.{Meets-refl, Meets-trans, literal}
 use Rattle.conflict_clause.proofs.notes.Notes.meet_all.Goals as goal
@@ -66,3 +66,12 @@ returns-clause-looking c = c.loop-k.invariant.looking
 
 pub returns-clause-meets : goal.returns-clause-meets
 returns-clause-meets c = c.loop-k.invariant.meets
+
+pub len_of-k-end-requires : goal.len_of-k-end-requires
+len_of-k-end-requires c = subst (λ (rs : List Record). c.args.at < length rs) (sym c.arena-arena.ensures) (live_within c.args.trail.now.records c.args.at c.requires.live)
+
+pub lit_at-requires-clause-of_the_list : goal.lit_at-requires-clause-of_the_list
+lit_at-requires-clause-of_the_list c = subst (λ (rs : List Record). c.args.at < length rs) (sym c.arena-arena.ensures) (live_within c.args.trail.now.records c.args.at c.requires.live)
+
+pub lit_at-requires-clause-in_range : goal.lit_at-requires-clause-in_range
+lit_at-requires-clause-in_range c = let lt = c.loop-k-test.true in let size = c.len_of-k-end.ensures in omega arith
