@@ -5,7 +5,7 @@ ghost use Rattle.std.specs.Prelude.{◌≡◌, ◌<◌, [], length, map, slice_i
 use std::marker::Model;
 
 /// Classes, each as the list of its concepts.
-#[derive(Debug, Drop)]
+#[derive(Drop)]
 pub struct Classes {
     lists: Vec<Vec<u32>>,
 }
@@ -41,7 +41,7 @@ impl Classes {
 }
 
 /// Pairs of numbers, in order.
-#[derive(Debug, Drop)]
+#[derive(Drop)]
 pub struct NumberPairs {
     list: Vec<(u32, u32)>,
 }
@@ -69,7 +69,7 @@ impl NumberPairs {
 }
 
 /// What a table makes of all taxonomies together.
-#[derive(Debug, Drop)]
+#[derive(Drop)]
 pub struct MergedTaxonomy {
     /// Concepts that are equal, ascending; the classes by their leaders. A class's number is its place and 1.
     pub classes: Classes,
