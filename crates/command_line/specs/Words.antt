@@ -276,16 +276,21 @@ request_for command.Conflict operands = Conflict (unwrap_or (value_of operands I
 request_for command.Report operands = Report (unwrap_or (value_of operands In) []) (kinds_of operands) (switches_of operands)
 request_for command.Trial operands = Trial (seed_in operands) (size_in operands)
 
+-- the request of a command with operands, or what is wrong with them together
+abbrev pub request_from : Command → List Operand → Result Request UsageKind
+request_from c operands =
+    fail_if (is_lacking (row_of c) operands) MissingKey (
+    fail_if (lacks_token operands) BudgetWithoutToken (
+    fail_if (has_same_name operands) SameName (
+    Ok (request_for c operands))))
+
 -- what words ask for, or their first fault, by the names of the watchers
 abbrev pub request_of : List (List ℕ) → List (List ℕ) → Result Request UsageKind
 request_of watchers [] = Err NoCommand
 request_of watchers (word ∷ words) =
     need (command_named word) UnknownCommand (λ c.
     and_then (operands_of watchers (row_of c) [] words) (λ operands.
-    fail_if (is_lacking (row_of c) operands) MissingKey (
-    fail_if (lacks_token operands) BudgetWithoutToken (
-    fail_if (has_same_name operands) SameName (
-    Ok (request_for c operands))))))
+    request_from c operands))
 
 -- a fact of the fault of the words that is answered
 abbrev pub IfUsage : {X : Type 0} → Result X WordsFault → (UsageKind → Type 0) → Type 0

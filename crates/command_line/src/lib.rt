@@ -7,18 +7,20 @@ ghost use Rattle.command_line.specs.Words.{usage_name};
 
 mod help;
 mod kinds;
+mod requests;
 mod table;
 mod words;
 
 pub use help::{fault_place, usage_help};
 use std::alloc::{AllocError, AllocFailed};
+use std::fmt;
 use std::marker::Model;
 use thiserror::Error;
 pub use words::read_words;
 use world_model::Switches;
 
 /// A word, seen as the list of its bytes.
-#[derive(Debug, Drop)]
+#[derive(Drop)]
 pub struct Word {
     text: String,
 }
@@ -46,7 +48,7 @@ impl Word {
 }
 
 /// A list of words, seen as the list of their bytes.
-#[derive(Debug, Drop)]
+#[derive(Drop)]
 pub struct WordList {
     list: Vec<Word>,
 }
@@ -74,7 +76,7 @@ impl WordList {
 }
 
 /// What the words ask for.
-#[derive(Debug, Drop)]
+#[derive(Drop)]
 pub enum Request {
     /// List the possible worlds of the problem in a file.
     Align {
@@ -124,35 +126,21 @@ pub enum Request {
 }
 
 /// What is wrong with the words.
-#[derive(Clone, Copy, Debug, PartialEq, Eq, Error)]
+#[derive(Clone, Copy, Debug, PartialEq, Eq)]
 pub enum UsageKind {
-    #[error("there is no command")]
     NoCommand,
-    #[error("the first word is no command")]
     UnknownCommand,
-    #[error("a word is not KEY=VALUE")]
     NotOperand,
-    #[error("the command has no such key")]
     UnknownKey,
-    #[error("a key is given twice")]
     KeyTwice,
-    #[error("a switch is neither on nor off")]
     BadSwitch,
-    #[error("a number is none, or has more than 64 bits, or a size is not even or not from 14 to 256")]
     BadNumber,
-    #[error("a limit is 0")]
     ZeroBudget,
-    #[error("a file name is empty")]
     EmptyName,
-    #[error("there is no report of this kind")]
     UnknownKind,
-    #[error("a kind of report is given twice")]
     KindTwice,
-    #[error("a required key is missing")]
     MissingKey,
-    #[error("a limit is given, but no file for the token")]
     BudgetWithoutToken,
-    #[error("two keys name the same file")]
     SameName,
 }
 
@@ -178,7 +166,37 @@ impl UsageKind {
             UsageKind::SameName => "SameName",
         }
     }
+
+    // What is wrong, in words for people.
+    fn words(self) -> &'static str {
+        match self {
+            UsageKind::NoCommand => "there is no command",
+            UsageKind::UnknownCommand => "the first word is no command",
+            UsageKind::NotOperand => "a word is not KEY=VALUE",
+            UsageKind::UnknownKey => "the command has no such key",
+            UsageKind::KeyTwice => "a key is given twice",
+            UsageKind::BadSwitch => "a switch is neither on nor off",
+            UsageKind::BadNumber =>
+                "a number is none, or has more than 64 bits, or a size is not even or not from 14 to 256",
+            UsageKind::ZeroBudget => "a limit is 0",
+            UsageKind::EmptyName => "a file name is empty",
+            UsageKind::UnknownKind => "there is no report of this kind",
+            UsageKind::KindTwice => "a kind of report is given twice",
+            UsageKind::MissingKey => "a required key is missing",
+            UsageKind::BudgetWithoutToken => "a limit is given, but no file for the token",
+            UsageKind::SameName => "two keys name the same file",
+        }
+    }
 }
+
+// Written out, since `thiserror` would write a call of the formatter for each kind, which takes far longer to prove than one.
+impl fmt::Display for UsageKind {
+    fn fmt<W: fmt::Write>(&self, f: &mut fmt::Formatter<W>) -> fmt::Result {
+        f.write_str(self.words())
+    }
+}
+
+impl std::error::Error for UsageKind {}
 
 /// Why words gave no request.
 #[derive(Clone, Copy, Debug, PartialEq, Eq, Error)]
@@ -206,7 +224,7 @@ impl<T: Drop> From<AllocFailed<T>> for WordsFault {
 }
 
 /// A command of the command line.
-#[derive(Clone, Copy, Debug, PartialEq, Eq)]
+#[derive(Clone, Copy)]
 pub enum Command {
     Align,
     Check,
@@ -217,7 +235,7 @@ pub enum Command {
 }
 
 /// What a key's value is.
-#[derive(Clone, Copy, Debug, PartialEq, Eq)]
+#[derive(Clone, Copy)]
 pub enum KeyKind {
     FileName,
     OnOff,
@@ -231,7 +249,7 @@ pub enum KeyKind {
 }
 
 /// A key of the command line.
-#[derive(Clone, Copy, Debug, PartialEq, Eq)]
+#[derive(Clone, Copy)]
 pub enum Key {
     In,
     Cert,
@@ -248,7 +266,7 @@ pub enum Key {
 }
 
 /// A key with its value.
-#[derive(Debug, Drop)]
+#[derive(Drop)]
 pub struct Operand {
     pub key: Key,
     pub value: Word,

@@ -2,13 +2,13 @@
 ghost use Rattle.std.specs.Prelude.{◌≡◌, ◌<◌, ◌≤◌, not, length, [], Ok, Err, IfOk, IfSome, IfNone, map, find, bytes_eq, string_bytes, unwrap_or};
 ghost use Rattle.std.specs.List.{list_any};
 ghost use Rattle.std.specs.Option.{option_copied};
-ghost use Rattle.command_line.specs.Words.{row_of, key_name, same_key, command_named, is_equals, cut_word, key_among, key_in, is_switch, number_of, limit_fault, number_fault, size_of, size_fault, kinds_of, seed_in, size_in, limit_of, lacks_token, share_value, has_same_name, value_fault, is_given, operand_of, operands_of, value_of, is_on, switches_of, is_lacking, request_for, request_of, IfUsage};
+ghost use Rattle.command_line.specs.Words.{row_of, key_name, same_key, command_named, is_equals, cut_word, key_among, key_in, is_switch, number_of, limit_fault, number_fault, size_of, size_fault, limit_of, lacks_token, share_value, has_same_name, value_fault, is_given, operand_of, operands_of, value_of, is_lacking, request_from, request_of, IfUsage};
 
 use crate::kinds::{names_fault, split_names};
-use crate::{Command, Key, KeyKind, Operand, Request, UsageKind, Word, WordList, WordsFault};
+use crate::requests::make_request;
+use crate::{Command, Key, KeyKind, Operand, Request, UsageKind, Word, WordsFault};
 use proof_text::read_number;
 use std::alloc::{AllocError, Global};
-use world_model::Switches;
 use world_watch::WorldWatcher;
 
 impl Command {
@@ -79,8 +79,8 @@ fn number_of(word: &str) -> Option<u64>
     read_number(word.as_bytes(), 0, u64::MAX)
 }
 
-// The size that a word is.
-fn size_of(word: &str) -> Option<u64>
+/// The size that a word is.
+pub(crate) fn size_of(word: &str) -> Option<u64>
     ensures value { result ≡ size_of word.now }
     ensures within { IfSome result (λ size. size ≤ 256) }
 {
@@ -144,7 +144,8 @@ fn is_given(operands: &[Operand], key: Key) -> bool
     operands.iter().any(|operand| operand.key.is(key))
 }
 
-fn value_of(operands: &[Operand], key: Key) -> Option<&str>
+/// The value of a key, if it is given.
+pub(crate) fn value_of(operands: &[Operand], key: Key) -> Option<&str>
     ensures { option_copied result ≡ value_of operands.now key }
 {
     operands
@@ -153,30 +154,11 @@ fn value_of(operands: &[Operand], key: Key) -> Option<&str>
         .map(|operand| operand.value.text())
 }
 
-fn is_on(operands: &[Operand], key: Key) -> bool
-    ensures { result ≡ is_on (value_of operands.now key) }
-{
-    match value_of(operands, key) {
-        None => true,
-        Some(value) => value == "on",
-    }
-}
-
-// The number of a key, if it is given.
-fn limit_of(operands: &[Operand], key: Key) -> Option<u64>
+/// The number of a key, if it is given.
+pub(crate) fn limit_of(operands: &[Operand], key: Key) -> Option<u64>
     ensures { result ≡ limit_of operands.now key }
 {
     number_of(value_of(operands, key)?)
-}
-
-// A name of its own for the value of a key, if it is given.
-fn name_of(alloc: Global, operands: &[Operand], key: Key) -> Result<Option<Word>, AllocError>
-    ensures { IfOk result (λ name. name ≡ value_of operands.now key) }
-{
-    match value_of(operands, key) {
-        None => Ok(None),
-        Some(value) => Ok(Some(Word::new(String::from_str(alloc, value)?))),
-    }
 }
 
 // Whether a limit is given, but no token.
@@ -258,92 +240,25 @@ fn read_operands(
     Ok(operands)
 }
 
-// The value of a key that has to be given.
-fn required_name(alloc: Global, operands: &[Operand], key: Key) -> Result<Word, AllocError>
-    ensures { IfOk result (λ name. name ≡ unwrap_or (value_of operands.now key) []) }
-{
-    let name = value_of(operands, key).unwrap_or("");
-    Ok(Word::new(String::from_str(alloc, name)?))
-}
-
-fn switches_of(operands: &[Operand]) -> Switches
-    ensures { result ≡ switches_of operands.now }
-{
-    Switches {
-        nonempty: is_on(operands, Key::Nonempty),
-        sibling: is_on(operands, Key::Sibling),
-        coverage: is_on(operands, Key::Coverage),
-    }
-}
-
-// The names of watchers that are given.
-fn kinds_of(alloc: Global, operands: &[Operand]) -> Result<WordList, AllocError>
-    ensures { IfOk result (λ kinds. kinds ≡ kinds_of operands.now) }
-{
-    let value = value_of(operands, Key::Kinds).unwrap_or("");
-    Ok(WordList::new(split_names(alloc, value)?))
-}
-
-fn seed_in(operands: &[Operand]) -> u64
-    ensures { result ≡ seed_in operands.now }
-{
-    limit_of(operands, Key::Seed).unwrap_or(0)
-}
-
-fn size_in(operands: &[Operand]) -> u32
-    ensures { result ≡ size_in operands.now }
-{
-    let Some(value) = value_of(operands, Key::Size) else {
-        return 0;
-    };
-    match size_of(value) {
-        None => 0,
-        Some(size) => size as u32,
-    }
-}
-
-fn make_request(
+// The request of a command with these operands, or what is wrong with them together.
+fn request_from(
     alloc: Global,
     command: Command,
     operands: &[Operand],
-) -> Result<Request, AllocError>
-    ensures { IfOk result (λ request. request ≡ request_for command operands.now) }
+) -> Result<Request, WordsFault>
+    ensures request { IfOk result (λ request. request_from command operands.now ≡ Ok request) }
+    ensures usage { IfUsage result (λ kind. request_from command operands.now ≡ Err kind) }
 {
-    match command {
-        Command::Align => Ok(Request::Align {
-            input: required_name(alloc, operands, Key::In)?,
-            cert: name_of(alloc, operands, Key::Cert)?,
-            switches: switches_of(operands),
-            nodes: limit_of(operands, Key::Nodes),
-            worlds: limit_of(operands, Key::Worlds),
-            token: name_of(alloc, operands, Key::Token)?,
-            resume: name_of(alloc, operands, Key::Resume)?,
-        }),
-        Command::Check => Ok(Request::Check {
-            input: required_name(alloc, operands, Key::In)?,
-            cert: required_name(alloc, operands, Key::Cert)?,
-            switches: switches_of(operands),
-        }),
-        Command::Mir => Ok(Request::Mir {
-            input: required_name(alloc, operands, Key::In)?,
-            cert: name_of(alloc, operands, Key::Cert)?,
-            switches: switches_of(operands),
-        }),
-        Command::Conflict => Ok(Request::Conflict {
-            input: required_name(alloc, operands, Key::In)?,
-            cert: name_of(alloc, operands, Key::Cert)?,
-            switches: switches_of(operands),
-        }),
-        Command::Report => Ok(Request::Report {
-            input: required_name(alloc, operands, Key::In)?,
-            kinds: kinds_of(alloc, operands)?,
-            switches: switches_of(operands),
-        }),
-        Command::Trial => Ok(Request::Trial {
-            seed: seed_in(operands),
-            size: size_in(operands),
-        }),
+    if command.is_lacking(operands) {
+        return Err(WordsFault::Usage(UsageKind::MissingKey));
     }
+    if lacks_token(operands) {
+        return Err(WordsFault::Usage(UsageKind::BudgetWithoutToken));
+    }
+    if has_same_name(operands) {
+        return Err(WordsFault::Usage(UsageKind::SameName));
+    }
+    Ok(make_request(alloc, command, operands)?)
 }
 
 /// What the words after the program's name ask for, or the first of their faults.
@@ -362,14 +277,5 @@ pub fn read_words(
         return Err(WordsFault::Usage(UsageKind::UnknownCommand));
     };
     let operands = read_operands(alloc, watchers, command, further)?;
-    if command.is_lacking(&operands) {
-        return Err(WordsFault::Usage(UsageKind::MissingKey));
-    }
-    if lacks_token(&operands) {
-        return Err(WordsFault::Usage(UsageKind::BudgetWithoutToken));
-    }
-    if has_same_name(&operands) {
-        return Err(WordsFault::Usage(UsageKind::SameName));
-    }
-    Ok(make_request(alloc, command, &operands)?)
+    request_from(alloc, command, &operands)
 }
