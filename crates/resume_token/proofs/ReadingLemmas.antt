@@ -15,6 +15,7 @@ use Rattle.proof_text.specs.Numbers.{number_in}
 use Rattle.proof_text.proofs.WordLemmas.{words_of-joined, joined-clean}
 use Rattle.proof_text.proofs.NumberLemmas.{number_in-decimal, decimal-no_byte}
 use Rattle.resume_token.specs.Contents.{Contents, is_digest, is_digest_byte, contents_of_words, contents_of_lines, contents_of}
+use Rattle.resume_token.specs.Printing.{words_behind}
 use Rattle.resume_token.specs.Token.{digest_of, position_word, token_text, contents_result, token_result}
 use Rattle.resume_token.proofs.PositionLemmas.{IsShortWord, position_in-word, position_word-short}
 use Rattle.resume_token.proofs.DigestLemmas.{encoded-is_digest, digits-clean}
@@ -119,8 +120,11 @@ reads_back p q built number within =
     ap (contents_result p) (text_contents _ _ (digest_of p) (position_word q) counts (encoded-is_digest _) (position_word-short q (omega arith)))
     ∙ contents_position p q within
 
--- pieces put one behind the other are a token
-pub token_is : (a b c d e f g h i n k digest word : List ℕ) → a ≡ codes "token 2 " → b ≡ a ++ n → c ≡ b ++ 32 ∷ [] → d ≡ c ++ k → e ≡ d ++ 32 ∷ [] →
-    f ≡ e ++ digest → g ≡ f ++ 32 ∷ [] → h ≡ g ++ word → i ≡ h ++ 10 ∷ [] →
-    i ≡ join_with_byte 32 (codes "token" ∷ codes "2" ∷ n ∷ k ∷ digest ∷ word ∷ []) ++ 10 ∷ []
-token_is a b c d e f g h i n k digest word ea eb ec ed ee ef eg eh ei = rw (ei, eh, eg, ef, ee, ed, ec, eb, ea) (simp append_assoc)
+printed_joined : (n k digest word : List ℕ) → codes "token 2 " ++ n ++ codes " " ++ k ++ codes " " ++ digest ++ codes " " ++ word ++ codes "\n"
+    ≡ join_with_byte 32 (codes "token" ∷ codes "2" ∷ n ∷ k ∷ digest ∷ word ∷ []) ++ codes "\n"
+printed_joined n k digest word = simp append_assoc
+
+-- what is printed is a token
+pub token_is : (begun token : List ℕ) (p : Problem) (q : List Rel) → begun ≡ codes "token 2 " → token ≡ begun ++ words_behind p (digest_of p) q → token ≡ token_text p q
+token_is begun token p q first more =
+    more ∙ ap (λ l. l ++ words_behind p (digest_of p) q) first ∙ printed_joined (decimal (length p.taxonomies)) (decimal (pair_count p)) (digest_of p) (position_word q)

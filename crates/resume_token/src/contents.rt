@@ -44,9 +44,14 @@ fn is_digest(word: &[u8]) -> bool
 fn ended_by<'a>(taxonomies: u64, pairs: Option<u64>, mut words: Words<'a>) -> Option<Contents<'a>>
     ensures { option_map meant result ≡ ended_by taxonomies pairs words.entry }
 {
-    let digest = words.next_word()?;
-    let position = words.next_word()?;
-    if words.next_word().is_some() || !is_digest(digest) || position.is_empty() {
+    let (Some(digest), Some(position), None) = (
+        words.next_word(),
+        words.next_word(),
+        words.next_word(),
+    ) else {
+        return None;
+    };
+    if !is_digest(digest) || position.is_empty() {
         return None;
     }
     Some(Contents {
@@ -60,18 +65,24 @@ fn ended_by<'a>(taxonomies: u64, pairs: Option<u64>, mut words: Words<'a>) -> Op
 fn second_version<'a>(mut words: Words<'a>) -> Option<Contents<'a>>
     ensures { option_map meant result ≡ second_version words.entry }
 {
-    let taxonomies = words.next_word()?;
-    let pairs = words.next_word()?;
-    let taxonomies = read_number(taxonomies, 2, 8)?;
-    let pairs = read_number(pairs, 0, PAIR_LIMIT)?;
+    let (Some(taxonomies), Some(pairs)) = (words.next_word(), words.next_word()) else {
+        return None;
+    };
+    let (Some(taxonomies), Some(pairs)) = (
+        read_number(taxonomies, 2, 8),
+        read_number(pairs, 0, PAIR_LIMIT),
+    ) else {
+        return None;
+    };
     ended_by(taxonomies, Some(pairs), words)
 }
 
 fn contents_of_words<'a>(mut words: Words<'a>) -> Option<Contents<'a>>
     ensures { option_map meant result ≡ contents_of_words words.entry }
 {
-    let word = words.next_word()?;
-    let version = words.next_word()?;
+    let (Some(word), Some(version)) = (words.next_word(), words.next_word()) else {
+        return None;
+    };
     if word != b"token".as_slice() {
         return None;
     }
@@ -85,9 +96,11 @@ fn contents_of_words<'a>(mut words: Words<'a>) -> Option<Contents<'a>>
 fn contents_of_lines<'a>(mut lines: Words<'a>) -> Option<Contents<'a>>
     ensures { option_map meant result ≡ contents_of_lines lines.entry }
 {
-    let line = lines.next_word()?;
-    let rest = lines.next_word()?;
-    if lines.next_word().is_some() || !rest.is_empty() {
+    let (Some(line), Some(rest), None) = (lines.next_word(), lines.next_word(), lines.next_word())
+    else {
+        return None;
+    };
+    if !rest.is_empty() {
         return None;
     }
     contents_of_words(Words::new(line, b' '))

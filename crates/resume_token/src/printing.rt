@@ -1,8 +1,9 @@
 //! The text of a token.
-ghost use Rattle.std.specs.Prelude.{◌≡◌, ◌≤◌, length, Ok, IfOk};
+ghost use Rattle.std.specs.Prelude.{◌≡◌, ◌≤◌, ◌++◌, length, Ok, IfOk, OnOk};
 ghost use Rattle.world_model.specs.Problem.{pair_count};
 ghost use Rattle.constraint_set.specs.Facts.{IsAsRead};
 ghost use Rattle.resume_token.specs.Token.{token_text, token_result};
+ghost use Rattle.resume_token.specs.Printing.{words_behind};
 
 use crate::digest::digest_of;
 use crate::position::put_position;
@@ -11,6 +12,26 @@ use constraint_set::Problem;
 use proof_text::print_number;
 use rcc5_core::Position;
 use std::alloc::{AllocError, Global};
+
+// The words behind the version's number, with one space between, and the line end.
+fn put_words(
+    out: &mut Vec<u8>,
+    problem: &Problem,
+    digest: &[u8],
+    position: &Position,
+) -> Result<(), AllocError>
+    ensures { OnOk result (out.new.items ≡ out.old.items ++ words_behind problem.now digest.now position.now) }
+{
+    print_number(out, u64::from(problem.taxonomy_count()))?;
+    out.push(b' ')?;
+    print_number(out, u64::from(problem.pair_count()))?;
+    out.push(b' ')?;
+    out.extend_from_slice(digest)?;
+    out.push(b' ')?;
+    put_position(out, position)?;
+    out.push(b'\n')?;
+    Ok(())
+}
 
 /// The token of a problem and a position.
 pub(crate) fn print(
@@ -27,13 +48,6 @@ pub(crate) fn print(
     problem.facts();
     let digest = digest_of(alloc, problem)?;
     let mut token = Vec::from_slice(alloc, b"token 2 ")?;
-    print_number(&mut token, u64::from(problem.taxonomy_count()))?;
-    token.push(b' ')?;
-    print_number(&mut token, u64::from(problem.pair_count()))?;
-    token.push(b' ')?;
-    token.extend_from_slice(digest.as_bytes())?;
-    token.push(b' ')?;
-    put_position(&mut token, position)?;
-    token.push(b'\n')?;
+    put_words(&mut token, problem, digest.as_bytes(), position)?;
     Ok(token)
 }
