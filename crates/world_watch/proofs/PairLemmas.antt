@@ -1,5 +1,5 @@
 -- Lines of pairs: what a further world adds to them.
-use Rattle.std.proofs.Common.{◌≡◌, ◌+◌, ◌<◌, ◌≤◌, ℕ, Bool, true, false, cond, ◌||◌, List, [], ◌∷◌, ◌++◌, length, map, get_or, set, codes, decimal, refl, sym, ap, ◌∙◌, arith, inl, inr}
+use Rattle.std.proofs.Common.{◌≡◌, ◌+◌, ◌<◌, ◌≤◌, ℕ, zero, suc, Bool, true, false, cond, ◌||◌, List, [], ◌∷◌, ◌++◌, length, map, get_or, set, codes, decimal, refl, sym, ap, ◌∙◌, arith, inl, inr}
 use Rattle.std.specs.List.{range_with_len}
 use Rattle.std.proofs.lemmas.Bool.{cases_eq}
 use Rattle.std.proofs.lemmas.List.{get_or-set_same, get_or-set_other}
@@ -32,6 +32,13 @@ marked_more step none off old now rels n v within before is k lt = elim (cases_e
   | inl same ↦ ap (λ i. get_or (set now n v) i none) same ∙ get_or-set_same now n v none within ∙ is ∙ ap (λ i. step (get_or old i none) (get_or rels i off)) (sym same)
   | inr other ↦ get_or-set_other now n k v none other ∙ before k (omega arith)
 ]
+
+-- one more of what stands past the end changes nothing
+pub none_more : {X : Type 0} (none : X) (xs : List X) (k : ℕ) → get_or (xs ++ none ∷ []) k none ≡ get_or xs k none
+none_more none [] zero = refl
+none_more none [] (suc k) = refl
+none_more none (x ∷ xs) zero = refl
+none_more none (x ∷ xs) (suc k) = none_more none xs k
 
 pub others_kept : {X : Type 0} (none : X) (old now : List X) (n : ℕ) (v : X) → ((k : ℕ) → n ≤ k → get_or now k none ≡ get_or old k none)
     → (k : ℕ) → n + 1 ≤ k → get_or (set now n v) k none ≡ get_or old k none

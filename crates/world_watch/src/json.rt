@@ -2,7 +2,8 @@
 
 ghost use Rattle.std.specs.Prelude.{◌≡◌, length, codes, IfOk};
 ghost use Rattle.world_model.specs.Problem.{pair_count};
-ghost use Rattle.merge_print.specs.Json.{HasUtf8Names};
+ghost use Rattle.merge_print.specs.Json.{HasUtf8Names, merged_json};
+ghost use Rattle.merge_print.specs.Merged.{merged_of};
 ghost use Rattle.world_watch.specs.Kinds.{json_part, json_report};
 ghost use Rattle.world_watch.specs.Steps.{IsNew};
 
@@ -19,12 +20,22 @@ pub struct JsonWatcher {
     lines: Vec<u8>,
 }
 
+// A world's merged taxonomy as JSON.
+fn json_of(alloc: Global, problem: &Problem, table: &Position) -> Result<Vec<u8>, AllocError>
+    requires names { HasUtf8Names problem.now }
+    requires whole { length table.now ≡ pair_count problem.now }
+    ensures { IfOk result (λ json. json.items ≡ merged_json problem.now (merged_of problem.now table.now)) }
+{
+    let taxonomy = merged(alloc, problem, table)?;
+    merged_json(alloc, problem, &taxonomy)
+}
+
 fn world_line(alloc: Global, problem: &Problem, table: &Position) -> Result<Vec<u8>, AllocError>
     requires names { HasUtf8Names problem.now }
     requires whole { length table.now ≡ pair_count problem.now }
     ensures { IfOk result (λ line. line.items ≡ json_part problem.now table.now) }
 {
-    let mut line = merged_json(alloc, problem, &merged(alloc, problem, table)?)?;
+    let mut line = json_of(alloc, problem, table)?;
     line.extend_from_slice(b"\n")?;
     Ok(line)
 }

@@ -3,6 +3,8 @@
 ghost use Rattle.std.specs.Prelude.{◌≡◌, ◌++◌, length, map, codes, IfOk, OnOk};
 ghost use Rattle.rcc5_core.specs.Relation.{letter_of};
 ghost use Rattle.world_model.specs.Problem.{pair_count};
+ghost use Rattle.merge_print.specs.Merged.{merged_of};
+ghost use Rattle.merge_print.specs.Text.{merged_text};
 ghost use Rattle.world_watch.specs.Kinds.{merge_part, merge_report};
 ghost use Rattle.world_watch.specs.Steps.{IsNew};
 
@@ -28,16 +30,32 @@ fn put_letters(out: &mut Vec<u8>, rels: &[Rel]) -> Result<(), AllocError>
     Ok(())
 }
 
+// The text of a world's merged taxonomy.
+fn text_of(alloc: Global, problem: &Problem, table: &Position) -> Result<Vec<u8>, AllocError>
+    requires { length table.now ≡ pair_count problem.now }
+    ensures { IfOk result (λ text. text.items ≡ merged_text problem.now (merged_of problem.now table.now)) }
+{
+    let taxonomy = merged(alloc, problem, table)?;
+    merged_text(alloc, problem, &taxonomy)
+}
+
+// Puts the letters of a world's table and the text of its merged taxonomy.
+fn put_part(out: &mut Vec<u8>, rels: &[Rel], text: &[u8]) -> Result<(), AllocError>
+    ensures { OnOk result (out.new.items ≡ out.old.items ++ codes "world " ++ map letter_of rels.now ++ codes "\n" ++ text.now) }
+{
+    out.extend_from_slice(b"world ")?;
+    put_letters(out, rels)?;
+    out.extend_from_slice(b"\n")?;
+    out.extend_from_slice(text)
+}
+
 fn world_part(alloc: Global, problem: &Problem, table: &Position) -> Result<Vec<u8>, AllocError>
     requires { length table.now ≡ pair_count problem.now }
     ensures { IfOk result (λ part. part.items ≡ merge_part problem.now table.now) }
 {
-    let text = merged_text(alloc, problem, &merged(alloc, problem, table)?)?;
+    let text = text_of(alloc, problem, table)?;
     let mut part = Vec::new(alloc);
-    part.extend_from_slice(b"world ")?;
-    put_letters(&mut part, table.rels())?;
-    part.extend_from_slice(b"\n")?;
-    part.extend_from_slice(&text)?;
+    put_part(&mut part, table.rels(), &text)?;
     Ok(part)
 }
 
