@@ -22,7 +22,7 @@ use resume_token::TokenKind;
 pub use texts::{bytes_under, problem_under};
 
 /// How a run ended.
-#[derive(Debug, Drop)]
+#[derive(Drop)]
 pub enum Status {
     Done,
     RefusedText { line: u32, kind: TextKind },
