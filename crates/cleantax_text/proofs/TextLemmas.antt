@@ -1,6 +1,7 @@
 -- A whole text, line by line.
-use Rattle.std.proofs.Common.{◌≡◌, ◌+◌, ℕ, Bool, true, false, List, [], ◌∷◌, length, Option, Some, None, Result, Ok, Err, IfSome, IfNone, refl, ap, ◌∙◌}
+use Rattle.std.proofs.Common.{◌≡◌, ◌+◌, ◌≤◌, arith, sym, ℕ, Bool, true, false, List, [], ◌∷◌, length, Option, Some, None, Result, Ok, Err, IfSome, IfNone, refl, ap, ◌∙◌}
 use Rattle.std.specs.Prelude.{nat_lt}
+use Rattle.std.proofs.lemmas.Bool.{le-ltb}
 use Rattle.std.proofs.lemmas.Str.{utf8_valid_len-IsUtf8}
 use Rattle.std.specs.Borrow.{Bor}
 use Rattle.std.specs.Str.Lossy.{utf8_valid_len}
@@ -9,7 +10,7 @@ use Rattle.constraint_set.specs.Build.{problem_of}
 use Rattle.cleantax_text.specs.declared.TextKind.{TextKind}
 use Rattle.text_words.specs.Tokens.{lines_of, without_mark}
 use Rattle.cleantax_text.specs.Reading.{Reading, nothing_read, after_line, after_lines, and_then, at_end, text_result}
-use Rattle.cleantax_text.specs.Whole.{with_two, text_reading, built, lines_left}
+use Rattle.cleantax_text.specs.Whole.{with_two, marked_reading, text_reading, built, lines_left}
 
 -- the first line and what is left
 pub lines_cut : (text line : List ℕ) (rest : Option (Bor (List ℕ))) → IfSome rest (λ r. lines_of text ≡ line ∷ lines_of r.now) → IfNone rest (lines_of text ≡ line ∷ []) → lines_of text ≡ line ∷ lines_left rest
@@ -51,4 +52,12 @@ says_problem bytes switches r e = text_result-built bytes switches ∙ ap (built
 pub says_fault : (bytes : List ℕ) (switches : Switches) (line : ℕ) (kind : TextKind) → text_reading bytes ≡ Err (line, kind) → text_result bytes switches ≡ Err (line, kind)
 says_fault bytes switches line kind e = text_result-built bytes switches ∙ ap (built switches) e
 
-pub ruleset text_result_rules = (says_problem, says_fault)
+-- a text that isn't too long
+pub short_reading : (bytes : List ℕ) → length bytes ≤ 1048576 → text_reading bytes ≡ with_two (marked_reading bytes)
+short_reading bytes short = rw (le-ltb 1048576 (length bytes) short) refl
+
+-- a text of UTF-8
+pub whole_reading : (bytes text : List ℕ) (valid : ℕ) → valid ≡ utf8_valid_len bytes → length bytes ≤ valid → text ≡ without_mark bytes → marked_reading bytes ≡ after_lines 1 nothing_read (lines_of text)
+whole_reading bytes text valid is whole cut =
+    let valid_to_end : length bytes ≤ utf8_valid_len bytes = omega arith in
+    rw (le-ltb (utf8_valid_len bytes) (length bytes) valid_to_end) (ap (λ t. after_lines 1 nothing_read (lines_of t)) (sym cut))

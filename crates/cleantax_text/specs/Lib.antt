@@ -5,5 +5,6 @@ pub mod Examples
 pub mod Views
 pub mod Kept
 pub mod Whole
+pub mod Entries
 pub mod Pieces
 pub mod ReadsBack

@@ -7,6 +7,7 @@ ghost use Rattle.cleantax_text.specs.Reading.{IsProblemText, HasFirstFault};
 ghost use Rattle.cleantax_text.specs.ReadsBack.{PrintingReadsBack};
 ghost use Rattle.cleantax_text.specs.declared.TextKind.TheVariants.{NoMemory};
 
+mod entries;
 mod forms;
 mod naming;
 mod print;
@@ -17,51 +18,68 @@ pub use crate::print::{articulation_text, concept_text, print_problem};
 pub use crate::text::MAX_TEXT_LEN;
 use constraint_set::Problem;
 use std::alloc::{AllocError, Global};
+use std::fmt;
 use thiserror::Error;
 use world_model::Switches;
 
 /// What is wrong with a text.
-#[derive(Clone, Copy, Debug, PartialEq, Eq, Error)]
+#[derive(Clone, Copy, Debug, PartialEq, Eq)]
 pub enum TextKind {
-    #[error("a byte is not UTF-8")]
     NotUtf8,
-    #[error("a line has none of the forms")]
     BadLine,
-    #[error("a name is empty, too long, or has a control character")]
     BadName,
-    #[error("a word is no relation")]
     UnknownRelation,
-    #[error("braces have no relation")]
     EmptyBraces,
-    #[error("a row stands outside a taxonomy")]
     RowOutsideTaxonomy,
-    #[error("an articulation stands outside its part")]
     ArticulationOutside,
-    #[error("a taxonomy stands twice")]
     TaxonomyTwice,
-    #[error("there are fewer than two taxonomies or more than eight")]
     TaxonomyCount,
-    #[error("a concept is not known")]
     UnknownConcept,
-    #[error("two concepts are of one taxonomy")]
     SameTaxonomy,
-    #[error("a concept has two parents")]
     TwoParents,
-    #[error("a child stands twice")]
     ChildTwice,
-    #[error("a concept is its own ancestor")]
     Cycle,
-    #[error("there are more than 1,024 concepts")]
     TooManyConcepts,
-    #[error("there are more than 4,096 articulations")]
     TooManyArticulations,
-    #[error("the text has more than 1,048,576 bytes")]
     TooLong,
-    #[error("out of memory")]
     NoMemory,
-    #[error("a part of a sum stands twice")]
     PartTwice,
 }
+
+impl TextKind {
+    fn words(self) -> &'static str {
+        match self {
+            TextKind::NotUtf8 => "a byte is not UTF-8",
+            TextKind::BadLine => "a line has none of the forms",
+            TextKind::BadName => "a name is empty, too long, or has a control character",
+            TextKind::UnknownRelation => "a word is no relation",
+            TextKind::EmptyBraces => "braces have no relation",
+            TextKind::RowOutsideTaxonomy => "a row stands outside a taxonomy",
+            TextKind::ArticulationOutside => "an articulation stands outside its part",
+            TextKind::TaxonomyTwice => "a taxonomy stands twice",
+            TextKind::TaxonomyCount => "there are fewer than two taxonomies or more than eight",
+            TextKind::UnknownConcept => "a concept is not known",
+            TextKind::SameTaxonomy => "two concepts are of one taxonomy",
+            TextKind::TwoParents => "a concept has two parents",
+            TextKind::ChildTwice => "a child stands twice",
+            TextKind::Cycle => "a concept is its own ancestor",
+            TextKind::TooManyConcepts => "there are more than 1,024 concepts",
+            TextKind::TooManyArticulations => "there are more than 4,096 articulations",
+            TextKind::TooLong => "the text has more than 1,048,576 bytes",
+            TextKind::NoMemory => "out of memory",
+            TextKind::PartTwice => "a part of a sum stands twice",
+        }
+    }
+}
+
+// Written out, since `thiserror` would write a call of the formatter for each kind, whose proofs take far longer than that of one.
+impl fmt::Display for TextKind {
+    fn fmt<W: fmt::Write>(&self, f: &mut fmt::Formatter<W>) -> fmt::Result {
+        f.write_str(self.words())
+    }
+}
+
+impl std::error::Error for TextKind {}
 
 /// What is wrong with a text, and where.
 #[derive(Clone, Copy, Debug, PartialEq, Eq, Error)]

@@ -7,20 +7,19 @@ ghost use Rattle.cleantax_text.specs.declared.TextKind.TheVariants.{NoMemory};
 ghost use Rattle.constraint_set.specs.Build.{size_of};
 ghost use Rattle.taxon_tree.specs.Trees.{no_trees, number_of};
 ghost use Rattle.cleantax_text.specs.Forms.{TaxonomyLine};
-ghost use Rattle.cleantax_text.specs.Reading.{nothing_read, in_taxonomy, in_articulations, with_taxonomy, concepts_before, concept_number, kind_of, with_forest, after_row, concept_numbers, pair_of, with_articulation, after_pair, after_sum, after_form, after_line};
+ghost use Rattle.cleantax_text.specs.Reading.{nothing_read, in_taxonomy, in_articulations, with_taxonomy, concepts_before, concept_number, kind_of, with_forest, after_row, concept_numbers, with_articulation, after_pair, after_sum, after_form, after_line};
 ghost use Rattle.text_words.specs.Views.{words_meant, reference_meant, references_meant};
 ghost use Rattle.cleantax_text.specs.Views.{form_meant, IsWell};
 ghost use Rattle.cleantax_text.specs.Kept.{meant, IsKept, row_of, with_one_more, among_articulations};
 
 use crate::TextKind;
 use crate::forms::{Form, form_of};
-use crate::naming::{are_different, are_names, copies, is_among, is_taxonomy_among, place_of};
+use crate::naming::{are_names, copies, is_among, place_of};
 use constraint_set::{MAX_ARTICULATIONS, MAX_CONCEPTS, MAX_TAXONOMIES};
-use rcc5_core::RelSet;
 use std::alloc::{AllocError, Global};
 use taxon_tree::{Forest, ForestFault};
-use text_words::{Reference, is_same, is_taxonomy_name, reference_of, references_of, set_of_words};
-use world_model::{Articulation, Parts};
+use text_words::{Reference, is_taxonomy_name};
+use world_model::Articulation;
 
 /// Where in a text one is.
 #[derive(Clone, Copy)]
@@ -33,7 +32,7 @@ pub(crate) enum Place {
 /// What the lines so far have given.
 #[derive(Drop)]
 pub(crate) struct Reader {
-    alloc: Global,
+    pub(crate) alloc: Global,
     pub(crate) ids: Vec<Vec<u8>>,
     pub(crate) forests: Vec<Forest>,
     pub(crate) articulations: Vec<Articulation>,
@@ -83,8 +82,8 @@ impl Reader {
         count_concepts(&self.forests[..which])
     }
 
-    // The number of a concept, if it is known.
-    fn concept_number(&self, reference: Reference<'_>) -> Option<u32>
+    /// The number of a concept, if it is known.
+    pub(crate) fn concept_number(&self, reference: Reference<'_>) -> Option<u32>
         requires { IsKept (meant self.now) }
         ensures number { result ≡ concept_number (meant self.now) (reference_meant reference.entry) }
         ensures within { IfSome result (λ c. c < MAX_CONCEPTS) }
@@ -113,7 +112,7 @@ impl Reader {
         matches!(self.place, Place::InTaxonomy)
     }
 
-    fn is_in_articulations(&self) -> bool
+    pub(crate) fn is_in_articulations(&self) -> bool
         ensures { result ≡ in_articulations (meant self.now).place }
     {
         matches!(self.place, Place::InArticulations)
@@ -178,34 +177,6 @@ impl Reader {
         self.add_row(names.as_slice())
     }
 
-    // The articulation of an entry on two concepts.
-    fn read_pair(
-        &self,
-        left: &[u8],
-        relation: &[&[u8]],
-        right: &[u8],
-    ) -> Result<Articulation, TextKind>
-        requires { IsKept (meant self.now) }
-        ensures ok { IfOk result (λ a. after_pair (meant self.now) left.now (words_meant relation.now) right.now ≡ with_articulation (meant self.now) a) }
-        ensures fault { IfErr result (λ k. after_pair (meant self.now) left.now (words_meant relation.now) right.now ≡ Err k) }
-    {
-        if !self.is_in_articulations() {
-            return Err(TextKind::ArticulationOutside);
-        }
-        let a = reference_of(left).ok_or(TextKind::BadName)?;
-        let b = reference_of(right).ok_or(TextKind::BadName)?;
-        if relation.is_empty() {
-            return Err(TextKind::EmptyBraces);
-        }
-        let set = set_of_words(relation).ok_or(TextKind::UnknownRelation)?;
-        let i = self.concept_number(a).ok_or(TextKind::UnknownConcept)?;
-        let j = self.concept_number(b).ok_or(TextKind::UnknownConcept)?;
-        if is_same(a.taxonomy, b.taxonomy) {
-            return Err(TextKind::SameTaxonomy);
-        }
-        Ok(pair_of(i, j, set))
-    }
-
     fn push_articulation(&mut self, articulation: Articulation) -> Result<(), AllocError>
         ensures { OnOk result (meant self.new ≡ with_one_more (meant self.old) articulation) }
     {
@@ -233,8 +204,11 @@ impl Reader {
         self.add_articulation(articulation)
     }
 
-    // The numbers of several concepts, if each is known.
-    fn concept_numbers(&self, references: &[Reference<'_>]) -> Result<Option<Vec<u32>>, AllocError>
+    /// The numbers of several concepts, if each is known.
+    pub(crate) fn concept_numbers(
+        &self,
+        references: &[Reference<'_>],
+    ) -> Result<Option<Vec<u32>>, AllocError>
         requires { IsKept (meant self.now) }
         ensures { IfOk result (λ found. option_map (λ v. v.items) found ≡ concept_numbers (meant self.now) (references_meant references.now)) }
     {
@@ -246,33 +220,6 @@ impl Reader {
             numbers.push(number)?;
         }
         Ok(Some(numbers))
-    }
-
-    // The articulation of an entry on a sum.
-    fn read_sum(&self, whole: &[u8], parts: &[&[u8]]) -> Result<Articulation, TextKind>
-        requires { IsKept (meant self.now) }
-        ensures ok { IfOk result (λ a. after_sum (meant self.now) whole.now (words_meant parts.now) ≡ with_articulation (meant self.now) a) }
-        ensures fault { IfErr result (λ k. k ≢ NoMemory → after_sum (meant self.now) whole.now (words_meant parts.now) ≡ Err k) }
-    {
-        if !self.is_in_articulations() {
-            return Err(TextKind::ArticulationOutside);
-        }
-        let a = reference_of(whole).ok_or(TextKind::BadName)?;
-        let bs = references_of(self.alloc, parts)?.ok_or(TextKind::BadName)?;
-        let i = self.concept_number(a).ok_or(TextKind::UnknownConcept)?;
-        let js = self
-            .concept_numbers(bs.as_slice())?
-            .ok_or(TextKind::UnknownConcept)?;
-        if is_taxonomy_among(a.taxonomy, bs.as_slice()) {
-            return Err(TextKind::SameTaxonomy);
-        }
-        if !are_different(self.alloc, js.as_slice())? {
-            return Err(TextKind::PartTwice);
-        }
-        Ok(Articulation::Sum {
-            whole: i,
-            parts: Parts::new(js),
-        })
     }
 
     // An entry on a sum.
@@ -292,11 +239,11 @@ impl Reader {
     }
 
     // A line of this form.
-    fn take_form(&mut self, form: Form<'_>) -> Result<(), TextKind>
+    fn take_form(&mut self, form: &Form<'_>) -> Result<(), TextKind>
         requires kept { IsKept (meant self.old) }
-        requires well { IsWell (form_meant form) }
-        ensures ok { OnOk result (after_form (meant self.old) (form_meant form.entry) ≡ Ok (meant self.new)) }
-        ensures fault { IfErr result (λ k. k ≢ NoMemory → after_form (meant self.old) (form_meant form.entry) ≡ Err k) }
+        requires well { IsWell (form_meant form.now) }
+        ensures ok { OnOk result (after_form (meant self.old) (form_meant form.now) ≡ Ok (meant self.new)) }
+        ensures fault { IfErr result (λ k. k ≢ NoMemory → after_form (meant self.old) (form_meant form.now) ≡ Err k) }
     {
         match form {
             Form::Blank => Ok(()),
@@ -324,26 +271,7 @@ impl Reader {
         ensures kept { OnOk result (IsKept (meant self.new)) }
     {
         let form = form_of(self.alloc, line)?;
-        self.take_form(form)
-    }
-}
-
-// The articulation of two concepts, turned round where the left one has the greater number.
-fn pair_of(i: u32, j: u32, set: RelSet) -> Articulation
-    ensures { result ≡ pair_of i j set }
-{
-    if i < j {
-        Articulation::Pair {
-            left: i,
-            right: j,
-            set,
-        }
-    } else {
-        Articulation::Pair {
-            left: j,
-            right: i,
-            set: set.converse(),
-        }
+        self.take_form(&form)
     }
 }
 

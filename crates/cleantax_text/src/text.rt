@@ -139,7 +139,6 @@ fn build(alloc: Global, reader: Reader, switches: Switches) -> Result<Problem, A
     )
 }
 
-#[tactic(auto, using(crate::proofs::TextLemmas::text_result_rules))]
 pub(crate) fn read_problem(
     alloc: Global,
     bytes: &[u8],
