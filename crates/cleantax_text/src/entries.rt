@@ -1,5 +1,5 @@
 //! What an entry says, by what the lines before it have given.
-ghost use Rattle.std.specs.Prelude.{◌≡◌, ◌≢◌, Err, IfOk, IfErr};
+ghost use Rattle.std.specs.Prelude.{◌≡◌, ◌≢◌, ◌==◌, length, Err, IfOk, IfErr};
 ghost use Rattle.cleantax_text.specs.declared.TextKind.TheVariants.{NoMemory};
 ghost use Rattle.cleantax_text.specs.Reading.{pair_of, with_articulation, after_pair, after_sum};
 ghost use Rattle.text_words.specs.Views.{words_meant, reference_meant, references_meant};
@@ -28,12 +28,18 @@ impl Reader {
         if !self.is_in_articulations() {
             return Err(TextKind::ArticulationOutside);
         }
-        let a = reference_of(left).ok_or(TextKind::BadName)?;
-        let b = reference_of(right).ok_or(TextKind::BadName)?;
-        if relation.is_empty() {
+        let Some(a) = reference_of(left) else {
+            return Err(TextKind::BadName);
+        };
+        let Some(b) = reference_of(right) else {
+            return Err(TextKind::BadName);
+        };
+        if has_no_word(relation) {
             return Err(TextKind::EmptyBraces);
         }
-        let set = set_of_words(relation).ok_or(TextKind::UnknownRelation)?;
+        let Some(set) = set_of_words(relation) else {
+            return Err(TextKind::UnknownRelation);
+        };
         self.relate(a, b, set)
     }
 
@@ -48,8 +54,12 @@ impl Reader {
         ensures ok { IfOk result (λ x. after_related (meant self.now) (reference_meant a.entry) (reference_meant b.entry) set ≡ with_articulation (meant self.now) x) }
         ensures fault { IfErr result (λ k. after_related (meant self.now) (reference_meant a.entry) (reference_meant b.entry) set ≡ Err k) }
     {
-        let i = self.concept_number(a).ok_or(TextKind::UnknownConcept)?;
-        let j = self.concept_number(b).ok_or(TextKind::UnknownConcept)?;
+        let Some(i) = self.concept_number(a) else {
+            return Err(TextKind::UnknownConcept);
+        };
+        let Some(j) = self.concept_number(b) else {
+            return Err(TextKind::UnknownConcept);
+        };
         if is_same(a.taxonomy, b.taxonomy) {
             return Err(TextKind::SameTaxonomy);
         }
@@ -65,8 +75,12 @@ impl Reader {
         if !self.is_in_articulations() {
             return Err(TextKind::ArticulationOutside);
         }
-        let a = reference_of(whole).ok_or(TextKind::BadName)?;
-        let bs = references_of(self.alloc, parts)?.ok_or(TextKind::BadName)?;
+        let Some(a) = reference_of(whole) else {
+            return Err(TextKind::BadName);
+        };
+        let Some(bs) = references_of(self.alloc, parts)? else {
+            return Err(TextKind::BadName);
+        };
         self.add_up(a, bs.as_slice())
     }
 
@@ -80,10 +94,12 @@ impl Reader {
         ensures ok { IfOk result (λ x. after_summed (meant self.now) (reference_meant whole.entry) (references_meant parts.now) ≡ with_articulation (meant self.now) x) }
         ensures fault { IfErr result (λ k. k ≢ NoMemory → after_summed (meant self.now) (reference_meant whole.entry) (references_meant parts.now) ≡ Err k) }
     {
-        let i = self.concept_number(whole).ok_or(TextKind::UnknownConcept)?;
-        let js = self
-            .concept_numbers(parts)?
-            .ok_or(TextKind::UnknownConcept)?;
+        let Some(i) = self.concept_number(whole) else {
+            return Err(TextKind::UnknownConcept);
+        };
+        let Some(js) = self.concept_numbers(parts)? else {
+            return Err(TextKind::UnknownConcept);
+        };
         if is_taxonomy_among(whole.taxonomy, parts) {
             return Err(TextKind::SameTaxonomy);
         }
@@ -95,6 +111,12 @@ impl Reader {
             parts: Parts::new(js),
         })
     }
+}
+
+fn has_no_word(relation: &[&[u8]]) -> bool
+    ensures { result ≡ (length (words_meant relation.now) == 0) }
+{
+    relation.is_empty()
 }
 
 // The articulation of two concepts, turned round where the left one has the greater number.
