@@ -1,7 +1,7 @@
 -- The text of a line, piece by piece.
-use Rattle.std.proofs.Common.{◌≡◌, ℕ, ◌<◌, List, [], ◌∷◌, ◌++◌, append_assoc, length, get_or, take, drop, ◌-◌, refl, map, decimal, Result, Ok, Err, OnOk, sym, ap, ◌∙◌, arith}
+use Rattle.std.proofs.Common.{◌≡◌, ℕ, ◌<◌, List, [], ◌∷◌, ◌++◌, append_assoc, length, get_or, take, drop, ◌-◌, refl, map, decimal, Result, Ok, Err, OnOk, sym, ap, ◌∙◌, ◌^◌, All, Fits, w32, arith}
 use Rattle.std.specs.List.{join_with_byte}
-use Rattle.std.proofs.lemmas.List.{take_all}
+use Rattle.std.proofs.lemmas.List.{get_or_default, take_all}
 use Rattle.proof_text.specs.Words.{parted}
 use Rattle.proof_text.proofs.WordLemmas.{joined-parted, parted-append}
 use Rattle.cert_text.specs.Lines.{elements_word}
@@ -37,6 +37,10 @@ two_put word front back old first mid new is_first is_mid is_new =
     ∙ append_assoc old word (parted 32 front ++ parted 32 back)
     ∙ ap (λ t. old ++ (word ++ t)) (sym (parted-append 32 front back))
     ∙ ap (λ t. old ++ t) (sym (joined-parted 32 word (front ++ back)))
+
+-- numbers of a list of u32 are below 2 ^ 32
+pub fits-small : (set : List ℕ) → ((i : ℕ) → Fits w32 (get_or set i 0)) → All (λ x. x < 2 ^ 32) set
+fits-small set fits k d within = omega (arith, fits k, get_or_default set k 0 d within)
 
 -- what is so anyhow
 pub always : {V E P : Type 0} (r : Result V E) → P → OnOk r P

@@ -1,10 +1,10 @@
 //! The kinds of lines, each of which begins with a word of its own.
 
-ghost use Rattle.std.specs.Prelude.{◌≡◌};
+ghost use Rattle.std.specs.Prelude.{◌≡◌, [], ◌∷◌, length, ◌≢◌};
 ghost use Rattle.cert_text.specs.Lines.{kind_in};
 
 /// The kind of a line, by its first word.
-#[derive(Clone, Copy, Debug, PartialEq, Eq)]
+#[derive(Clone, Copy)]
 pub enum LineKind {
     Certificate,
     Claims,
@@ -22,8 +22,34 @@ pub enum LineKind {
 }
 
 /// The kind whose first word this is.
-#[tactic(auto, unfolding(crate::specs::Lines::kind_in))]
 pub fn kind_in(word: &[u8]) -> Option<LineKind>
+    ensures { result ≡ kind_in word.now }
+{
+    match word {
+        [letter] => letter_kind(*letter),
+        _ => longer_kind(word),
+    }
+}
+
+#[tactic(auto, unfolding(crate::specs::Lines::kind_in))]
+fn letter_kind(letter: u8) -> Option<LineKind>
+    ensures { result ≡ kind_in (letter ∷ []) }
+{
+    match letter {
+        b'd' => Some(LineKind::Derive),
+        b'k' => Some(LineKind::Forget),
+        b'b' => Some(LineKind::Branch),
+        b'x' => Some(LineKind::NoPoint),
+        b'e' => Some(LineKind::NoRelation),
+        b'w' => Some(LineKind::World),
+        _ => None,
+    }
+}
+
+// The kind of a word that is no single letter.
+#[tactic(auto, unfolding(crate::specs::Lines::kind_in))]
+fn longer_kind(word: &[u8]) -> Option<LineKind>
+    requires { length word.now ≢ 1 }
     ensures { result ≡ kind_in word.now }
 {
     if word == b"certificate".as_slice() {
@@ -32,18 +58,20 @@ pub fn kind_in(word: &[u8]) -> Option<LineKind>
     if word == b"claims".as_slice() {
         return Some(LineKind::Claims);
     }
-    match word {
-        b"d" => Some(LineKind::Derive),
-        b"k" => Some(LineKind::Forget),
-        b"b" => Some(LineKind::Branch),
-        b"x" => Some(LineKind::NoPoint),
-        b"e" => Some(LineKind::NoRelation),
-        b"w" => Some(LineKind::World),
-        b"some" => Some(LineKind::Holds),
-        b"none" => Some(LineKind::Fails),
-        b"end" => Some(LineKind::End),
-        b"quit" => Some(LineKind::Quit),
-        b"done" => Some(LineKind::Done),
-        _ => None,
+    if word == b"some".as_slice() {
+        return Some(LineKind::Holds);
     }
+    if word == b"none".as_slice() {
+        return Some(LineKind::Fails);
+    }
+    if word == b"end".as_slice() {
+        return Some(LineKind::End);
+    }
+    if word == b"quit".as_slice() {
+        return Some(LineKind::Quit);
+    }
+    if word == b"done".as_slice() {
+        return Some(LineKind::Done);
+    }
+    None
 }

@@ -11,7 +11,7 @@ use world_model::Switches;
 ///
 /// Nothing is known of them: whether they are sets of numbers below the first one, and as many as there are concepts,
 /// is for the reader of the certificate to judge.
-#[derive(Debug, Drop)]
+#[derive(Drop)]
 pub struct RawFamily {
     universe: u32,
     lists: Vec<Vec<u32>>,
@@ -57,7 +57,7 @@ impl RawFamily {
 }
 
 /// A bit for each articulation, in input order: whether it is kept.
-#[derive(Debug, Drop)]
+#[derive(Drop)]
 pub struct Flags {
     list: Vec<bool>,
 }
@@ -85,7 +85,7 @@ impl Flags {
 }
 
 /// What a claim is about: the problem with a pair narrowed to one relation, or with some articulations kept.
-#[derive(Debug, Drop)]
+#[derive(Drop)]
 pub enum Subject {
     Narrowed { pair: u32, rel: Rel },
     Kept(Flags),
@@ -94,7 +94,7 @@ pub enum Subject {
 /// A line of a certificate.
 ///
 /// A line of the tree names its node by its depth and the last relation on the way to it, which the root lacks.
-#[derive(Debug, Drop)]
+#[derive(Drop)]
 pub enum CertLine {
     /// The first line of a listing from a position on.
     Certificate {
