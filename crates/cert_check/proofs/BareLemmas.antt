@@ -1,5 +1,5 @@
 -- An open tree that branches on no pair yet: a leaf at its root is judged as that of its subject's tree, and nothing comes after it.
-use Rattle.std.proofs.Common.{◌≡◌, ℕ, ◌+◌, ◌≤◌, Bool, true, false, List, [], ◌∷◌, length, Option, Some, None, refl, sym, ap, ◌∙◌, subst, inl, inr, arith}
+use Rattle.std.proofs.Common.{◌≡◌, ℕ, ◌+◌, ◌≤◌, Bool, true, false, List, [], ◌∷◌, length, Option, Some, None, refl, sym, ap, ◌∙◌, subst, inl, inr, arith, Result, Ok, Err, IfOk}
 use Rattle.rcc5_core.specs.declared.Rel.{Rel}
 use Rattle.lits_core.specs.Derivation.{State}
 use Rattle.world_model.specs.Problem.{Problem}
@@ -38,6 +38,24 @@ walk_anew p block tree is anew root =
       | inl whole ↦ ap (λ t. t.from) whole
       | inr bare ↦ ap (λ t. t.from) bare
     ]
+
+-- a tree whose root was expected, made anew with the pairs on which it branches
+abbrev pub over_splits : OpenTree → OpenTree
+over_splits block = record block { walk = record block.walk { tree = tree_over block.walk.tree.subject false [] } }
+
+pub tree_anew : (p : Problem) (block new : OpenTree) → IsBlock p block → new ≡ over_splits block → new.walk.tree ≡ subject_tree p new.subject
+tree_anew p block new is same =
+    subst (λ (new : OpenTree). new.walk.tree ≡ subject_tree p new.subject) (sym same) (made_anew p block block.walk.tree.subject [] (over_splits block).walk.tree is refl refl refl)
+
+pub block_anew : (p : Problem) (block new : OpenTree) → IsBlock p block → length block.walk.path ≡ 0 → new ≡ over_splits block → IsBlock p new
+block_anew p block new is root same =
+    let anew = tree_anew p block (over_splits block) is refl in
+    subst (IsBlock p) (sym same) (record { walk = walk_anew p block (over_splits block).walk.tree is anew root; tree = inl anew })
+
+-- what follows of what a call gives
+pub if_ok : {V E : Type 0} (P Q : V → Type 0) (r : Result V E) → ((x : V) → P x → Q x) → IfOk r P → IfOk r Q
+if_ok P Q (Ok x) more given = more x given
+if_ok P Q (Err e) more given = tt
 
 -- where the tree branches on no pair, its root alone was expected
 at_root : (p : Problem) (block : OpenTree) → IsBlock p block → block.walk.tree ≡ bare_tree (subject_problem p block.subject) → block.walk.path ≡ []

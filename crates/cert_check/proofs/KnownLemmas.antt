@@ -38,3 +38,11 @@ shown_exactly p pair rel f met =
     same_truth (has (only rel) there) (meets (narrowed p pair (only rel)) f)
     (λ h. shown_is_met p pair rel f met (sym (one_rel rel there (sym (only_has rel there) ∙ h))))
     (λ h. ap (has (only rel)) (met_is_shown p pair rel f h).1 ∙ has-only rel)
+
+refuted : (a b : Bool) → (b ≡ true → a ≡ true) → a ≡ false → b ≡ false
+refuted a true back failed = sym (back refl) ∙ failed
+refuted a false back failed = refl
+
+-- a family that does not meet the problem does not meet it with a pair narrowed
+pub not_shown : (p : Problem) (pair : ℕ × ℕ) (rel : Rel) (f : Family) → meets p f ≡ false → meets (narrowed p pair (only rel)) f ≡ false
+not_shown p pair rel f failed = refuted (meets p f) (meets (narrowed p pair (only rel)) f) (λ h. (met_is_shown p pair rel f h).0) failed

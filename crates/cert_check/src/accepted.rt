@@ -7,7 +7,7 @@ use rcc5_core::Position;
 use std::marker::Model;
 
 /// Positions of worlds, in their order.
-#[derive(Debug, Drop)]
+#[derive(Drop)]
 pub struct Worlds {
     list: Vec<Position>,
 }
@@ -36,7 +36,7 @@ impl Worlds {
 }
 
 /// That a family meets the problem of a subject, or that none does.
-#[derive(Debug, Drop)]
+#[derive(Drop)]
 pub struct Claim {
     pub subject: Subject,
     pub holds: bool,
@@ -51,7 +51,7 @@ impl Model for Claim {
 }
 
 /// Claims in the order in which they were made.
-#[derive(Debug, Drop)]
+#[derive(Drop)]
 pub struct ClaimList {
     list: Vec<Claim>,
 }
@@ -80,7 +80,7 @@ impl ClaimList {
 }
 
 /// What an accepted certificate says.
-#[derive(Debug, Drop)]
+#[derive(Drop)]
 pub enum Accepted {
     /// The possible worlds from one position on and below another, or all from it on, are these.
     Listing {

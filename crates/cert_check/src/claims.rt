@@ -11,32 +11,60 @@ ghost use Rattle.cert_rules.specs.ClaimLists.{claim_start, claim_role, ForNode, 
 ghost use Rattle.cert_text.specs.declared.line.CertLine.TheVariants.{Proof, Holds as HoldsLine, Fails as FailsLine, End};
 ghost use Rattle.cert_check.specs.declared.fault.Stop.TheVariants.{Rejected};
 ghost use Rattle.cert_check.specs.declared.accepted.Accepted.TheVariants.{Claims as AcceptedClaims};
+ghost use Rattle.cert_tree.specs.Levels.{tree_over};
 ghost use Rattle.cert_tree.specs.Walks.{IsWalk, at_of};
 ghost use Rattle.cert_check.specs.Claiming.{AreClaims, IsOpen, IsBlock, AreMet, claim_stand, block_of, with_block, is_node, IsClaimStep};
 
 use crate::accepted::{Accepted, Claim, ClaimList};
 use crate::fault::{Stop, stop_at};
 use crate::known::Known;
-use crate::listing::Turn;
+use crate::listing::{Turn, given_book};
 use cert_rules::RejectKind;
 use cert_text::{CertLine, RawFamily, Subject};
 use cert_tree::{Tree, Walk, family_fault, is_branch};
 use constraint_set::Problem;
 use lits_core::Line;
-use point_encode::given_clauses;
 use proof_check::Book;
 use rcc5_core::{Position, Rel, RelSet};
 use set_family::Family;
 use std::alloc::{AllocError, Global};
 
 /// A tree that is not yet at its end.
-#[derive(Drop)]
 pub(crate) struct OpenTree {
     pub(crate) subject: Subject,
     pub(crate) walk: Walk,
 }
 
+// Written out, so that letting one go is a call.
+impl Drop for OpenTree {
+    fn drop(self) {
+        let OpenTree {
+            subject: _,
+            walk: _,
+        } = self;
+    }
+}
+
 impl OpenTree {
+    /// What it is about.
+    fn into_subject(self) -> Subject
+        ensures { result ≡ self.subject }
+    {
+        let OpenTree { subject, walk: _ } = self;
+        subject
+    }
+
+    /// The same with the pairs on which its tree branches.
+    fn over_splits(self, alloc: Global) -> Result<OpenTree, AllocError>
+        ensures { IfOk result (λ new. new ≡ record self { walk = record self.walk { tree = tree_over self.walk.tree.subject false [] } }) }
+    {
+        let OpenTree { subject, mut walk } = self;
+        let problem = walk.tree.into_subject();
+        let tree = Tree::new(alloc, problem, false, Position::new(alloc))?;
+        walk.tree = tree;
+        Ok(OpenTree { subject, walk })
+    }
+
     /// Why a line that is none of a tree is not taken.
     fn stray(&self) -> Stop
         ensures { result ≡ Rejected (stray_kind (at_of self.now.walk)) }
@@ -80,10 +108,11 @@ impl Claims {
         ensures claims { IfOk result AreClaims }
         ensures start { IfOk result (λ claims. claim_stand claims ≡ claim_start problem.now) }
     {
-        let book = Book::new(alloc, given_clauses(alloc, problem)?)?;
+        let own = problem.copy()?;
+        let book = given_book(alloc, problem)?;
         Ok(Claims {
             alloc,
-            problem: problem.copy()?,
+            problem: own,
             book,
             block: None,
             claims: Vec::new(alloc),
@@ -196,13 +225,14 @@ impl Claims {
         ensures same { self.new ≡ record self.old { known = self.new.known } }
     {
         let (universe, lists) = words.into_parts();
-        match Family::from_lists(universe, lists) {
-            Some(family) if self.is_shown(pair, rel, &family) => {
-                self.keep(family)?;
-                Ok(None)
-            }
-            _ => Ok(Some(RejectKind::FamilyDoesNotMeet)),
+        let Some(family) = Family::from_lists(universe, lists) else {
+            return Ok(Some(RejectKind::FamilyDoesNotMeet));
+        };
+        if !self.is_shown(pair, rel, &family) {
+            return Ok(Some(RejectKind::FamilyDoesNotMeet));
         }
+        self.keep(family)?;
+        Ok(None)
     }
 
     /// Whether a family meets the problem and has a relation at a pair.
@@ -342,11 +372,7 @@ impl Claims {
         if !branches || !block.walk.path.is_empty() {
             return Ok(block);
         }
-        let OpenTree { subject, mut walk } = block;
-        let problem = walk.tree.into_subject();
-        let tree = Tree::new(self.alloc, problem, false, Position::new(self.alloc))?;
-        walk.tree = tree;
-        Ok(OpenTree { subject, walk })
+        block.over_splits(self.alloc)
     }
 
     fn take_other(&mut self, block: OpenTree, line: CertLine) -> Result<Turn, Stop>
@@ -376,7 +402,7 @@ impl Claims {
         if block.walk.expected {
             return Err(Stop::Rejected(RejectKind::MissingBranch));
         }
-        let subject = block.subject;
+        let subject = block.into_subject();
         let holds = false;
         self.claims.push(Claim { subject, holds })?;
         Ok(Turn::Further)

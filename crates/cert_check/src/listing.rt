@@ -2,6 +2,8 @@
 
 ghost use Rattle.std.specs.Prelude.{◌≡◌, ◌++◌, ◌∷◌, [], IfOk, OnOk, None, Some};
 ghost use Rattle.lits_core.specs.declared.Line.{Line};
+ghost use Rattle.lits_core.specs.Derivation.{first_state};
+ghost use Rattle.cert_model.specs.Clauses.{given_clauses};
 ghost use Rattle.cert_rules.specs.Listings.{listing_tree, start, with_world, role_of, ForTree};
 ghost use Rattle.cert_text.specs.declared.line.CertLine.TheVariants.{Proof, End};
 ghost use Rattle.cert_check.specs.declared.accepted.Accepted.TheVariants.{Listing as AcceptedListing};
@@ -59,11 +61,10 @@ impl Listing {
         ensures tree { IfOk result (λ listing. listing.walk.tree ≡ listing_tree problem.now from) }
         ensures start { IfOk result (λ listing. stand_of listing ≡ start problem.now) }
     {
-        let book = Book::new(alloc, given_clauses(alloc, problem)?)?;
         let tree = Tree::new(alloc, problem.copy()?, true, from)?;
         Ok(Listing {
             alloc,
-            book,
+            book: given_book(alloc, problem)?,
             walk: Walk::new(alloc, tree),
             worlds: Vec::new(alloc),
         })
@@ -141,4 +142,11 @@ impl Listing {
         self.walk.advance(branches)?;
         Ok(Turn::Further)
     }
+}
+
+/// A derivation without a line, over the clauses that a problem gives.
+pub(crate) fn given_book(alloc: Global, problem: &Problem) -> Result<Book, AllocError>
+    ensures { IfOk result (λ book. book ≡ first_state (given_clauses problem.now)) }
+{
+    Book::new(alloc, given_clauses(alloc, problem)?)
 }
