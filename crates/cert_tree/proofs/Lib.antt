@@ -3,3 +3,4 @@ pub mod TreeLemmas
 pub mod NeedLemmas
 pub mod WalkLemmas
 pub mod PositionLemmas
+pub mod FamilyLemmas

@@ -1,5 +1,6 @@
 -- A path goes on.
-use Rattle.std.proofs.Common.{◌≡◌, ℕ, ◌<◌, ◌≤◌, ◌+◌, zero, suc, Bool, true, false, List, [], ◌∷◌, ◌++◌, length, drop, Option, Some, None, refl, sym, ap, ◌∙◌, arith, inl, inr}
+use Rattle.std.proofs.Common.{◌≡◌, ℕ, ◌<◌, ◌≤◌, ◌+◌, zero, suc, Bool, true, false, cond, List, [], ◌∷◌, ◌++◌, length, drop, Option, Some, None, refl, sym, ap, ◌∙◌, arith, inl, inr}
+use Rattle.std.specs.Option.{option_or}
 use Rattle.std.specs.Prelude.{slice_get, if◌then◌else◌, is_some, IfSome}
 use Rattle.std.proofs.lemmas.Bool.{ne_eqb}
 use Rattle.rcc5_core.specs.declared.Rel.{Rel}
@@ -9,12 +10,16 @@ use Rattle.rcc5_core.specs.RelationSet.{next_of}
 use Rattle.cert_rules.specs.Order.{is_shown, least_from, from_below, onward, or_later}
 use Rattle.std.proofs.lemmas.List.{length-map}
 use Rattle.world_model.specs.Alive.{allowed}
-use Rattle.cert_rules.specs.Trees.{Tree, same_last, sets_of}
+use Rattle.lits_core.specs.Derivation.{State}
+use Rattle.cert_text.specs.declared.line.CertLine.{CertLine}
+use Rattle.cert_rules.specs.declared.RejectKind.{RejectKind}
+use Rattle.cert_rules.specs.declared.RejectKind.TheVariants.{MissingBranch}
+use Rattle.cert_rules.specs.Trees.{Tree, same_last, sets_of, names, node_fault, tree_fault}
 use Rattle.cert_rules.specs.FromTheEnd.{from_after, found_or, set_at}
 use Rattle.cert_rules.proofs.FromTheEnd.{found_from_the_end_law}
 use Rattle.cert_rules.proofs.Nexts.{shown_below, shown_above, shown_first, next_shown}
 use Rattle.world_model.proofs.Relations.{next_is_in}
-use Rattle.cert_tree.specs.Walks.{IsPath, IsBeside, least_with}
+use Rattle.cert_tree.specs.Walks.{IsPath, IsBeside, least_with, node_of, name_fault}
 
 -- nothing comes below a full path
 pub full : (sets : List RelSet) (from m : List Rel) → length sets ≤ length m → onward sets from true m ≡ onward sets from false m
@@ -161,3 +166,13 @@ below_full tree m branches branch long = ap (λ b. onward (sets_of tree) tree.fr
 
 pub below_shown : (tree : Tree) (m n : List Rel) (branches : Bool) → is_shown tree.from m ≡ true → onward (sets_of tree) tree.from branches m ≡ Some n → is_shown tree.from n ≡ true
 below_shown tree m n branches shown next = next_shown (sets_of tree) tree.from branches m n shown next
+
+named_or : (b : Bool) (fault : Option RejectKind) → option_or (cond b None (Some MissingBranch)) fault ≡ cond b fault (Some MissingBranch)
+named_or true fault = refl
+named_or false fault = refl
+
+-- what is wrong with a line is what is wrong with its name, or else with what it says of the node
+pub both_faults : (tree : Tree) (proof : State) (expected : Bool) (m : List Rel) (line : CertLine) →
+    option_or (name_fault (node_of expected m) line) (node_fault tree proof m line) ≡ tree_fault tree proof (node_of expected m) line
+both_faults tree proof true m line = named_or (names m line) (node_fault tree proof m line)
+both_faults tree proof false m line = refl

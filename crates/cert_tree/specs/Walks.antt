@@ -3,6 +3,10 @@ use Rattle.std.specs.Prelude.{◌≡◌, ℕ, ◌≤◌, Bool, true, List, [], �
 use Rattle.rcc5_core.specs.declared.Rel.{Rel}
 use Rattle.rcc5_core.specs.declared.RelSet.{RelSet}
 use Rattle.rcc5_core.specs.RelationSet.{has, first_of, next_of}
+use Rattle.cert_text.specs.declared.line.CertLine.{CertLine}
+use Rattle.cert_rules.specs.declared.RejectKind.{RejectKind}
+use Rattle.cert_rules.specs.declared.RejectKind.TheVariants.{ExtraBranch, MissingBranch}
+use Rattle.cert_rules.specs.Trees.{names}
 use Rattle.cert_rules.specs.Order.{is_shown}
 use Rattle.cert_rules.specs.FromTheEnd.{from_after}
 use Rattle.cert_tree.specs.declared.path.Walk.{Walk}
@@ -22,6 +26,11 @@ node_of expected path = if expected then Some path else None
 
 abbrev pub at_of : Walk → Option (List Rel)
 at_of walk = node_of walk.expected walk.path
+
+-- what is wrong with the name that a line has for the expected node
+abbrev pub name_fault : Option (List Rel) → CertLine → Option RejectKind
+name_fault None line = Some ExtraBranch
+name_fault (Some m) line = if names m line then None else Some MissingBranch
 
 -- the least relation of a set that isn't left of the first of the start
 abbrev pub least_with : RelSet → Option Rel → Option Rel

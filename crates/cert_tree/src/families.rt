@@ -43,10 +43,13 @@ impl Tree {
         requires { length path.now ≤ length self.now.levels }
         ensures { result ≡ world_fault self.now path.now words }
     {
-        match met_family(&self.subject, words) {
-            Some(family) if self.is_table(path, &family) => None,
-            Some(_) => Some(RejectKind::FamilyHasOtherTable),
-            None => Some(RejectKind::FamilyDoesNotMeet),
+        let Some(family) = met_family(&self.subject, words) else {
+            return Some(RejectKind::FamilyDoesNotMeet);
+        };
+        if self.is_table(path, &family) {
+            None
+        } else {
+            Some(RejectKind::FamilyHasOtherTable)
         }
     }
 

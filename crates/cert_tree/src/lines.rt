@@ -2,7 +2,7 @@
 
 ghost use Rattle.std.specs.Prelude.{◌≡◌, ◌≤◌, length, OnOk};
 ghost use Rattle.cert_rules.specs.Trees.{names, is_branch, branch_fault, node_fault, tree_fault, end_fault, tree_next};
-ghost use Rattle.cert_tree.specs.Walks.{IsWalk, at_of};
+ghost use Rattle.cert_tree.specs.Walks.{IsWalk, at_of, name_fault};
 
 use crate::path::Walk;
 use crate::relations::{is_node_at, is_same_position};
@@ -25,10 +25,18 @@ impl Walk {
         requires { IsWalk self.now }
         ensures { result ≡ tree_fault self.now.tree book.now (at_of self.now) line }
     {
+        // What it says is looked at in any case, so that no early end lets go of the line.
+        self.name_fault(&line).or(self.node_fault(book, line))
+    }
+
+    /// What is wrong with the name that a line has for the expected node.
+    fn name_fault(&self, line: &CertLine) -> Option<RejectKind>
+        ensures { result ≡ name_fault (at_of self.now) line.now }
+    {
         if !self.expected {
             Some(RejectKind::ExtraBranch)
-        } else if self.is_named(&line) {
-            self.node_fault(book, line)
+        } else if self.is_named(line) {
+            None
         } else {
             Some(RejectKind::MissingBranch)
         }
