@@ -9,7 +9,7 @@ use crate::blocks::Blocks;
 use outer_store::{Source, StoreFault};
 
 /// What was brought together.
-#[derive(Clone, Copy, Debug, PartialEq, Eq)]
+#[derive(Clone, Copy)]
 pub(crate) enum Gathered {
     /// A line up to its LF.
     Line,

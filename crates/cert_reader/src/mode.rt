@@ -10,7 +10,7 @@ use proof_text::{LineTextFault, Words};
 use std::alloc::Global;
 
 /// Where a line stands.
-#[derive(Clone, Copy, Debug, PartialEq, Eq)]
+#[derive(Clone, Copy, PartialEq, Eq)]
 pub(crate) enum Mode {
     /// At the top.
     Header,

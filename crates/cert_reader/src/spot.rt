@@ -15,7 +15,7 @@ use std::alloc::Global;
 const LIMIT: u64 = 1 << 36;
 
 /// What stands before a line: in which mode it stands, its number, counted from 1, and how many bytes come before it.
-#[derive(Clone, Copy, Debug)]
+#[derive(Clone, Copy)]
 pub(crate) struct Spot {
     pub(crate) mode: Mode,
     pub(crate) line: u64,
