@@ -57,7 +57,7 @@ impl RawFamily {
 }
 
 /// A bit for each articulation, in input order: whether it is kept.
-#[derive(Drop)]
+#[derive(Debug, Drop)]
 pub struct Flags {
     list: Vec<bool>,
 }
