@@ -21,14 +21,14 @@ use std::alloc::{AllocError, Global};
 use world_search::{Nodes, Search, Step, StepFault, TableStep};
 
 /// How many worlds were put, up to the last value of a u64, and the node before which the budget was used up, if any.
-#[derive(Debug, Drop)]
+#[derive(Drop)]
 pub struct Listed {
     pub count: u64,
     pub cut: Option<Position>,
 }
 
 /// What a search without an end meets next.
-#[derive(Debug, Drop)]
+#[derive(Drop)]
 pub(crate) enum Met {
     World(Position),
     /// No node may be visited any more, and this one is next.

@@ -43,7 +43,7 @@ impl<T: Drop> From<AllocFailed<T>> for CheckFault {
 }
 
 /// Why a line is not taken.
-#[derive(Clone, Copy, Debug, PartialEq, Eq)]
+#[derive(Clone, Copy, PartialEq, Eq)]
 pub(crate) enum Stop {
     Rejected(RejectKind),
     NoMemory,

@@ -3,7 +3,7 @@ use cert_text::Flags;
 use mir_report::MirSets;
 
 /// What is asked of a problem.
-#[derive(Clone, Copy, Debug, PartialEq, Eq)]
+#[derive(Clone, Copy, PartialEq, Eq)]
 pub enum Question {
     /// Which relations remain possible.
     Relations,
@@ -12,7 +12,7 @@ pub enum Question {
 }
 
 /// What is answered.
-#[derive(Debug, Drop)]
+#[derive(Drop)]
 pub enum Answer {
     /// The possible relations of each pair across taxonomies, and whether there is a world.
     Possible { mir: MirSets, some: bool },

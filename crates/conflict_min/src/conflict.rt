@@ -14,7 +14,7 @@ use set_family::Family;
 use std::alloc::Global;
 
 /// Articulations that are in conflict.
-#[derive(Debug, Drop)]
+#[derive(Drop)]
 pub struct Conflict {
     /// A flag for each articulation of the problem, in input order: whether it is one of them.
     pub kept: Vec<bool>,
@@ -23,7 +23,7 @@ pub struct Conflict {
 }
 
 /// Why there is no conflict.
-#[derive(Debug, Drop)]
+#[derive(Drop)]
 pub enum ConflictFault {
     /// This family meets the problem with all its articulations.
     Consistent(Family),
@@ -32,7 +32,7 @@ pub enum ConflictFault {
 }
 
 /// What is found of all articulations.
-#[derive(Debug, Drop)]
+#[derive(Drop)]
 pub(crate) enum Found {
     /// They hold together.
     Consistent(Family),

@@ -20,14 +20,14 @@ use std::alloc::{AllocError, Global};
 const MOST_REASONS: usize = 8;
 
 /// A need, by its number, and the id of a clause that closes it.
-#[derive(Clone, Copy, Debug)]
+#[derive(Clone, Copy)]
 pub struct Reason {
     pub need: u64,
     pub clause: u64,
 }
 
 /// Where a dead node has a need without a point, as far as somebody knows: a hint.
-#[derive(Clone, Copy, Debug)]
+#[derive(Clone, Copy)]
 pub enum Guess {
     /// Nobody knows.
     Unknown,
@@ -51,7 +51,7 @@ impl Guess {
 }
 
 /// A need, by its number, and a clause that closed it.
-#[derive(Clone, Copy, Debug)]
+#[derive(Clone, Copy)]
 struct Kept {
     need: u64,
     by: Hint,

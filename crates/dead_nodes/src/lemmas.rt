@@ -21,7 +21,7 @@ const MOST_IDS: usize = 524_288;
 const MOST_STEPS: usize = 32;
 
 /// One of the clauses that show another: one that is kept, by its place, or another by its id.
-#[derive(Clone, Copy, Debug)]
+#[derive(Clone, Copy)]
 pub(crate) enum Hint {
     Lemma(usize),
     Clause(u64),

@@ -18,14 +18,14 @@ pub(crate) struct Given {
 }
 
 /// A clause that is to be shown: its literals, and the ids of the two clauses that show it.
-#[derive(Clone, Copy, Debug)]
+#[derive(Clone, Copy)]
 pub(crate) struct Draft {
     pub lits: [Lit; 3],
     pub hints: [u64; 2],
 }
 
 /// What lies in one concept and in another, or in the one alone.
-#[derive(Clone, Copy, Debug)]
+#[derive(Clone, Copy)]
 struct Part {
     inside: u32,
     other: u32,
@@ -33,7 +33,7 @@ struct Part {
 }
 
 /// A region of a pair, by their numbers.
-#[derive(Clone, Copy, Debug)]
+#[derive(Clone, Copy)]
 pub(crate) struct Region {
     pub pair: u32,
     pub part: u32,

@@ -21,7 +21,7 @@ use std::alloc::{AllocError, Global};
 const PARTS: [u8; 3] = [1, 0, 2];
 
 /// Why a node is dead.
-#[derive(Clone, Copy, Debug)]
+#[derive(Clone, Copy)]
 pub enum WhyDead {
     /// A need of it has no point.
     NoPoint(Reason),

@@ -16,7 +16,7 @@ use std::alloc::{AllocError, Global};
 
 /// A need without a point where a pair is narrowed, by its number; and its place among the needs of the problem, where it has one
 /// as long as the pair is not narrowed.
-#[derive(Clone, Copy, Debug)]
+#[derive(Clone, Copy)]
 pub(crate) struct Lost {
     pub number: u64,
     pub place: Option<usize>,

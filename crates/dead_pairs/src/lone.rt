@@ -16,7 +16,7 @@ use rcc5_core::{Occupancy, Regions, Rel, RelSet, forced};
 use world_model::pairs_stand_once;
 
 /// A pair, by its number, and the relation to which it is narrowed.
-#[derive(Clone, Copy, Debug)]
+#[derive(Clone, Copy)]
 pub struct Lone {
     pub pair: u32,
     pub rel: Rel,

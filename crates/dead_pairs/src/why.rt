@@ -18,7 +18,7 @@ use search_log::tidy_by_turns;
 use std::alloc::AllocError;
 
 /// A need, by its number, and the id of a clause that leaves it no point.
-#[derive(Clone, Copy, Debug)]
+#[derive(Clone, Copy)]
 pub struct Closing {
     pub need: u64,
     pub clause: u64,

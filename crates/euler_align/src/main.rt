@@ -18,7 +18,7 @@ use world_watch::{
 };
 
 /// Why there are no words to go by.
-#[derive(Clone, Copy, Debug)]
+#[derive(Clone, Copy)]
 enum NoWords {
     /// The system gives none.
     Refused,

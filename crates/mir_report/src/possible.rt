@@ -34,7 +34,7 @@ pub(crate) const RELS: [Rel; 5] = [
 ];
 
 /// For each pair across taxonomies, in order, the relations that some possible world has there.
-#[derive(Debug, Drop)]
+#[derive(Drop)]
 pub struct MirSets {
     pub sets: Vec<RelSet>,
 }

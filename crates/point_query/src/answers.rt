@@ -6,7 +6,7 @@ use point_encode::Need;
 use std::marker::Model;
 
 /// Points, in order.
-#[derive(Debug, Drop)]
+#[derive(Drop)]
 pub struct Points {
     list: Vec<Bits>,
 }
@@ -34,7 +34,7 @@ impl Points {
 }
 
 /// Of a need: a point in it, or the id of a clause that shows that there is none.
-#[derive(Debug, Drop)]
+#[derive(Drop)]
 pub enum Found {
     Point(Bits),
     Closed(u64),
@@ -42,7 +42,7 @@ pub enum Found {
 
 /// Of a prefix: one point for each need, in order; or the first pair that allows nothing; or the first need without a
 /// point, and the clause that shows it.
-#[derive(Debug, Drop)]
+#[derive(Drop)]
 pub enum Alive {
     Points(Points),
     EmptyPair(u32),
@@ -50,7 +50,7 @@ pub enum Alive {
 }
 
 /// The same without the points.
-#[derive(Clone, Copy, Debug, PartialEq, Eq)]
+#[derive(Clone, Copy, PartialEq, Eq)]
 pub enum Probe {
     Alive,
     EmptyPair(u32),

@@ -24,7 +24,7 @@ use std::marker::Model;
 /// A number u, and sets of numbers below u, one for each concept.
 ///
 /// Each set is a list of its numbers in ascending order, none twice.
-#[derive(Debug, Drop)]
+#[derive(Drop)]
 pub struct Family {
     universe: u32,
     sets: Vec<Vec<u32>>,

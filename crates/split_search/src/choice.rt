@@ -2,7 +2,7 @@
 use set_family::Family;
 
 /// Whether some family meets a problem.
-#[derive(Debug, Drop)]
+#[derive(Drop)]
 pub enum Choice {
     /// This one does.
     Met(Family),

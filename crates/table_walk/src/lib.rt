@@ -10,7 +10,7 @@ use rcc5_core::RelSet;
 pub use tables::Tables;
 
 /// A place on a path at which other relations than the one there may lead on.
-#[derive(Clone, Copy, Debug, PartialEq, Eq)]
+#[derive(Clone, Copy, PartialEq, Eq)]
 pub struct Level {
     pub depth: usize,
     /// All relations that lead on there.

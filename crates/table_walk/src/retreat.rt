@@ -14,7 +14,7 @@ use std::alloc::AllocError;
 const FIRST_PATIENCE: usize = 64;
 
 /// How long a way goes on without a world before it asks whether its path leads to one: a hint.
-#[derive(Clone, Copy, Debug, PartialEq, Eq)]
+#[derive(Clone, Copy, PartialEq, Eq)]
 pub(crate) struct Patience {
     /// The steps since the last world or retreat.
     pub(crate) steps: usize,

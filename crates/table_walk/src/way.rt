@@ -13,7 +13,7 @@ use rcc5_core::{Rel, RelSet};
 use std::alloc::AllocError;
 
 /// How far a way is.
-#[derive(Clone, Copy, Debug, PartialEq, Eq)]
+#[derive(Clone, Copy, PartialEq, Eq)]
 pub enum Stage {
     /// It stands at a prefix that is alive.
     Standing,

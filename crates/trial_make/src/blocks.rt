@@ -5,7 +5,7 @@ ghost use Rattle.trial_make.specs.Draws.{next_draw, form_of, blocks_of};
 use std::alloc::{AllocError, Global};
 
 /// What is said of a block: which of its three concepts equal those of their names.
-#[derive(Clone, Copy, Debug, PartialEq, Eq)]
+#[derive(Clone, Copy, PartialEq, Eq)]
 pub enum Form {
     /// The block itself.
     Loose,
@@ -18,7 +18,7 @@ pub enum Form {
 }
 
 /// A block: a concept with two children, counted from 1.
-#[derive(Clone, Copy, Debug)]
+#[derive(Clone, Copy)]
 pub struct Block {
     pub number: u32,
     pub is_swapped: bool,

@@ -4,13 +4,13 @@ use rcc5_core::Position;
 use set_family::Family;
 
 /// How many nodes may still be visited. None is no limit.
-#[derive(Clone, Copy, Debug, PartialEq, Eq)]
+#[derive(Clone, Copy, PartialEq, Eq)]
 pub struct Nodes {
     pub left: Option<u64>,
 }
 
 /// A step of a search.
-#[derive(Debug, Drop)]
+#[derive(Drop)]
 pub enum Step {
     /// The next world, and a family that meets the problem and has this table.
     World(Position, Family),
@@ -21,7 +21,7 @@ pub enum Step {
 }
 
 /// A step of a search, without a family.
-#[derive(Debug, Drop)]
+#[derive(Drop)]
 pub enum TableStep {
     /// The next world.
     World(Position),

@@ -23,7 +23,7 @@ use std::alloc::{AllocError, Global};
 use world_model::alive_tables_are_worlds;
 
 /// How far a walk is.
-#[derive(Clone, Copy, Debug, PartialEq, Eq)]
+#[derive(Clone, Copy, PartialEq, Eq)]
 pub enum Stage {
     /// The first node is yet to be found.
     Start,
@@ -34,14 +34,14 @@ pub enum Stage {
 }
 
 /// Where a walk begins, and before which position it ends, if before one.
-#[derive(Debug, Drop)]
+#[derive(Drop)]
 pub struct Span {
     pub from: Position,
     pub to: Option<Position>,
 }
 
 /// A place among the nodes: a path, and the relation that is to be added to it next.
-#[derive(Debug, Drop)]
+#[derive(Drop)]
 pub struct Walk {
     pub stage: Stage,
     pub path: Position,
@@ -156,7 +156,7 @@ fn is_here_alive(
 
 /// What a visit finds at a node: it is a world; or it is none, and these relations lead on from it to an alive one, or it is
 /// dead.
-#[derive(Clone, Copy, Debug, PartialEq, Eq)]
+#[derive(Clone, Copy, PartialEq, Eq)]
 pub(crate) enum Found {
     World,
     NoWorld(Option<RelSet>),
