@@ -13,7 +13,7 @@ use Rattle.cert_rules.specs.declared.RejectKind.{RejectKind}
 use Rattle.cert_rules.proofs.FromTheEnd.{found_from_the_end_law}
 use Rattle.cert_tree.specs.Levels.{tree_over, bare_tree}
 use Rattle.cert_tree.specs.Walks.{IsPath, node_of, at_of}
-use Rattle.cert_check.specs.declared.claims.OpenTree.{OpenTree}
+use Rattle.cert_check.specs.declared.open_tree.OpenTree.{OpenTree}
 use Rattle.cert_check.specs.Claiming.{IsBlock}
 
 -- the tree that is made anew is that of the subject

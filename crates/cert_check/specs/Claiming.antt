@@ -10,7 +10,7 @@ use Rattle.cert_check.specs.declared.fault.Stop.{Stop}
 use Rattle.cert_check.specs.declared.fault.Stop.TheVariants as stop
 use Rattle.cert_check.specs.declared.listing.Turn.{Turn}
 use Rattle.cert_check.specs.declared.listing.Turn.TheVariants as turn
-use Rattle.cert_check.specs.declared.claims.OpenTree.{OpenTree}
+use Rattle.cert_check.specs.declared.open_tree.OpenTree.{OpenTree}
 use Rattle.cert_check.specs.declared.claims.Claims.{Claims}
 use Rattle.cert_tree.specs.Levels.{bare_tree}
 use Rattle.cert_tree.specs.Walks.{at_of, IsWalk}

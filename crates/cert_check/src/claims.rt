@@ -7,11 +7,9 @@ ghost use Rattle.world_model.specs.Family.{meets};
 ghost use Rattle.world_model.specs.Node.{pair_at};
 ghost use Rattle.set_family.specs.Sets.{family_from};
 ghost use Rattle.cert_rules.specs.Trees.{fault_or, family_fault};
-ghost use Rattle.cert_rules.specs.ClaimLists.{claim_start, claim_role, ForNode, holds_fault, subject_fault, subject_problem, subject_tree, stray_kind};
+ghost use Rattle.cert_rules.specs.ClaimLists.{claim_start, claim_role, ForNode, holds_fault, subject_fault, subject_problem, subject_tree};
 ghost use Rattle.cert_text.specs.declared.line.CertLine.TheVariants.{Proof, Holds as HoldsLine, Fails as FailsLine, End};
-ghost use Rattle.cert_check.specs.declared.fault.Stop.TheVariants.{Rejected};
 ghost use Rattle.cert_check.specs.declared.accepted.Accepted.TheVariants.{Claims as AcceptedClaims};
-ghost use Rattle.cert_tree.specs.Levels.{tree_over};
 ghost use Rattle.cert_tree.specs.Walks.{IsWalk, at_of};
 ghost use Rattle.cert_check.specs.Claiming.{AreClaims, IsOpen, IsBlock, AreMet, claim_stand, block_of, with_block, is_node, IsClaimStep};
 
@@ -19,63 +17,16 @@ use crate::accepted::{Accepted, Claim, ClaimList};
 use crate::fault::{Stop, stop_at};
 use crate::known::Known;
 use crate::listing::{Turn, given_book};
+use crate::open_tree::OpenTree;
 use cert_rules::RejectKind;
 use cert_text::{CertLine, RawFamily, Subject};
 use cert_tree::{Tree, Walk, family_fault, is_branch};
 use constraint_set::Problem;
 use lits_core::Line;
 use proof_check::Book;
-use rcc5_core::{Position, Rel, RelSet};
+use rcc5_core::{Rel, RelSet};
 use set_family::Family;
 use std::alloc::{AllocError, Global};
-
-/// A tree that is not yet at its end.
-pub(crate) struct OpenTree {
-    pub(crate) subject: Subject,
-    pub(crate) walk: Walk,
-}
-
-// Written out, so that letting one go is a call.
-impl Drop for OpenTree {
-    fn drop(self) {
-        let OpenTree {
-            subject: _,
-            walk: _,
-        } = self;
-    }
-}
-
-impl OpenTree {
-    /// What it is about.
-    fn into_subject(self) -> Subject
-        ensures { result ≡ self.subject }
-    {
-        let OpenTree { subject, walk: _ } = self;
-        subject
-    }
-
-    /// The same with the pairs on which its tree branches.
-    fn over_splits(self, alloc: Global) -> Result<OpenTree, AllocError>
-        ensures { IfOk result (λ new. new ≡ record self { walk = record self.walk { tree = tree_over self.walk.tree.subject false [] } }) }
-    {
-        let OpenTree { subject, mut walk } = self;
-        let problem = walk.tree.into_subject();
-        let tree = Tree::new(alloc, problem, false, Position::new(alloc))?;
-        walk.tree = tree;
-        Ok(OpenTree { subject, walk })
-    }
-
-    /// Why a line that is none of a tree is not taken.
-    fn stray(&self) -> Stop
-        ensures { result ≡ Rejected (stray_kind (at_of self.now.walk)) }
-    {
-        if self.walk.expected {
-            Stop::Rejected(RejectKind::MissingBranch)
-        } else {
-            Stop::Rejected(RejectKind::ExtraBranch)
-        }
-    }
-}
 
 /// The lines of a list of claims that were taken so far.
 pub(crate) struct Claims {

@@ -9,6 +9,7 @@ mod fault;
 mod known;
 mod laws;
 mod listing;
+mod open_tree;
 
 pub use accepted::{Accepted, Claim, ClaimList, Worlds};
 pub use cert_rules::RejectKind;

@@ -69,14 +69,12 @@ pub(crate) fn first_bare(frame: &Rows, left: &[u64], right: &[u64], words: Regio
         return None;
     }
     let mask = frame.row(0);
-    for (number, region) in [
-        (0, Region::LeftOnly),
-        (1, Region::Both),
-        (2, Region::RightOnly),
-    ] {
+    let mut number: u8 = 0;
+    for region in [Region::LeftOnly, Region::Both, Region::RightOnly] {
         if !is_met(mask, left, right, words, region) {
             return Some(number);
         }
+        number = number.saturating_add(1);
     }
     None
 }
