@@ -35,6 +35,7 @@ part() {
   fi
 }
 part "documents" python3 documents.py "$program"
+part "wrong_bodies" python3 wrong_bodies.py
 part "tools/draw" python3 ../tools/test_draw.py
 part "tools/from_csv" python3 ../tools/test_from_csv.py
 part "rows" python3 rows.py "$program"
