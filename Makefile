@@ -1,9 +1,11 @@
 # The program is built by the kit (`rt`), which proves it first; this says the few commands by their usual names.
 
 PREFIX ?= /usr/local
-PROGRAM = crates/euler_align/out/euler_align
+PROGRAM ?= crates/euler_align/out/euler_align
+VERSION = $(shell cat VERSION)
+SHARE = $(DESTDIR)$(PREFIX)/share
 
-.PHONY: all check pages tools install uninstall
+.PHONY: all check pages tools install uninstall dist deb completions
 
 # Builds, and runs a small example. From nothing it takes tens of minutes, since all is proved.
 all:
@@ -20,15 +22,32 @@ pages:
 	python3 tests/documents.py
 
 tools:
-	python3 tools/test_draw.py
-	python3 tools/test_from_csv.py
+	for test in tools/test_*.py; do python3 $$test || exit 1; done
+
+# The completions, and the lists of the manual page, from completions/keys.txt.
+completions:
+	completions/generate
 
 install:
 	@test -x $(PROGRAM) || { echo "make: there is no $(PROGRAM); run make first" >&2; exit 1; }
 	install -D -m 755 $(PROGRAM) $(DESTDIR)$(PREFIX)/bin/euler_align
-	install -D -m 644 man/euler_align.1 $(DESTDIR)$(PREFIX)/share/man/man1/euler_align.1
-	install -D -m 644 completions/euler_align.bash $(DESTDIR)$(PREFIX)/share/bash-completion/completions/euler_align
+	install -D -m 644 man/euler_align.1 $(SHARE)/man/man1/euler_align.1
+	install -D -m 644 completions/euler_align.bash $(SHARE)/bash-completion/completions/euler_align
+	install -D -m 644 completions/_euler_align $(SHARE)/zsh/site-functions/_euler_align
+	install -D -m 644 completions/euler_align.fish $(SHARE)/fish/vendor_completions.d/euler_align.fish
 
 uninstall:
-	rm -f $(DESTDIR)$(PREFIX)/bin/euler_align $(DESTDIR)$(PREFIX)/share/man/man1/euler_align.1 \
-	  $(DESTDIR)$(PREFIX)/share/bash-completion/completions/euler_align
+	rm -f $(DESTDIR)$(PREFIX)/bin/euler_align $(SHARE)/man/man1/euler_align.1 \
+	  $(SHARE)/bash-completion/completions/euler_align $(SHARE)/zsh/site-functions/_euler_align \
+	  $(SHARE)/fish/vendor_completions.d/euler_align.fish
+
+# The sources that are committed, as packaging/out/euler_align-VERSION.tar.gz.
+dist:
+	@git rev-parse --is-inside-work-tree >/dev/null 2>&1 || { echo "make: dist packs what git has; this is no clone" >&2; exit 1; }
+	mkdir -p packaging/out
+	git archive --format=tar.gz --prefix=euler_align-$(VERSION)/ -o packaging/out/euler_align-$(VERSION).tar.gz HEAD
+	@echo "made: packaging/out/euler_align-$(VERSION).tar.gz"
+
+# A Debian package of the built program with its tools and pages, as packaging/out/euler-align_VERSION_ARCHITECTURE.deb.
+deb:
+	packaging/deb $(PROGRAM)

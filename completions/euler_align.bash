@@ -1,4 +1,4 @@
-# Completion for bash: source this file, or put it where bash-completion looks for it.
+# Completion for bash, made from completions/keys.txt by completions/generate: source it, or put it where bash-completion looks for it.
 
 _euler_align() {
   local current=${COMP_WORDS[COMP_CWORD]} command=${COMP_WORDS[1]} keys word
@@ -13,7 +13,9 @@ _euler_align() {
   else
     case $command in
       align) keys="in= cert= nonempty= sibling= coverage= nodes= worlds= token= resume=" ;;
-      check | mir | conflict) keys="in= cert= nonempty= sibling= coverage=" ;;
+      check) keys="in= cert= nonempty= sibling= coverage=" ;;
+      mir) keys="in= cert= nonempty= sibling= coverage=" ;;
+      conflict) keys="in= cert= nonempty= sibling= coverage=" ;;
       report) keys="in= kinds= nonempty= sibling= coverage=" ;;
       trial) keys="seed= size=" ;;
     esac
@@ -26,7 +28,9 @@ _euler_align() {
       mapfile -t COMPREPLY < <(compgen -f -- "$current")
       compopt -o filenames
       ;;
-    nonempty= | sibling= | coverage=) mapfile -t COMPREPLY < <(compgen -W "on off" -- "$current") ;;
+    nonempty=) mapfile -t COMPREPLY < <(compgen -W "on off" -- "$current") ;;
+    sibling=) mapfile -t COMPREPLY < <(compgen -W "on off" -- "$current") ;;
+    coverage=) mapfile -t COMPREPLY < <(compgen -W "on off" -- "$current") ;;
     kinds=)
       # what stands before the last comma stays
       local before=

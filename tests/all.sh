@@ -37,7 +37,19 @@ part() {
 part "documents" python3 documents.py "$program"
 part "wrong_bodies" python3 wrong_bodies.py
 part "tools/draw" python3 ../tools/test_draw.py
+part "tools/lint" python3 ../tools/test_lint.py
+part "tools/page, its parts" python3 ../tools/test_page.py
+part "tools/page" python3 page.py "$program"
 part "tools/from_csv" python3 ../tools/test_from_csv.py
+part "tools: names" python3 ../tools/test_names.py
+part "tools: tables of other programs" python3 ../tools/test_other_tables.py
+part "tools/from_skos" env EULER_ALIGN="$program" python3 ../tools/test_from_skos.py
+part "tools: damaged tables" python3 ../tools/test_damaged.py
+part "tools/to_table" env EULER_ALIGN="$program" python3 ../tools/test_to_table.py
+part "tools/list, tools/watch" env EULER_ALIGN="$program" python3 ../tools/test_long_work.py
+part "completions" python3 completions.py "$program"
+part "figures" python3 figures.py
+part "package" ./package.sh "$program"
 part "rows" python3 rows.py "$program"
 part "faults" python3 faults.py "$scenes"
 part "json_names" python3 json_names.py --program "$program"

@@ -34,21 +34,22 @@ class Draw(unittest.TestCase):
         self.assertEqual(
             out,
             r"""digraph merged {
-  rankdir=BT;
-  node [shape=box, fillcolor="#e8eef7"];
+  rankdir=BT; outputorder=nodesfirst; nodesep=0.25; ranksep=0.5;
+  node [shape=box, style=filled, fontname="Helvetica", fontsize=12, height=0.4, margin="0.12,0.05"];
+  edge [color="#555555", arrowsize=0.7];
   subgraph cluster_1 {
-    label="world 1";
-    w1c1 [label="1.A\n2.A", style=filled];
-    w1c2 [label="1.B"];
-    w1c3 [label="2.B"];
+    label="world 1"; labelloc=b; fontname="Helvetica";
+    w1c1 [label="1.A\n2.A", fillcolor="#ffffff", penwidth=2];
+    w1c2 [label="1.B", fillcolor="#f6c667"];
+    w1c3 [label="2.B", fillcolor="#9fd0f5"];
     w1c2 -> w1c1;
     w1c3 -> w1c1;
-    w1c2 -> w1c3 [style=dashed, dir=none, constraint=false];
+    w1c2 -> w1c3 [style=dashed, dir=none, constraint=false, color="#c4400a", penwidth=1.5];
   }
   subgraph cluster_2 {
-    label="world 2";
-    w2c1 [label="1.A\n2.A", style=filled];
-    w2c2 [label="1.B\n2.B", style=filled];
+    label="world 2"; labelloc=b; fontname="Helvetica";
+    w2c1 [label="1.A\n2.A", fillcolor="#ffffff", penwidth=2];
+    w2c2 [label="1.B\n2.B", fillcolor="#ffffff", penwidth=2];
     w2c2 -> w2c1;
   }
 }
@@ -59,8 +60,24 @@ class Draw(unittest.TestCase):
         code, out, _ = draw(TWO_WORLDS, "--world", "2")
         self.assertEqual(code, 0)
         self.assertNotIn("cluster", out)
-        self.assertIn('  w2c2 [label="1.B\\n2.B", style=filled];\n', out)
+        self.assertIn('  w2c2 [label="1.B\\n2.B", fillcolor="#ffffff", penwidth=2];\n', out)
         self.assertNotIn("w1c1", out)
+
+    def test_a_large_world_is_drawn_from_left_to_right(self):
+        many = lambda count: '{"classes":[["1.r"]' + "".join(f',["2.c{k}"]' for k in range(count - 1)) + '],"splits":[],"under":[]}\n'
+        self.assertIn("rankdir=BT;", draw(many(30))[1])
+        self.assertIn("rankdir=RL;", draw(many(31))[1])
+
+    def test_of_many_worlds_the_first(self):
+        worlds = '{"classes":[["1.A"]],"splits":[],"under":[]}\n' * 11
+        code, out, err = draw(worlds)
+        self.assertEqual((code, "cluster" in out), (0, False))
+        self.assertEqual(err, "draw: note: the first of 11 worlds; --world N draws another one, and --all draws all\n")
+        code, out, err = draw(worlds, "--all")
+        self.assertEqual((code, out.count("cluster"), err), (0, 11, ""))
+        code, out, err = draw(worlds, "--world", "11")
+        self.assertEqual((code, "w11c1" in out, err), (0, True, ""))
+        self.assertEqual(draw(worlds[: worlds.index("\n") + 1] * 10)[1].count("cluster"), 10)
 
     def test_splits_of_one_pair_of_classes_are_one_line(self):
         line = (
@@ -76,8 +93,8 @@ class Draw(unittest.TestCase):
         )
         code, out, err = draw(line + "\n")
         self.assertEqual((code, err), (0, ""))
-        self.assertIn(r'[label="1.a\"b"]', out)
-        self.assertIn(r'[label="1.c\\d"]', out)
+        self.assertIn(r'[label="1.a\"b", ', out)
+        self.assertIn(r'[label="1.c\\d", ', out)
         self.assertIn("w1c2 -> w1c3 [style=dashed", out)
 
     def test_what_it_refuses(self):

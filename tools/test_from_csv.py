@@ -5,14 +5,13 @@
 """
 
 import os
-import subprocess
 import sys
-import tempfile
 import unittest
 
 HERE = os.path.dirname(os.path.abspath(__file__))
 sys.path.insert(0, os.path.join(HERE, "../tests"))
 import plain  # noqa: E402
+import tool_runs  # noqa: E402
 
 OLD = "child,parent,note\nSeating,Furniture,\nChair,Seating,\"with, a comma\"\n\nSofa,Seating\nFurniture,,\nMirror,,alone\n"
 NEW = "\ufeffparent,child\r\n,Goods\r\nGoods,Seats\r\n"
@@ -21,17 +20,11 @@ LINKS = "left,relation,right\n1.Furniture,equals,2.Goods\n1.Chair,< ==,2.Seats\n
 
 class FromCsv(unittest.TestCase):
     def setUp(self):
-        self.folder = tempfile.TemporaryDirectory()
-        self.addCleanup(self.folder.cleanup)
+        self.folder = tool_runs.Folder(self)
 
     def make(self, *words, **files):
-        for name, text in files.items():
-            with open(os.path.join(self.folder.name, name), "wb") as file:
-                file.write(text if isinstance(text, bytes) else text.encode())
-        done = subprocess.run(
-            [sys.executable, os.path.join(HERE, "from_csv"), *words], cwd=self.folder.name, capture_output=True, check=False
-        )
-        return done.returncode, done.stdout.decode(), done.stderr.decode()
+        self.folder.write(files)
+        return self.folder.run("from_csv", *words)
 
     def refused(self, says, *words, **files):
         code, out, err = self.make(*words, **files)
@@ -43,7 +36,8 @@ class FromCsv(unittest.TestCase):
         self.assertEqual(
             out,
             "taxonomy 1\n(Furniture Seating)\n(Seating Chair Sofa)\n(Mirror)\ntaxonomy 2\n(Goods Seats)\narticulation\n"
-            "[1.Furniture equals 2.Goods]\n[1.Chair {is_included_in equals} 2.Seats]\n[2.Seats sums 1.Chair 1.Sofa]\n",
+            "[1.Furniture equals 2.Goods]  # links row 2\n[1.Chair {is_included_in equals} 2.Seats]  # links row 3\n"
+            "[2.Seats sums 1.Chair 1.Sofa]  # links row 4\n",
         )
         problem = plain.read_problem(out.encode(), (True, True, True))
         self.assertEqual(len(problem.names), 7)
@@ -57,7 +51,7 @@ class FromCsv(unittest.TestCase):
         )
         self.assertEqual((code, err), (0, ""))
         self.assertIn('(Seat Arm_"chair")\n', out)
-        self.assertIn("[1.Seat sums 2.Dining_chair 2.Easy_chair]\n", out)
+        self.assertIn("[1.Seat sums 2.Dining_chair 2.Easy_chair]  # links row 2\n", out)
         plain.read_problem(out.encode(), (True, True, True))
         code, out, _ = self.make("1=old", "2=new", "--delimiter", "tab", old="child\tparent\na\tb\nb\t\n", new="child\tparent\nc\t\n")
         self.assertEqual((code, out), (0, "taxonomy 1\n(b a)\ntaxonomy 2\n(c)\narticulation\n"))
@@ -70,23 +64,24 @@ class FromCsv(unittest.TestCase):
     def test_names_that_cannot_be_taken(self):
         table = lambda name: f"child,parent\nA,\n{name},A\n"
         for name, says in [
-            ("Arm chair", "the name 'Arm chair' has a space; write it without, or give --blanks _"),
             ("A#1", "the name 'A#1' has `#`, which no name may have; leave it out"),
             ("A(1)", "the name 'A(1)' has `(`, which no name may have; leave it out"),
             ("a\x01", "the name 'a\\x01' has a control character; leave it out"),
             ("x" * 129, f"the name '{'x' * 129}' has more than 128 bytes; shorten it"),
         ]:
-            self.refused(f"old:3:1: {says}", "1=old", "2=new", old=table(name), new=NEW)
+            self.refused(f"old:3:1: {says}", "1=old", "2=new", "--blanks", "_", old=table(name), new=NEW)
+        says = f"old:3:1: the name '{'x' * 129}' has more than 128 bytes as it is written; shorten it, or give --names FILE"
+        self.refused(says, "1=old", "2=new", old=table("x" * 129), new=NEW)
         self.refused(
             "old:4:1: 'a_b' becomes 'a_b', as 'a b' does at old:3:1",
             "1=old", "2=new", "--blanks", "_", old="child,parent\nr,\na b,r\na_b,r\n", new=NEW,
         )
-        self.refused("the name '1.a' of a taxonomy has a full stop; leave it out", "1.a=old", "2=new", old=OLD, new=NEW)
+        self.refused("the name '1.a' of a taxonomy has a full stop; leave it out", "1.a=old", "2=new", "--blanks", "_", old=OLD, new=NEW)
         self.refused("there are two tables for the taxonomy 1", "1=old", "1=new", old=OLD, new=NEW)
 
     def test_rows_that_are_no_forest(self):
         for rows, says in [
-            ("b,a\nb,c\n", "old:3:3: b has another parent, a already, at old:2:3"),
+            ("b,a\nb,c\n", "old:3:3: b has another parent, a already, at old:2:3; a name is one concept, so call two concepts by two names (or give their paths, or ids)"),
             ("a,\nb,A\n", "old:3:3: the parent A has no row of its own; correct its spelling, or add a row in which it is the child and no parent stands"),
             ("b,a\nb,a\n", "old:3:3: b stands under a already, at old:2:3"),
             ("b,a\na,b\n", "old:3:3: a would stand under itself"),
@@ -99,12 +94,17 @@ class FromCsv(unittest.TestCase):
 
     def test_tables_that_cannot_be_read(self):
         for text, says in [
-            ("", "old:1:1: the table is empty; its first row names the columns child, parent"),
-            ("child\na\n", "old:1:1: the first row has no column `parent`; the columns are child, parent; if it is not commas that separate the values, give --delimiter"),
+            ("", "old:1:1: the table is empty; its first row names the columns"),
+            ("child\na\n", "old:1:1: the first row has no column `parent`; it has child; if it is not commas that separate the values, give --delimiter"),
+            (
+                "Name,Parent\na,\n",
+                "old:1:1: the first row has no column `child`; it has Name, Parent; with other names of columns, "
+                "give --columns child=NAME,parent=NAME (or path=NAME, or id=NAME,parent_id=NAME,name=NAME)",
+            ),
             ("child,parent,parent\na,,\n", "old:1:1: the first row names the column `parent` 2 times"),
             ('child,parent\n"a,b\n', "old:2:1: this quote is not closed"),
-            ('child,parent\n"a"b,c\n', "old:2:4: a quoted value ends here; a quote within one is written twice"),
-            (b"child,parent\nab\xff,c\n", "old:2:3: these bytes are not UTF-8; save the table as UTF-8"),
+            ('child,parent\n"a"b,c\n', "old:2:4: a quoted value ends here; a quote within one is written twice, or give --quote none if no value is quoted"),
+            (b"child,parent\nab\xff,c\n", "old:2:3: these bytes are not UTF-8; save the table as UTF-8, or give --encoding, cp1252 say for tables of Windows"),
         ]:
             self.refused(says, "1=old", "2=new", old=text, new=NEW)
 
@@ -112,32 +112,32 @@ class FromCsv(unittest.TestCase):
         for row, says in [
             ("1.Chair,equal,2.Seats", "links:2:9: 'equal' is no relation; write equals, includes, is_included_in, overlaps, disjoint or sums"),
             ("1.Chair,,2.Seats", "links:2:9: a relation is missing here"),
-            ("Chair,equals,2.Seats", "links:2:1: 'Chair' is not TAXONOMY.CONCEPT"),
+            ("Chair,equals,2.Seats", "links:2:1: 'Chair' is not TAXONOMY.CONCEPT; if the taxonomy is always the same, give --sides LEFT,RIGHT"),
             ("1.Chair,equals,3.Seats", "links:2:16: there is no taxonomy '3'; there are 1, 2"),
-            ("1.Chair,equals,2.Seat", "links:2:16: the taxonomy 2 has no concept Seat"),
+            ("1.Chair,equals,2.Seat", "links:2:16: the taxonomy 2 has no concept 'Seat'; the nearest is 'Seats'"),
             ("1.Chair,equals,1.Sofa", "links:2:16: a statement is on concepts of two taxonomies; both are of 1"),
             ("2.Seats,sums,1.Chair", "links:2:14: a sum has two or more parts"),
             ("2.Seats,sums,1.Chair 1.Chair", "links:2:22: 1.Chair stands in this sum twice"),
             ("2.Seats,sums,1.Chair 2.Goods", "links:2:22: a part is of another taxonomy than the whole"),
         ]:
             self.refused(says, "1=old", "2=new", "statements=links", old=OLD, new=NEW, links=f"left,relation,right\n{row}\n")
-        says = "links:1:1: the first row has no column `child`; the columns are child, parent; give a table of statements as statements=FILE"
+        says = "links:1:1: the first row has no column `child`; it has left, relation, right; give a table of statements as statements=FILE"
         self.refused(says, "1=old", "2=new", "statement=links", old=OLD, new=NEW, links=LINKS)
-        row = "2.Seats,sums,1.Arm_chair 1.Sofa"
-        says = "links:2:14: the taxonomy 1 has no concept Arm_chair_1.Sofa; with --blanks, the parts of a sum are separated by commas"
-        self.refused(says, "1=old", "2=new", "statements=links", "--blanks", "_", old=OLD, new=NEW, links=f"left,relation,right\n{row}\n")
+        says = "links:2:14: the taxonomy 1 has no concept 'Arm'; the parts of a sum are separated by commas"
+        row = "2.Seats,sums,1.Arm chair 1.Sofa"
+        self.refused(says, "1=old", "2=new", "statements=links", old=OLD + "Arm chair,Seating\n", new=NEW, links=f"left,relation,right\n{row}\n")
 
     def test_limits(self):
         rows = "child,parent\n" + "".join(f"c{k},\n" for k in range(1024))
-        self.refused("there are 1026 concepts; a problem has at most 1024", "1=old", "2=new", old=rows, new=NEW)
+        self.refused("there are 1026 concepts; a problem has at most 1024; --under NAME:CONCEPT takes a part of a taxonomy", "1=old", "2=new", old=rows, new=NEW)
         links = "left,relation,right\n" + "1.Chair,disjoint,2.Goods\n" * 4097
-        self.refused("links:4098:1: there are more than 4096 statements", "1=old", "2=new", "statements=links", old=OLD, new=NEW, links=links)
+        self.refused("there are 4097 statements; a problem has at most 4096", "1=old", "2=new", "statements=links", old=OLD, new=NEW, links=links)
 
     def test_words(self):
         for words, says in [
             (["1=old"], "a problem has two to eight taxonomies; these are 1"),
-            (["1=old", "new"], "'new' is not NAME=TABLE"),
-            (["1=old", "2=new", "statements=a", "statements=b"], "there are two tables of statements"),
+            (["1=old", "new"], "'new' is not NAME=FILE"),
+            (["1=old", "2=new", "statements=a", "statements=b"], "there are two files of statements"),
             (["1=old", "2=new", "--delimiter", ";;"], "the delimiter is one character"),
             (["1=old", "2=new", "--blanks", "#"], "--blanks takes one character"),
         ]:

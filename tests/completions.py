@@ -1,0 +1,141 @@
+#!/usr/bin/env python3
+"""Whether completions/keys.txt is the program's table, and the completions and the manual page are made from it and work.
+
+    tests/completions.py [PROGRAM]
+
+The table is compared with the usage lines of PROGRAM (`crates/euler_align/out/euler_align` where none is given). What completions/generate
+would write is compared with what is there. Each shell that is installed (bash, zsh, fish) is asked for the words that it offers.
+"""
+
+import os
+import re
+import shutil
+import subprocess
+import sys
+import tempfile
+from importlib.machinery import SourceFileLoader
+
+ROOT = os.path.join(os.path.dirname(os.path.abspath(__file__)), "..")
+COMPLETIONS = os.path.join(ROOT, "completions")
+sys.dont_write_bytecode = True
+generate = SourceFileLoader("generate", os.path.join(COMPLETIONS, "generate")).load_module()
+
+# what is on the line, and the words that must be among those offered, or all of them where the first is None
+CASES = [
+    ("euler_align ", [None, "align", "check", "mir", "conflict", "report", "trial"]),
+    ("euler_align al", [None, "align"]),
+    ("euler_align trial ", [None, "seed=", "size="]),
+    ("euler_align align wor", [None, "worlds="]),
+    ("euler_align align in=pro", [None, "problem.txt"]),
+    ("euler_align mir in=problem.txt cov", ["coverage="]),
+    ("euler_align mir in=problem.txt sibling=o", [None, "on", "off"]),
+    ("euler_align report in=problem.txt kinds=me", [None, "merge"]),
+    ("euler_align report in=problem.txt kinds=count,ta", [None, "tally"]),
+]
+ZSH = """
+emulate -L zsh
+offered=()
+_describe() { for one in ${(P)2}; do [[ ${one%%:*} == ${PREFIX}* ]] && print -r -- ${one%%:*}; done }
+_files() { print -rl -- ${PREFIX}*(N) }
+compset() {
+  local rest=${PREFIX##${~2}}
+  [[ $rest == $PREFIX ]] && return 1
+  IPREFIX=${PREFIX%$rest}; PREFIX=$rest
+}
+compadd() {
+  while [[ $1 == -* ]]; do [[ $1 == -- ]] && { shift; break }; [[ $1 == -S ]] && shift; shift; done
+  for one in $@; do [[ $one == ${PREFIX}* ]] && print -r -- $one; done
+}
+words=("${(@s: :)LINE}"); CURRENT=$#words; PREFIX=$words[CURRENT]; IPREFIX=
+setopt nullglob
+source $COMPLETION
+"""
+BASH = r"""
+source "$COMPLETION"
+compopt() { :; }
+line=${LINE//=/ = }
+read -ra COMP_WORDS <<<"$line"
+[[ $LINE == *" " ]] && COMP_WORDS+=("")
+COMP_CWORD=$((${#COMP_WORDS[@]} - 1))
+_euler_align
+printf '%s\n' "${COMPREPLY[@]}"
+"""
+
+
+def program_table(program):
+    """The commands by the program's usage lines: needed keys, other keys, and the values that they take."""
+    said = subprocess.run([program, "--help"], capture_output=True, text=True, check=False).stderr
+    table = {}
+    for name, rest in re.findall(r"^  (\w+) (.*=.*)$", said, re.M):
+        words = re.findall(r"(\[?)(\w+)=([^\s\]]+)", rest)
+        table[name] = ([key for mark, key, _ in words if not mark], [key for mark, key, _ in words if mark], {key: value for _, key, value in words})
+    return table
+
+
+def table_faults(program):
+    commands, keys = generate.read_table()
+    there, faults = program_table(program), []
+    if [one.name for one in commands] != list(there):
+        faults.append(f"the commands are {' '.join(there)}, and keys.txt has {' '.join(one.name for one in commands)}")
+    for one in commands:
+        needed, other, values = there.get(one.name, ([], [], {}))
+        if (one.needed, one.other) != (needed, other):
+            faults.append(f"{one.name} needs {needed} and takes {other}; keys.txt has {one.needed} and {one.other}")
+        for name, value in values.items():
+            if name not in keys or keys[name].kind != value:
+                faults.append(f"{name} takes {value}; keys.txt has {keys[name].kind if name in keys else 'no such key'}")
+    return faults
+
+
+def offered(shell, line, folder):
+    """The words that a shell offers at the end of a line; what stands before = or a comma is left out."""
+    if shell == "fish":
+        script = f"source {os.path.join(COMPLETIONS, 'euler_align.fish')}; complete -C {generate.fish_quoted(line)}"
+        words = ["fish", "--no-config", "-c", script]
+    else:
+        words = ["bash", "--norc", "-c", BASH] if shell == "bash" else ["zsh", "-f", "-c", ZSH]
+    file = os.path.abspath(os.path.join(COMPLETIONS, generate.FILES[shell]))
+    given = {**os.environ, "LINE": line, "COMPLETION": file, "HOME": folder}
+    done = subprocess.run(words, cwd=folder, env=given, capture_output=True, text=True, timeout=120, check=False)
+    if done.stderr.strip():
+        return [f"(said: {done.stderr.strip()})"]
+    found = [one.split("\t")[0] for one in done.stdout.split("\n") if one.strip()]
+    before = re.search(r"\S*[=,]", line.rsplit(" ", 1)[-1])
+    return [one.replace(before.group(0), "", 1) if before and one.startswith(before.group(0)) else one.rsplit(",", 1)[-1] for one in found]
+
+
+def shell_faults(shell):
+    faults = []
+    with tempfile.TemporaryDirectory() as folder:
+        for name in ("problem.txt", "other.txt"):
+            with open(os.path.join(folder, name), "w", encoding="utf-8"):
+                pass
+        for line, wanted in CASES:
+            got = offered(shell, line, folder)
+            # fish offers the two values of a switch at once, as `coverage=on`
+            got = got if shell != "fish" else [one.replace("coverage=on", "coverage=") for one in got]
+            short = [word for word in wanted if word]
+            if any(word not in got for word in short) or (wanted[0] is None and sorted(set(got)) != sorted(short)):
+                faults.append(f"{shell}: {line!r} offers {got}, and not {short}")
+    return faults
+
+
+def main():
+    program = sys.argv[1] if len(sys.argv) > 1 else os.path.join(ROOT, "crates/euler_align/out/euler_align")
+    faults, told = table_faults(program), []
+    done = subprocess.run([os.path.join(COMPLETIONS, "generate"), "--check"], capture_output=True, text=True, check=False)
+    faults += done.stdout.strip().split("\n") if done.returncode else []
+    for shell in generate.FILES:
+        if shutil.which(shell):
+            faults += shell_faults(shell)
+            told.append(f"{len(CASES)} lines by {shell}")
+        else:
+            told.append(f"{shell} is not installed")
+    for fault in faults:
+        print(fault)
+    print(f"completions: the table has {len(generate.read_table()[0])} commands; {', '.join(told)}; {len(faults)} wrong")
+    return 1 if faults else 0
+
+
+if __name__ == "__main__":
+    sys.exit(main())

@@ -1,0 +1,81 @@
+#!/usr/bin/env bash
+# Whether what is packed works: `make install` and `uninstall`, `make dist`, and `make deb`, whose files are unpacked and run.
+#
+#   tests/package.sh [--install] [PROGRAM]
+#
+# With --install the Debian package is installed on this system and removed again; that needs root.
+set -eu
+cd "$(dirname "$0")/.."
+install=
+if [ "${1:-}" = --install ]; then
+  install=1
+  shift
+fi
+program=$(realpath -m "${1:-crates/euler_align/out/euler_align}")
+folder=$(mktemp -d)
+trap 'rm -rf "$folder"' EXIT
+unset EULER_ALIGN
+fail() {
+  echo "package: $*"
+  exit 1
+}
+# what an installed program and its tools must do
+try() {
+  local where=$1
+  printf 'child,parent\nA,\nB b,A\n' >"$folder/one.csv"
+  printf 'child;parent\nC;\n' >"$folder/two.csv"
+  printf 'left,relation,right\nx.A,equals,y.C\n' >"$folder/said.csv"
+  PATH=$where:$PATH euler_align-from_csv x="$folder/one.csv" y="$folder/two.csv" statements="$folder/said.csv" >"$folder/p.txt"
+  PATH=$where:$PATH euler_align align in="$folder/p.txt" | grep -q '^complete 1$' || fail "the program in $where lists no world"
+  PATH=$where:$PATH euler_align-to_table "$folder/p.txt" | grep -q '^x.B b,equals,y.C,follows$' || fail "the tools in $where make no table"
+  PATH=$where:$PATH euler_align-list "$folder/p.txt" | grep -q '^complete 1$' || fail "the tools in $where list nothing"
+}
+
+make -s install PROGRAM="$program" PREFIX="$folder/prefix"
+[ "$(find "$folder/prefix" -type f | wc -l)" = 5 ] || fail "make install puts other files than five"
+"$folder/prefix/bin/euler_align" align in=examples/sum.txt | grep -q '^complete 5$' || fail "what make install puts doesn't run"
+make -s uninstall PREFIX="$folder/prefix"
+[ "$(find "$folder/prefix" -type f | wc -l)" = 0 ] || fail "make uninstall leaves files"
+told="install and uninstall"
+
+if git rev-parse --is-inside-work-tree >/dev/null 2>&1; then
+  make -s dist >/dev/null
+  version=$(cat VERSION)
+  tar -xzf "packaging/out/euler_align-$version.tar.gz" -C "$folder"
+  for file in README.md Makefile VERSION tools/from_csv crates/euler_align/src/main.rt; do
+    [ -e "$folder/euler_align-$version/$file" ] || fail "the tarball has no $file"
+  done
+  told="$told, dist"
+fi
+
+if command -v dpkg-deb >/dev/null; then
+  make -s deb PROGRAM="$program" >/dev/null
+  package=$(ls -t packaging/out/euler-align_*.deb | head -n 1)
+  dpkg-deb -x "$package" "$folder/deb"
+  try "$folder/deb/usr/bin"
+  for tool in "$folder"/deb/usr/bin/euler_align-*; do
+    name=${tool##*-}
+    grep -q "^\.B $name\$" man/euler_align_tools.1 || fail "man/euler_align_tools.1 says nothing of $name"
+  done
+  for file in man/man1/euler_align.1.gz man/man1/euler_align_tools.1.gz doc/euler-align/README.md bash-completion/completions/euler_align \
+    zsh/vendor-completions/_euler_align fish/vendor_completions.d/euler_align.fish; do
+    [ -e "$folder/deb/usr/share/$file" ] || fail "the package has no $file"
+  done
+  told="$told, deb"
+  if command -v lintian >/dev/null; then
+    lintian --fail-on error "$package" >"$folder/lintian" 2>&1 || { cat "$folder/lintian"; fail "lintian has an error"; }
+    told="$told, lintian"
+  else
+    told="$told (lintian is not installed)"
+  fi
+  if [ -n "$install" ]; then
+    dpkg -i "$package" >/dev/null
+    try /usr/bin
+    dpkg -r euler-align >/dev/null
+    [ ! -e /usr/bin/euler_align ] && [ ! -e /usr/share/euler_align ] || fail "files are left behind after the package was removed"
+    told="$told, installed and removed"
+  fi
+else
+  told="$told (dpkg-deb is not installed)"
+fi
+echo "package: $told: all well"

@@ -1,0 +1,44 @@
+"""Finds and runs the program: what the variable EULER_ALIGN names, else what lies beside the tools, else what is on the path."""
+
+import os
+import shutil
+import subprocess
+
+from tables import Fault
+
+HERE = os.path.dirname(os.path.realpath(__file__))
+# beside the tools, and built in the repository; where the tools are installed, in the folder of programs beside PREFIX/share
+BESIDE = ["euler_align", "../crates/euler_align/out/euler_align"]
+if HERE.endswith("share/euler_align/tools"):
+    BESIDE.append("../../../bin/euler_align")
+CODES = {1: "the problem has a fault", 2: "the words are wrong", 3: "a file can't be read", 4: "a file can't be written", 9: "there was no memory"}
+
+
+def path():
+    """The program; a fault where there is none."""
+    named = os.environ.get("EULER_ALIGN")
+    if named:
+        if not os.access(named, os.X_OK):
+            raise Fault(f"EULER_ALIGN names {named}, which is no program")
+        return os.path.abspath(named)
+    beside = (shutil.which(os.path.normpath(os.path.join(HERE, place))) for place in BESIDE)
+    found = next((place for place in beside if place), None) or shutil.which("euler_align")
+    if not found:
+        raise Fault("the program euler_align is neither on the path nor beside the tools; put it on the path, or name it by the variable EULER_ALIGN")
+    return found
+
+
+def answer(words, timeout=None):
+    """How a run of the program ended, with its output and what it said."""
+    done = subprocess.run([path(), *words], capture_output=True, check=False, timeout=timeout, stdin=subprocess.DEVNULL)
+    return done.returncode, done.stdout.decode(), done.stderr.decode()
+
+
+def is_switch(word):
+    return word.partition("=")[0] in ("nonempty", "sibling", "coverage") and word.partition("=")[2] in ("on", "off")
+
+
+def fault_of(code, out, err):
+    """What a run that failed said, in one fault."""
+    said = err.strip() or (out.strip().split("\n") or [""])[-1]
+    return Fault(said or CODES.get(code, f"the program ended with {code}"))
