@@ -4,7 +4,9 @@
     tests/devices.py [PROGRAM] [--memory-only | --no-memory] [--verbose]
 
 For each command, each file that it reads or writes, and standard output: an endless device, a full one, a folder, a file or a folder
-without permission, an absent name, a name in an absent folder, a closed standard output, a pipe whose reader left, a file that grows.
+without permission, an absent name, a name in an absent folder, a closed standard output, a pipe whose reader left, a file that grows; and
+for each file that it writes another name of one that it reads (`./`, a path, a link, a hard link): that file keeps its bytes, and both
+words are told.
 Each try looks at the exit code; at standard output, which is the right one, or a first part of it and then the last line of the fault; at
 what is in the folder, where nothing may change but the files that the command writes, and these hold a first part of what is right, or
 what they held; and at standard error, which says something where the fault is one of the words or of a text. Then each command runs under
@@ -200,6 +202,11 @@ def tries_of(bench, name):
         yield f"{key} below a file", with_name(key, "p/f", WRITE_FAULT)
         yield f"{key} with a name that is too long", with_name(key, "n" * 300, WRITE_FAULT)
         yield f"{key} held something longer", held_something(bench, name, file)
+        for other, kept in read.items():
+            for way, alias in ALIASES.items():
+                yield f"{key} is {other} by {way}", one_file(bench, name, key, other, kept, alias)
+    if "token" in written and "cert" in written:
+        yield "token is cert by another name", both_written(bench, name)
     yield "standard output full", output(bench, name, lambda: open("/dev/full", "wb"))
     yield "standard output without a reader", output(bench, name, pipe_without_reader)
     yield "standard output closed", output(bench, name, None)
@@ -209,6 +216,52 @@ def held_something(bench, name, file):
     def make():
         bench.hold(file, b"what it held\n" * 9999)
         bench.judge(name, bench.run(COMMANDS[name][0].split()), None, before=bench.held())
+    return make
+
+
+def with_link(make):
+    def alias(place, file):
+        make(place, file)
+        return "alias"
+    return alias
+
+
+# other names of a file in the folder where the program runs, by what they are
+ALIASES = {
+    "./": lambda place, file: "./" + file,
+    "another folder": lambda place, file: f"../{os.path.basename(place)}/{file}",
+    "a path from the root": lambda place, file: os.path.join(place, file),
+    "a link": with_link(lambda place, file: os.symlink(file, os.path.join(place, "alias"))),
+    "a hard link": with_link(lambda place, file: os.link(os.path.join(place, file), os.path.join(place, "alias"))),
+}
+
+
+def tells_words(told, words):
+    for word in words:
+        if word.encode() not in told.split():
+            raise Failed(f"{word} is not told: {told!r}")
+
+
+def one_file(bench, name, key, other, file, alias):
+    """What is to be written has another name of a file that is read: nothing of that file is lost, and both words are told."""
+    def make():
+        called = alias(bench.place, file)
+        before = bench.held()
+        got = bench.run(changed_words(COMMANDS[name][0], key, called))
+        bench.judge(name, got, WRITE_FAULT, before=before)
+        tells_words(got[2], [f"{other}={file}", f"{key}={called}"])
+    return make
+
+
+def both_written(bench, name):
+    """Two files that are to be written are one: the second is not written over the first."""
+    def make():
+        code, _, told = bench.run(changed_words(COMMANDS[name][0], "cert", "./t"))
+        if code != WRITE_FAULT[0]:
+            raise Failed(f"exit code {code}")
+        tells_words(told, ["token=t", "cert=./t"])
+        if not bench.held()["t"].startswith(b"certificate "):
+            raise Failed("the certificate is lost")
     return make
 
 

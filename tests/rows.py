@@ -1,6 +1,6 @@
 #!/usr/bin/env python3
 """Worked cases that a transcript of crates/run_scenes can't show: texts with their first faults and at each limit, canonical texts,
-listings that stop at each number of nodes and of worlds, chains of runs, and tokens that are cut off.
+listings that stop at each number of nodes and of worlds, chains of runs, tokens that are cut off, and that a problem is judged first.
 
     tests/rows.py [PROGRAM]
 
@@ -225,6 +225,15 @@ def check_tokens(runs):
         runs.same("align in=p resume=r", 0, "<\nx\n!\ncomplete 3\n")
 
 
+def check_order(runs):
+    """A problem is judged before a token or a certificate is read."""
+    texts = (b"taxonomy 1\n(A)\n", 1, "refused 0 TaxonomyCount\n"), (b"taxonomy 1\n(A)\ntaxonomy 2\n(B)\n", 3, "read fault\n")
+    for text, code, last in texts:
+        runs.hold("p", text)
+        for words in ("align in=p resume=absent", "check in=p cert=absent"):
+            runs.same(words, code, last)
+
+
 def main():
     program = sys.argv[1] if len(sys.argv) > 1 else os.path.join(HERE, "../crates/euler_align/out/euler_align")
     with tempfile.TemporaryDirectory() as folder:
@@ -233,6 +242,7 @@ def main():
         check_canonical(runs)
         check_cuts(runs)
         check_tokens(runs)
+        check_order(runs)
     print(f"{runs.count} runs, no other answer")
 
 

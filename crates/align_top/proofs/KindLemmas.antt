@@ -8,7 +8,7 @@ use Rattle.cert_text.proofs.ReadLemmas.{is_word}
 use Rattle.command_line.specs.declared.UsageKind.TheVariants.{UnknownKind, KindTwice}
 use Rattle.command_line.specs.Words.{is_among, has_twice, names_fault}
 use Rattle.report_run.specs.Reporting.{Watched, AreKinds}
-use Rattle.align_top.proofs.RequestLemmas.{one_bytes}
+use Rattle.listing_run.proofs.RequestLemmas.{one_bytes}
 
 -- a name among others is one of them, and one that is not among them is none
 there : (names : List (List ℕ)) (word : List ℕ) → is_among names word ≡ true → Contains names word

@@ -1,14 +1,4 @@
-pub mod CutLemmas
-pub mod ChainLemmas
-pub mod ListingLemmas
-pub mod PlaceLemmas
-pub mod TableLemmas
-pub mod RequestLemmas
-pub mod AskedLemmas
-pub mod WrittenLemmas
-pub mod CarryLemmas
-pub mod LoggedLemmas
-pub mod CertifiedLemmas
-pub mod RunLemmas
 pub mod KindLemmas
 pub mod MadeLemmas
+pub mod NameLemmas
+pub mod RunLemmas

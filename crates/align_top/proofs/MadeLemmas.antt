@@ -14,7 +14,7 @@ use Rattle.command_line.proofs.ValueLemmas.{need_ok, and_ok, fail_ok, AreValued,
 use Rattle.report_run.specs.Reporting.{Watched}
 use Rattle.align_top.specs.Output.{request_by}
 use Rattle.align_top.specs.Steps.{IsPlain, IsReporting, IsMade, is_report}
-use Rattle.align_top.proofs.RequestLemmas.{not_given, names_apart, two_files, limited, input_given, fourth_false}
+use Rattle.listing_run.proofs.RequestLemmas.{not_given, names_apart, two_files, limited, input_given, fourth_false}
 use Rattle.align_top.proofs.KindLemmas.{are_kinds}
 
 -- the second of two required keys is given

@@ -1,6 +1,5 @@
 -- How a run ends that words ask for.
 use Rattle.std.proofs.Common.{◌≡◌, ℕ, List, [], ◌∷◌, map, Result, Ok, Err, refl, sym, ap, subst, ◌∙◌, inl, inr}
-use Rattle.outer_store.specs.declared.fault.StoreFault.{StoreFault}
 use Rattle.command_line.specs.declared.UsageKind.{UsageKind}
 use Rattle.command_line.specs.declared.Request.{Request}
 use Rattle.world_watch.specs.Steps.{Texts}
@@ -8,24 +7,13 @@ use Rattle.report_run.specs.Reporting.{Watched, watched}
 use Rattle.run_ends.specs.declared.Status.{Status}
 use Rattle.run_ends.specs.declared.Status.TheVariants as status
 use Rattle.run_ends.specs.Ends.{end_line, IsLastPut}
-use Rattle.run_ends.specs.Runs.{StoreState, SinkState, IsCarriedOut, IsRunOf}
-use Rattle.run_ends.proofs.EndLemmas.{run_early, carried_as}
-use Rattle.align_top.specs.declared.Asking.{Asking}
-use Rattle.align_top.specs.declared.Order.{Order}
-use Rattle.align_top.specs.Output.{ComesTo, IsListingAnswer, written_names, names_of, answers_to, request_by, IsRun}
-use Rattle.align_top.specs.Steps.{order_answers}
+use Rattle.outer_store.specs.States.{StoreState, SinkState}
+use Rattle.run_ends.specs.Runs.{IsRunOf}
+use Rattle.run_ends.proofs.EndLemmas.{run_early}
+use Rattle.align_top.specs.Output.{names_of, answers_to, request_by, IsRun}
 use Rattle.command_line.specs.Words.{request_of}
 use Rattle.align_top.specs.Steps.{IsMade}
 use Rattle.align_top.proofs.MadeLemmas.{made}
-
--- an order that is carried out is what its words asked for, behind reads that left the store as it was
-pub listing_carried : (asking : Asking) (order : Order) (r : Result Status StoreFault) (one mid other : StoreState) (old new : SinkState) → mid ≡ one → ComesTo asking one.held (Ok order)
-    → IsCarriedOut (order_answers order asking.cert asking.token) r (written_names asking.cert asking.token) mid other old new
-    → IsCarriedOut (IsListingAnswer asking) r (written_names asking.cert asking.token) one other old new
-listing_carried asking order r one mid other old new same comes carried =
-    carried_as (order_answers order asking.cert asking.token) (IsListingAnswer asking) r (written_names asking.cert asking.token) one other old new
-    (λ s text files listed. record { outcome = Ok order; comes = comes; answer = listed })
-    (subst (λ (state : StoreState). IsCarriedOut (order_answers order asking.cert asking.token) r (written_names asking.cert asking.token) state other old new) same carried)
 
 -- words that are a request
 pub words_asked : (watchers : List Watched) (words : List (List ℕ)) (r : Request) (s : Status) (one other : StoreState) (old new : SinkState) → request_by watchers words ≡ Ok r
@@ -34,14 +22,14 @@ words_asked watchers words r s one other old new e run = subst (λ asked. IsRunO
 
 -- words that are none
 pub words_refused : (watchers : List Watched) (words : List (List ℕ)) (kind : UsageKind) (r : Status) (one : StoreState) (old new : SinkState) → request_by watchers words ≡ Err kind
-    → IsLastPut (status.Usage kind) r (end_line (status.Usage kind)) old.bytes new.bytes old.faults new.faults → IsRun watchers words r one one old new
+    → IsLastPut (status.Usage kind) r (end_line (status.Usage kind)) old new → IsRun watchers words r one one old new
 words_refused watchers words kind r one old new e last =
     subst (λ asked. IsRunOf (names_of asked) (answers_to watchers asked) r one one old new) (sym e)
     (run_early (names_of (Err kind)) (answers_to watchers (Err kind)) (status.Usage kind) r one one old new (inl ((refl, refl, refl), refl, (refl, refl))) refl last)
 
 -- and want of memory before they are read
 pub words_starved : (watchers : List Watched) (words : List (List ℕ)) (r : Status) (one : StoreState) (old new : SinkState)
-    → IsLastPut status.NoMemory r (end_line status.NoMemory) old.bytes new.bytes old.faults new.faults → IsRun watchers words r one one old new
+    → IsLastPut status.NoMemory r (end_line status.NoMemory) old new → IsRun watchers words r one one old new
 words_starved watchers words r one old new last =
     run_early (names_of (request_by watchers words)) (answers_to watchers (request_by watchers words)) status.NoMemory r one one old new (inr (inr (refl, (refl, refl)))) refl last
 
@@ -63,7 +51,7 @@ pub asked_by : {W : Type 0} (name : W → List ℕ) (text : W → Texts) (ws : L
 asked_by name text ws words r s one other old new e run = words_asked (watched name text ws) words r s one other old new (request_named name text ws words (Ok r) e) run
 
 pub refused_by : {W : Type 0} (name : W → List ℕ) (text : W → Texts) (ws : List W) (words : List (List ℕ)) (kind : UsageKind) (r : Status) (one : StoreState) (old new : SinkState)
-    → request_of (map name ws) words ≡ Err kind → IsLastPut (status.Usage kind) r (end_line (status.Usage kind)) old.bytes new.bytes old.faults new.faults → IsRun (watched name text ws) words r one one old new
+    → request_of (map name ws) words ≡ Err kind → IsLastPut (status.Usage kind) r (end_line (status.Usage kind)) old new → IsRun (watched name text ws) words r one one old new
 refused_by name text ws words kind r one old new e last = words_refused (watched name text ws) words kind r one old new (request_named name text ws words (Err kind) e) last
 
 pub ruleset words_rules = (made_by, asked_by, refused_by, words_starved)

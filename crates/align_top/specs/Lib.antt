@@ -1,5 +1,2 @@
 pub mod Output
-pub mod Putting
 pub mod Steps
-pub mod Resuming
-pub mod Logged

@@ -1,62 +1,10 @@
--- The steps of a listing: an order is read, and then carried out.
-use Rattle.std.specs.Prelude.{◌≡◌, ◌≢◌, ℕ, ◌==◌, ◌&&◌, if◌then◌else◌, bytes_eq, Bool, true, false, List, [], ◌∷◌, length, Option, None, Some, option_map, IfSome, IfNone, IfOk, OnErr, Result, Ok, Err, ⊤, ◌⊎◌}
-use Rattle.std.specs.Option.{option_to_list}
-use Rattle.outer_store.specs.Bytes.{GrownInPart, added}
-use Rattle.outer_store.specs.Contents.{Contents, OthersKept}
-use Rattle.outer_store.specs.Faults.{IfFailed}
-use Rattle.outer_store.specs.declared.fault.StoreFault.{StoreFault}
-use Rattle.rcc5_core.specs.declared.Rel.{Rel}
-use Rattle.world_model.specs.Problem.{Problem}
-use Rattle.constraint_set.specs.Facts.{IsAsRead}
-use Rattle.resume_token.specs.declared.TokenKind.{TokenKind}
-use Rattle.resume_token.specs.Token.{token_text, token_result}
+-- Requests that words can make.
+use Rattle.std.specs.Prelude.{Bool, true, false, List, ⊤, ◌⊎◌}
 use Rattle.command_line.specs.declared.Request.{Request}
 use Rattle.command_line.specs.declared.Request.TheVariants.{Align, Check, Mir, Conflict, Report, Trial}
 use Rattle.report_run.specs.Reporting.{Watched, AreKinds}
 use Rattle.trial_make.specs.Made.{IsSize}
-use Rattle.run_ends.specs.declared.Status.{Status}
-use Rattle.run_ends.specs.declared.Status.TheVariants.{Done, Cut, NoWorld, RefusedToken, NoMemory}
-use Rattle.run_ends.specs.Reads.{ComesOf, IsWithout}
-use Rattle.run_ends.specs.Runs.{StoreState, SinkState, Answers, IsQuiet, AreWritten, IsWriteCause, IsByCause}
-use Rattle.align_top.specs.declared.Asking.{Asking}
-use Rattle.align_top.specs.declared.Order.{Order}
-use Rattle.align_top.specs.Output.{token_under, IsListed, cut_line, last_line}
-use Rattle.align_top.specs.Putting.{IsOrder}
-
--- a start, or how a run ends whose token is refused
-abbrev pub start_by : Result (List Rel) TokenKind → Result (List Rel) Status
-start_by (Ok start) = Ok start
-start_by (Err kind) = Err (RefusedToken kind)
-
-abbrev pub start_in : Problem → List ℕ → Result (List Rel) Status
-start_in p bytes = start_by (token_result p bytes)
-
--- how a run ends whose token has this fault, or that found no memory
-abbrev pub token_end : Option TokenKind → Status
-token_end None = NoMemory
-token_end (Some kind) = RefusedToken kind
-
--- a start: the empty position, or what comes of the token that is given
-abbrev pub IsStart : Contents → Problem → Option (List ℕ) → List Rel → Type 0
-IsStart held p None start = start ≡ []
-IsStart held p (Some name) start = ComesOf held name (start_in p) (Ok start)
-
-abbrev pub IsWithoutStart : Problem → Option (List ℕ) → Status → StoreState → StoreState → Type 0
-IsWithoutStart p None status one other = ⊥
-IsWithoutStart p (Some name) status one other = IsWithout name (start_in p) status one other
-
--- two names, where both are given, are not one
-abbrev pub AreApart : Option (List ℕ) → Option (List ℕ) → Type 0
-AreApart None other = ⊤
-AreApart (Some name) None = ⊤
-AreApart (Some name) (Some other) = name ≢ other
-
--- a listing that words can ask for: the token that it reads is not its problem, a limit has a token to be written, and the files
--- that it writes are two
-pub record IsAskable (asking : Asking) : Type 0 where
-  pub apart : IfSome asking.resume (λ name. bytes_eq asking.input name ≡ false)
-  pub limited : IfNone asking.token ((asking.nodes ≡ None) × (asking.worlds ≡ None))
-  pub two : AreApart asking.cert asking.token
+use Rattle.listing_run.specs.Steps.{IsAskable}
 
 -- a request that words can make, and that asks for no report
 abbrev pub IsPlain : Request → Type 0
@@ -81,36 +29,3 @@ IsMade watchers request = IsReporting watchers request ⊎ IsPlain request
 abbrev pub is_report : Request → Bool
 is_report (Report input kinds switches) = true
 is_report request = false
-
--- an order that can be carried out, with the names for its certificate and its token
-pub record IsReady (order : Order) (cert token : Option (List ℕ)) : Type 0 where
-  pub as_read : IsAsRead order.problem
-  pub within : IsOrder order
-  pub limited : IfNone token ((order.nodes ≡ None) × (order.worlds ≡ None))
-  pub two : AreApart cert token
-
--- a good end by the count of worlds
-abbrev pub status_at : List Rel → Option (List Rel) → ℕ → Status
-status_at start (Some cut) count = Cut cut
-status_at start None count = if (length start == 0) && (count == 0) then NoWorld else Done
-
--- the token of a cut is written, and the last line put
-pub record IsCutEnded (result : Result Status StoreFault) (p : Problem) (cut : List Rel) (count : ℕ) (name : List ℕ) (store store' : StoreState) (sink sink' : SinkState) : Type 0 where
-  pub status : IfOk result (λ status. status ≡ Cut cut)
-  pub put : IfOk result (λ _. sink'.bytes ≡ added sink.bytes (cut_line count))
-  pub written : IfOk result (λ _. store'.held name ≡ option_map (λ _. token_text p cut) (store.held name))
-  pub others : OthersKept name store.held store'.held
-  pub refused : OnErr result (GrownInPart sink.bytes sink'.bytes (cut_line count))
-  pub cause : IfFailed result (IsWriteCause (name ∷ []) store store' sink sink') (IsQuiet store store' × (sink'.faults ≡ sink.faults))
-
--- the token of the cut is written, if there is one, and the last line put
-pub record IsEnded (result : Result Status StoreFault) (order : Order) (cut : Option (List Rel)) (count : ℕ) (name : Option (List ℕ)) (store store' : StoreState) (sink sink' : SinkState) : Type 0 where
-  pub status : IfOk result (λ status. status ≡ status_at order.start cut count)
-  pub put : IfOk result (λ _. sink'.bytes ≡ added sink.bytes (last_line cut count))
-  pub written : IfOk result (λ _. AreWritten (token_under order.problem name cut store.held) store.held store'.held)
-  pub refused : OnErr result (GrownInPart sink.bytes sink'.bytes (last_line cut count))
-  pub by_cause : IsByCause result (option_to_list name) store store' sink sink'
-
--- the answers of an order with these names for its files
-abbrev pub order_answers : Order → Option (List ℕ) → Option (List ℕ) → Answers
-order_answers order cert token held status text files = IsListed order cert token held status text files

@@ -1,43 +1,21 @@
 //! All that the program does with its words, a store and a sink.
 ghost use Rattle.std.specs.Prelude.{◌≡◌, List, map, string_bytes, Ok};
-ghost use Rattle.run_ends.specs.Runs.{store_state, sink_state, IsRunOf};
+ghost use Rattle.run_ends.specs.Runs.{IsRunOf};
 ghost use Rattle.report_run.specs.Reporting.{Watched, watched};
-ghost use Rattle.align_top.specs.Output.{listing_names, IsListingAnswer, names_of, answers_to, IsRun};
-ghost use Rattle.align_top.specs.Steps.{IsAskable, IsPlain, IsReporting, IsMade, is_report};
+ghost use Rattle.align_top.specs.Output.{names_of, answers_to, IsRun};
+ghost use Rattle.align_top.specs.Steps.{IsPlain, IsReporting, IsMade, is_report};
 
-use crate::Asking;
-use crate::carry::carry_out;
-use crate::reading::order_of;
+use crate::words::read_words;
 use check_run::run_check;
 use claims_run::{Question, run_claims};
-use command_line::{Request, WordsFault, read_words};
-use outer_store::{Sink, Store, StoreFault};
+use command_line::{Request, WordsFault};
+use listing_run::{Asking, run_listing};
+use outer_store::{Sink, Store};
 use report_run::run_report;
 use run_ends::{Status, put_end};
 use std::alloc::Global;
 use trial_run::run_trial;
 use world_watch::WorldWatcher;
-
-// Lists what is asked for.
-fn run_align<S: Store, W: Sink>(
-    alloc: Global,
-    store: &mut S,
-    out: &mut W,
-    asking: &Asking,
-) -> Status
-    requires { IsAskable asking.now }
-    ensures { IsRunOf (listing_names asking.now) (IsListingAnswer asking.now) result (store_state (S.held store.old) (S.read_faults store.old) (S.write_faults store.old)) (store_state (S.held store.new) (S.read_faults store.new) (S.write_faults store.new)) (sink_state (W.received out.old) (W.faults out.old)) (sink_state (W.received out.new) (W.faults out.new)) }
-{
-    let order = match order_of(alloc, store, asking) {
-        Ok(order) => order,
-        Err(status) => return put_end(alloc, out, status),
-    };
-    match carry_out(alloc, store, out, &order, &asking.cert, &asking.token) {
-        Ok(status) => status,
-        Err(StoreFault::Failed) => Status::WriteFault,
-        Err(StoreFault::NoMemory) => put_end(alloc, out, Status::NoMemory),
-    }
-}
 
 // Whether a request asks for a report.
 fn is_report(request: &Request) -> bool
@@ -54,7 +32,7 @@ fn run_plain<S: Store, W: Sink>(
     request: Request,
 ) -> Status
     requires { IsPlain request }
-    ensures { (watchers : List Watched) → IsRunOf (names_of (Ok request)) (answers_to watchers (Ok request)) result (store_state (S.held store.old) (S.read_faults store.old) (S.write_faults store.old)) (store_state (S.held store.new) (S.read_faults store.new) (S.write_faults store.new)) (sink_state (W.received out.old) (W.faults out.old)) (sink_state (W.received out.new) (W.faults out.new)) }
+    ensures { (watchers : List Watched) → IsRunOf (names_of (Ok request)) (answers_to watchers (Ok request)) result (S.state store.old) (S.state store.new) (W.state out.old) (W.state out.new) }
 {
     match request {
         Request::Align {
@@ -75,7 +53,7 @@ fn run_plain<S: Store, W: Sink>(
                 token,
                 resume,
             };
-            run_align(alloc, store, out, &asking)
+            run_listing(alloc, store, out, &asking)
         }
         Request::Check {
             input,
@@ -122,7 +100,7 @@ fn run_reporting<S: Store, W: Sink>(
     watchers: Vec<Box<dyn WorldWatcher>>,
 ) -> Status
     requires { IsReporting (watched name text watchers.items) request }
-    ensures { IsRunOf (names_of (Ok request)) (answers_to (watched name text watchers.items) (Ok request)) result (store_state (S.held store.old) (S.read_faults store.old) (S.write_faults store.old)) (store_state (S.held store.new) (S.read_faults store.new) (S.write_faults store.new)) (sink_state (W.received out.old) (W.faults out.old)) (sink_state (W.received out.new) (W.faults out.new)) }
+    ensures { IsRunOf (names_of (Ok request)) (answers_to (watched name text watchers.items) (Ok request)) result (S.state store.old) (S.state store.new) (W.state out.old) (W.state out.new) }
 {
     let Request::Report {
         input,
@@ -152,7 +130,7 @@ fn run_request<S: Store, W: Sink>(
     watchers: Vec<Box<dyn WorldWatcher>>,
 ) -> Status
     requires { IsMade (watched name text watchers.items) request }
-    ensures { IsRunOf (names_of (Ok request)) (answers_to (watched name text watchers.items) (Ok request)) result (store_state (S.held store.old) (S.read_faults store.old) (S.write_faults store.old)) (store_state (S.held store.new) (S.read_faults store.new) (S.write_faults store.new)) (sink_state (W.received out.old) (W.faults out.old)) (sink_state (W.received out.new) (W.faults out.new)) }
+    ensures { IsRunOf (names_of (Ok request)) (answers_to (watched name text watchers.items) (Ok request)) result (S.state store.old) (S.state store.new) (W.state out.old) (W.state out.new) }
 {
     if is_report(&request) {
         return run_reporting(alloc, store, out, request, watchers);
@@ -170,7 +148,7 @@ pub fn run<S: Store, W: Sink>(
     out: &mut W,
     watchers: Vec<Box<dyn WorldWatcher>>,
 ) -> Status
-    ensures { IsRun (watched name text watchers.items) (map string_bytes words.now) result (store_state (S.held store.old) (S.read_faults store.old) (S.write_faults store.old)) (store_state (S.held store.new) (S.read_faults store.new) (S.write_faults store.new)) (sink_state (W.received out.old) (W.faults out.old)) (sink_state (W.received out.new) (W.faults out.new)) }
+    ensures { IsRun (watched name text watchers.items) (map string_bytes words.now) result (S.state store.old) (S.state store.new) (W.state out.old) (W.state out.new) }
 {
     match read_words(alloc, words, &watchers) {
         Ok(request) => run_request(alloc, store, out, request, watchers),

@@ -5,7 +5,7 @@ use Rattle.lits_core.specs.Derivation.{State}
 use Rattle.world_model.specs.Problem.{Problem}
 use Rattle.cert_text.specs.declared.line.CertLine.{CertLine}
 use Rattle.cert_text.specs.declared.line.CertLine.TheVariants.{Branch, World}
-use Rattle.cert_rules.specs.Trees.{Tree, sets_of, is_branch, tree_fault, tree_next}
+use Rattle.cert_rules.specs.Trees.{Branching, sets_of, is_branch, tree_fault, tree_next}
 use Rattle.cert_rules.specs.Order.{onward}
 use Rattle.cert_rules.specs.ClaimLists.{ClaimStand, Block, claim_role, ForNode, subject_problem, subject_tree, take_inside, with_block}
 use Rattle.cert_rules.specs.Listings.{Going, Rejected, unless}
@@ -17,7 +17,7 @@ use Rattle.cert_check.specs.declared.open_tree.OpenTree.{OpenTree}
 use Rattle.cert_check.specs.Claiming.{IsBlock}
 
 -- the tree that is made anew is that of the subject
-pub made_anew : (p : Problem) (block : OpenTree) (q : Problem) (from : List Rel) (tree : Tree) → IsBlock p block → q ≡ block.walk.tree.subject → from ≡ [] → tree ≡ tree_over q false from →
+pub made_anew : (p : Problem) (block : OpenTree) (q : Problem) (from : List Rel) (tree : Branching) → IsBlock p block → q ≡ block.walk.tree.subject → from ≡ [] → tree ≡ tree_over q false from →
     tree ≡ subject_tree p block.subject
 made_anew p block q from tree is problem start made =
     made ∙ ap (λ from. tree_over q false from) start
@@ -27,7 +27,7 @@ made_anew p block q from tree is problem start made =
     ])
 
 -- and the root is a path in it
-pub walk_anew : (p : Problem) (block : OpenTree) (tree : Tree) → IsBlock p block → tree ≡ subject_tree p block.subject → length block.walk.path ≡ 0 →
+pub walk_anew : (p : Problem) (block : OpenTree) (tree : Branching) → IsBlock p block → tree ≡ subject_tree p block.subject → length block.walk.path ≡ 0 →
     IsPath (length tree.levels) tree.from block.walk.path block.walk.on_way
 walk_anew p block tree is anew root =
     subst (λ from. IsPath (length tree.levels) from block.walk.path block.walk.on_way) (old ∙ sym (ap (λ t. t.from) anew))
@@ -66,7 +66,7 @@ at_root p block is bare = empty block.walk.path (let short = is.walk.short in le
     empty (rel ∷ path) short = absurd (omega (arith, short))
 
 -- what both trees have in common at the root is that of the subject's tree, whose branches are judged by itself
-by_tree : {X : Type 0} (f : Tree → X) (p : Problem) (block : OpenTree) (branches : Bool) → IsBlock p block → (branches ≡ true → block.walk.tree ≡ subject_tree p block.subject) →
+by_tree : {X : Type 0} (f : Branching → X) (p : Problem) (block : OpenTree) (branches : Bool) → IsBlock p block → (branches ≡ true → block.walk.tree ≡ subject_tree p block.subject) →
     (branches ≡ false → block.walk.path ≡ [] → f (subject_tree p block.subject) ≡ f (bare_tree (subject_problem p block.subject))) → f (subject_tree p block.subject) ≡ f block.walk.tree
 by_tree f p block true is whole leaf = ap f (sym (whole refl))
 by_tree f p block false is whole leaf = elim is.tree [
@@ -97,7 +97,7 @@ right_fault p block proof line is role whole =
     ∙ ap (λ at. tree_fault (bare_tree tree.subject) proof at line) (sym at))
 
 -- a node that is right was expected
-next_is : (tree : Tree) (proof : State) (expected : Bool) (path : List Rel) (line : CertLine) → tree_fault tree proof (node_of expected path) line ≡ None →
+next_is : (tree : Branching) (proof : State) (expected : Bool) (path : List Rel) (line : CertLine) → tree_fault tree proof (node_of expected path) line ≡ None →
     tree_next tree (node_of expected path) line ≡ onward (sets_of tree) tree.from (is_branch line) path
 next_is tree proof true path line right = refl
 next_is tree proof false path line right = cc

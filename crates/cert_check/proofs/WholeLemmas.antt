@@ -5,7 +5,7 @@ use Rattle.cert_text.specs.declared.line.CertLine.{CertLine}
 use Rattle.cert_text.specs.Ends.{TextEnd, Whole, Faulty}
 use Rattle.cert_reader.specs.declared.fault.CertTextKind.{CertTextKind}
 use Rattle.cert_rules.specs.declared.RejectKind.{RejectKind}
-use Rattle.cert_rules.specs.Trees.{Tree}
+use Rattle.cert_rules.specs.Trees.{Branching}
 use Rattle.cert_rules.specs.Listings.{Stand, Going, Ended, Rejected, Listed, steps}
 use Rattle.cert_rules.specs.ClaimLists.{ClaimStand, Claim, claim_steps}
 use Rattle.cert_rules.specs.Files.{Verdict, Rejects, Listing, ClaimList, as_listing, settle}
@@ -21,11 +21,11 @@ use Rattle.cert_check.specs.Claiming.{claim_stand, IsClaimStep}
 use Rattle.cert_check.specs.Whole.{ended_answer, IsTaken}
 
 -- what has ended, or was rejected, stays
-pub steps_ended : (tree : Tree) (listed : Listed) (lines : List CertLine) → steps tree (Ended listed) lines ≡ Ended listed
+pub steps_ended : (tree : Branching) (listed : Listed) (lines : List CertLine) → steps tree (Ended listed) lines ≡ Ended listed
 steps_ended tree listed [] = refl
 steps_ended tree listed (line ∷ lines) = steps_ended tree listed lines
 
-pub steps_rejected : (tree : Tree) (n : ℕ) (kind : RejectKind) (lines : List CertLine) → steps tree (Rejected n kind) lines ≡ Rejected n kind
+pub steps_rejected : (tree : Branching) (n : ℕ) (kind : RejectKind) (lines : List CertLine) → steps tree (Rejected n kind) lines ≡ Rejected n kind
 steps_rejected tree n kind [] = refl
 steps_rejected tree n kind (line ∷ lines) = steps_rejected tree n kind lines
 

@@ -1,14 +1,16 @@
 -- What keeps up with a list of claims, with `done` behind it, is read whole and accepted.
-use Rattle.std.proofs.Common.{◌≡◌, ℕ, ◌+◌, true, false, List, [], ◌∷◌, ◌++◌, Option, Some, None, sym, ap, ◌∙◌}
+use Rattle.std.proofs.Common.{◌≡◌, ℕ, ◌+◌, ◌≤◌, true, false, List, [], ◌∷◌, ◌++◌, length, Option, Some, None, sym, ap, ◌∙◌}
+use Rattle.std.specs.Prelude.{◌^◌}
 use Rattle.lits_core.specs.Derivation.{State, next_state}
 use Rattle.lits_core.specs.declared.Line.TheVariants.{Derive, Forget}
 use Rattle.world_model.specs.Problem.{Problem}
 use Rattle.cert_text.specs.declared.line.CertLine.{CertLine}
 use Rattle.cert_text.specs.declared.line.CertLine.TheVariants.{Claims, Proof, Branch, NoPoint, NoRelation, Holds, Fails, End, Quit, Done}
 use Rattle.cert_text.specs.Ends.{Whole}
+use Rattle.cert_text.specs.Logs.{lines_in}
 use Rattle.cert_reader.specs.declared.mode.Mode.{Mode}
 use Rattle.cert_reader.specs.declared.mode.Mode.TheVariants.{Header, Between, Block as InBlock}
-use Rattle.cert_reader.specs.Reading.{Reading}
+use Rattle.cert_reader.specs.Reading.{Reading, reading}
 use Rattle.cert_reader.specs.Laws.{stands}
 use Rattle.cert_reader.proofs.WholeLemmas.{standing_lines_are_read_law}
 use Rattle.cert_rules.specs.declared.RejectKind.{RejectKind}
@@ -16,7 +18,7 @@ use Rattle.cert_rules.specs.declared.RejectKind.TheVariants.{ExtraBranch}
 use Rattle.cert_rules.specs.Trees.{tree_fault, tree_next, end_fault}
 use Rattle.cert_rules.specs.Listings.{Going, Ended, Rejected, unless, proof_fault}
 use Rattle.cert_rules.specs.ClaimLists.{subject_fault, subject_tree, Claim, Block, ClaimStand, holds_fault, stray_kind, claim_steps, claim_start}
-use Rattle.cert_rules.specs.ClaimWriting.{one_more, open_at}
+use Rattle.cert_rules.specs.ClaimWriting.{ClaimsKeepUp, one_more, open_at}
 use Rattle.cert_rules.specs.Files.{ClaimList, settle, answer_of}
 use Rattle.cert_rules.proofs.ClaimWriting.{claims_put_keep_up_law, stand_of}
 use Rattle.cert_check.specs.Laws.{WrittenClaimsAreAccepted}
@@ -97,10 +99,15 @@ goes_on_stands p (Quit ∷ lines) n proof (Some block) made number after claims 
 goes_on_stands p (line ∷ lines) n proof (Some block) made number after claims e =
     absurd (stray p (n + 1) (stray_kind block.at) lines number (stand_of after None claims) e)
 
-pub written_claims_are_accepted_law : WrittenClaimsAreAccepted
-written_claims_are_accepted_law p lines state claims bytes k spelled short =
+-- so claims that keep up, with `done` behind them, are read whole
+pub written_claims_are_read : (p : Problem) (lines : List CertLine) (state : State) (claims : List Claim) (bytes : List ℕ) → ClaimsKeepUp p lines [] state None claims →
+    lines_in bytes ≡ Some (Claims p.switches ∷ (lines ++ Done ∷ [])) → length bytes ≤ 2 ^ 36 → reading bytes ≡ record { lines = Claims p.switches ∷ (lines ++ Done ∷ []); ends = Whole }
+written_claims_are_read p lines state claims bytes k spelled short =
     let all = Claims p.switches ∷ (lines ++ Done ∷ []) in
     let standing : stands Header all ≡ true = goes_on_stands p lines 1 (claim_start p).proof None [] k.number k.proof claims k.reached in
-    let read = standing_lines_are_read_law.whole bytes all spelled standing short in
-    ap (λ (read : Reading). answer_of p read.lines read.ends) read
+    standing_lines_are_read_law.whole bytes all spelled standing short
+
+pub written_claims_are_accepted_law : WrittenClaimsAreAccepted
+written_claims_are_accepted_law p lines state claims bytes k spelled short =
+    ap (λ (read : Reading). answer_of p read.lines read.ends) (written_claims_are_read p lines state claims bytes k spelled short)
     ∙ ap (λ status. settle ClaimList status Whole) (claims_put_keep_up_law.done p lines state claims k)

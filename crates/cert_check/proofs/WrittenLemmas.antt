@@ -1,32 +1,36 @@
 -- What keeps up with a listing, with an end behind it, is read whole and accepted.
-use Rattle.std.proofs.Common.{◌≡◌, ℕ, ◌+◌, true, false, cond, List, [], ◌∷◌, ◌++◌, Option, Some, None, refl, sym, ap, ◌∙◌}
+use Rattle.std.proofs.Common.{◌≡◌, ℕ, ◌+◌, ◌≤◌, true, false, cond, List, [], ◌∷◌, ◌++◌, length, Option, Some, None, refl, sym, ap, ◌∙◌}
+use Rattle.std.specs.Prelude.{◌^◌}
 use Rattle.rcc5_core.specs.declared.Rel.{Rel}
+use Rattle.world_model.specs.Problem.{Problem}
 use Rattle.lits_core.specs.Derivation.{State}
 use Rattle.lits_core.specs.declared.Line.TheVariants.{Derive, Forget}
 use Rattle.cert_text.specs.declared.line.CertLine.{CertLine}
 use Rattle.cert_text.specs.declared.line.CertLine.TheVariants.{Certificate, Claims, Proof, Branch, NoPoint, NoRelation, World, Holds, Fails, End, Quit, Done}
 use Rattle.cert_text.specs.Ends.{Whole}
+use Rattle.cert_text.specs.Logs.{lines_in}
 use Rattle.cert_reader.specs.declared.mode.Mode.TheVariants.{Header, Listing as InListing}
-use Rattle.cert_reader.specs.Reading.{Reading}
+use Rattle.cert_reader.specs.Reading.{Reading, reading}
 use Rattle.cert_reader.specs.Laws.{stands}
 use Rattle.cert_reader.proofs.WholeLemmas.{standing_lines_are_read_law}
 use Rattle.cert_rules.specs.declared.RejectKind.{RejectKind}
 use Rattle.cert_rules.specs.declared.RejectKind.TheVariants.{MissingBranch, ExtraBranch}
-use Rattle.cert_rules.specs.Trees.{Tree, names, node_fault, tree_fault, end_fault}
+use Rattle.cert_rules.specs.Trees.{Branching, names, node_fault, tree_fault, end_fault}
 use Rattle.cert_rules.specs.Listings.{Stand, Status, Going, Ended, Rejected, Listed, ForTree, role_of, unless, after_node, take_by, step, steps, listing_tree, start}
 use Rattle.cert_rules.specs.Files.{as_listing, settle, answer_of}
+use Rattle.cert_rules.specs.Writing.{BeginsAndKeepsUp}
 use Rattle.cert_rules.proofs.Whole.{listing_law}
 use Rattle.cert_rules.proofs.Writing.{put_keeps_up_law}
 use Rattle.cert_check.specs.Laws.{WrittenIsAccepted}
 use Rattle.cert_check.proofs.WholeLemmas.{steps_ended, steps_rejected}
 
 -- a line that names no node has a fault
-stray_fault : (tree : Tree) (proof : State) (at : Option (List Rel)) (line : CertLine) → ((m : List Rel) → names m line ≡ false) → (kind : RejectKind) × (tree_fault tree proof at line ≡ Some kind)
+stray_fault : (tree : Branching) (proof : State) (at : Option (List Rel)) (line : CertLine) → ((m : List Rel) → names m line ≡ false) → (kind : RejectKind) × (tree_fault tree proof at line ≡ Some kind)
 stray_fault tree proof None line none = (ExtraBranch, refl)
 stray_fault tree proof (Some m) line none = (MissingBranch, ap (λ b. cond b (node_fault tree proof m line) (Some MissingBranch)) (none m))
 
 -- so a listing does not go on after it
-stray : (tree : Tree) (status : Status Stand Listed) (line : CertLine) (lines : List CertLine) (number : ℕ) (stand : Stand) → role_of line ≡ ForTree → ((m : List Rel) → names m line ≡ false) →
+stray : (tree : Branching) (status : Status Stand Listed) (line : CertLine) (lines : List CertLine) (number : ℕ) (stand : Stand) → role_of line ≡ ForTree → ((m : List Rel) → names m line ≡ false) →
     steps tree (step tree status line) lines ≡ Going number stand → ⊥
 stray tree (Going n s) line lines number stand for_tree none e =
     let fault = stray_fault tree s.proof s.at line none in
@@ -38,19 +42,19 @@ stray tree (Ended listed) line lines number stand for_tree none e = let no : End
 stray tree (Rejected n kind) line lines number stand for_tree none e = let no : Rejected n kind ≡ Going number stand = sym (steps_rejected tree n kind lines) ∙ e in cc
 
 -- nor after an end
-past_end : (tree : Tree) (fault : Option RejectKind) (n : ℕ) (listed : Listed) (lines : List CertLine) (number : ℕ) (stand : Stand) →
+past_end : (tree : Branching) (fault : Option RejectKind) (n : ℕ) (listed : Listed) (lines : List CertLine) (number : ℕ) (stand : Stand) →
     steps tree (unless fault n (Ended listed)) lines ≡ Going number stand → ⊥
 past_end tree None n listed lines number stand e = let no : Ended listed ≡ Going number stand = sym (steps_ended tree listed lines) ∙ e in cc
 past_end tree (Some kind) n listed lines number stand e = let no : Rejected n kind ≡ Going number stand = sym (steps_rejected tree n kind lines) ∙ e in cc
 
-ended : (tree : Tree) (status : Status Stand Listed) (to : Option (List Rel)) (lines : List CertLine) (number : ℕ) (stand : Stand) →
+ended : (tree : Branching) (status : Status Stand Listed) (to : Option (List Rel)) (lines : List CertLine) (number : ℕ) (stand : Stand) →
     steps tree (step tree status (End to)) lines ≡ Going number stand → ⊥
 ended tree (Going n s) to lines number stand e = past_end tree (end_fault s.at to) (n + 1) (record { to = to; worlds = s.worlds }) lines number stand e
 ended tree (Ended listed) to lines number stand e = let no : Ended listed ≡ Going number stand = sym (steps_ended tree listed lines) ∙ e in cc
 ended tree (Rejected n kind) to lines number stand e = let no : Rejected n kind ≡ Going number stand = sym (steps_rejected tree n kind lines) ∙ e in cc
 
 -- so lines after which a listing goes on may stand in one, with an end behind them
-goes_on_stands : (tree : Tree) (status : Status Stand Listed) (lines : List CertLine) (number : ℕ) (stand : Stand) (at : Option (List Rel)) → steps tree status lines ≡ Going number stand →
+goes_on_stands : (tree : Branching) (status : Status Stand Listed) (lines : List CertLine) (number : ℕ) (stand : Stand) (at : Option (List Rel)) → steps tree status lines ≡ Going number stand →
     stands InListing (lines ++ End at ∷ []) ≡ true
 goes_on_stands tree status [] number stand at e = refl
 goes_on_stands tree status (Certificate switches from ∷ lines) number stand at e = absurd (stray tree status (Certificate switches from) lines number stand refl (λ m. refl) e)
@@ -67,15 +71,22 @@ goes_on_stands tree status (End to ∷ lines) number stand at e = absurd (ended 
 goes_on_stands tree status (Quit ∷ lines) number stand at e = absurd (stray tree status Quit lines number stand refl (λ m. refl) e)
 goes_on_stands tree status (Done ∷ lines) number stand at e = absurd (stray tree status Done lines number stand refl (λ m. refl) e)
 
+-- so what keeps up, with an end behind it, is read whole
+pub written_is_read : (p : Problem) (from : List Rel) (told : List CertLine) (state : State) (at : Option (List Rel)) (bytes : List ℕ) → BeginsAndKeepsUp p from [] state at told →
+    lines_in bytes ≡ Some (told ++ End at ∷ []) → length bytes ≤ 2 ^ 36 → reading bytes ≡ record { lines = told ++ End at ∷ []; ends = Whole }
+written_is_read p from told state at bytes keeps spelled short =
+    let k = keeps.keeps_up in
+    let begins : told ++ End at ∷ [] ≡ Certificate p.switches from ∷ (keeps.lines ++ End at ∷ []) = ap (λ told. told ++ End at ∷ []) keeps.begins in
+    let stood = goes_on_stands (listing_tree p from) (Going 1 (start p)) keeps.lines k.number k.stand at k.reached in
+    let standing : stands Header (told ++ End at ∷ []) ≡ true = ap (stands Header) begins ∙ stood in
+    standing_lines_are_read_law.whole bytes (told ++ End at ∷ []) spelled standing short
+
 pub written_is_accepted_law : WrittenIsAccepted
 written_is_accepted_law = record {
   accepted = λ p from told state at bytes built room keeps spelled short.
-      let k = keeps.keeps_up in
       let begins : told ++ End at ∷ [] ≡ Certificate p.switches from ∷ (keeps.lines ++ End at ∷ []) = ap (λ told. told ++ End at ∷ []) keeps.begins in
-      let stood = goes_on_stands (listing_tree p from) (Going 1 (start p)) keeps.lines k.number k.stand at k.reached in
-      let standing : stands Header (told ++ End at ∷ []) ≡ true = ap (stands Header) begins ∙ stood in
-      let read = standing_lines_are_read_law.whole bytes (told ++ End at ∷ []) spelled standing short in
-      let last = put_keeps_up_law.ends p from keeps.lines state at room k in
+      let read = written_is_read p from told state at bytes keeps spelled short in
+      let last = put_keeps_up_law.ends p from keeps.lines state at room keeps.keeps_up in
       let is_listing = listing_law p built p.switches from (keeps.lines ++ End at ∷ []) (record { to = at; worlds = last.0 }) last.1 in (
         last.0,
         is_listing,

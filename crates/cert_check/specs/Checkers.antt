@@ -1,7 +1,7 @@
 -- How a checker takes a line.
 use Rattle.std.specs.Prelude.{◌≡◌, ℕ, ◌+◌, Result, Ok, Err, ⊤}
 use Rattle.cert_text.specs.declared.line.CertLine.{CertLine}
-use Rattle.cert_rules.specs.Trees.{Tree}
+use Rattle.cert_rules.specs.Trees.{Branching}
 use Rattle.lits_core.specs.declared.LineFault.{LineFault}
 use Rattle.lits_core.specs.declared.LineFault.TheVariants as fault
 use Rattle.cert_rules.specs.Listings.{as_kind, Stand, Going, Ended, Rejected, step}
@@ -25,7 +25,7 @@ abbrev pub stand_of : Listing → Stand
 stand_of listing = record { proof = listing.book; at = at_of listing.walk; worlds = listing.worlds.items }
 
 -- a line was taken as the rules take it, whatever its number: they go on, or end there, or reject it
-abbrev pub IsStep : Tree → Stand → CertLine → Stand → Result Turn Stop → Type 0
+abbrev pub IsStep : Branching → Stand → CertLine → Stand → Result Turn Stop → Type 0
 IsStep tree s line new (Ok turn.Further) = (n : ℕ) → step tree (Going n s) line ≡ Going (n + 1) new
 IsStep tree s line new (Ok (turn.Ended to)) = (n : ℕ) → step tree (Going n s) line ≡ Ended (record { to = to; worlds = new.worlds })
 IsStep tree s line new (Err (stop.Rejected kind)) = (n : ℕ) → step tree (Going n s) line ≡ Rejected (n + 1) kind

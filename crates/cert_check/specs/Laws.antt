@@ -1,4 +1,4 @@
--- What the checker accepts of what is written.
+-- What accepted bytes show, and what the checker accepts of what is written.
 use Rattle.std.specs.Prelude.{◌≡◌, ℕ, ◌^◌, ◌≤◌, List, [], ◌∷◌, ◌++◌, length, Option, Some, None}
 use Rattle.rcc5_core.specs.declared.Rel.{Rel}
 use Rattle.lits_core.specs.Derivation.{State}
@@ -12,6 +12,7 @@ use Rattle.cert_reader.specs.Reading.{reading}
 use Rattle.cert_rules.specs.ClaimLists.{Claim}
 use Rattle.cert_rules.specs.ClaimWriting.{ClaimsKeepUp}
 use Rattle.cert_rules.specs.Files.{Listing, ClaimList, Accepts, answer_of}
+use Rattle.cert_rules.specs.Showing.{ShowsAll}
 use Rattle.cert_rules.specs.Writing.{BeginsAndKeepsUp}
 
 -- lines that keep up with a listing, and an end where the writer stands, are accepted as the listing up to there, by bytes that
@@ -27,3 +28,9 @@ abbrev pub WrittenClaimsAreAccepted : Type 0
 WrittenClaimsAreAccepted = (p : Problem) (lines : List CertLine) (state : State) (claims : List Claim) (bytes : List ℕ) →
     ClaimsKeepUp p lines [] state None claims → lines_in bytes ≡ Some (Claims p.switches ∷ (lines ++ Done ∷ [])) → length bytes ≤ 2 ^ 36 →
     answer_of p (reading bytes).lines (reading bytes).ends ≡ Accepts (ClaimList claims)
+
+-- bytes that are accepted as a listing give each world its family, and each other table between start and stop, unless one pair
+-- excludes it, its refutation
+abbrev pub AcceptedBytesShowAll : Type 0
+AcceptedBytesShowAll = (p : Problem) → IsBuilt p → (bytes : List ℕ) (from : List Rel) (to : Option (List Rel)) (worlds : List (List Rel)) →
+    answer_of p (reading bytes).lines (reading bytes).ends ≡ Accepts (Listing from to worlds) → ShowsAll p from to worlds (reading bytes).lines

@@ -1,6 +1,7 @@
 //! A certificate, checked from its first line to the end of its text.
 
-ghost use Rattle.std.specs.Prelude.{◌≡◌, ◌≤◌, ◌+◌, ◌^◌, ◌<◌, Option, None, Some, Err, option_map, IfOk, OnOk, IfSome};
+ghost use Rattle.std.specs.Prelude.{◌≡◌, ◌≤◌, ◌+◌, ◌^◌, ◌<◌, Option, None, Some, Err, option_map, IfOk, OnOk, IfSome, IfNone};
+ghost use Rattle.cert_reader.specs.Bytes.{IsSpent};
 ghost use Rattle.cert_reader.specs.Reading.{Reading, reading, with_first};
 ghost use Rattle.cert_reader.specs.Reader.{to_read};
 ghost use Rattle.cert_rules.specs.Laws.{VerdictIsSo};
@@ -33,6 +34,7 @@ pub fn check<R: Source>(
 ) -> Result<Accepted, CheckFault>
     ensures answer { IfSome (R.left source.old) (λ bytes. IsAnswerOf problem.now (reading bytes) result) }
     ensures so { IfSome (R.left source.old) (λ _. IfOk result (λ said. VerdictIsSo problem.now (verdict_of said))) }
+    ensures spent { OnOk result (IsSpent (R.left source.new)) }
     ensures source { SourceGoes R.faults R.steady R.quiet result source.old source.new }
 {
     problem.facts();
@@ -50,6 +52,7 @@ fn check_lines<R: Source>(
     requires fresh { reader.old.refusal ≡ None }
     requires few { AreFew 0 (to_read reader.old (R.left source.old)) }
     ensures answer { IfSome (to_read reader.old (R.left source.old)) (λ read. IsAnswerOf problem.now read result) }
+    ensures spent { OnOk result (IsSpent (R.left source.new)) }
     ensures source { SourceGoes R.faults R.steady R.quiet result source.old source.new }
 {
     match next_line(reader, source) {
@@ -70,6 +73,7 @@ fn check_behind<R: Source>(
     requires fresh { reader.old.refusal ≡ None }
     requires few { AreFew 1 (to_read reader.old (R.left source.old)) }
     ensures answer { IfSome (to_read reader.old (R.left source.old)) (λ read. IsAnswerOf problem.now (with_first first read) result) }
+    ensures spent { OnOk result (IsSpent (R.left source.new)) }
     ensures source { SourceGoes R.faults R.steady R.quiet result source.old source.new }
 {
     match Checker::new(alloc, problem, first) {
@@ -88,6 +92,7 @@ fn check_rest<R: Source>(
     requires fresh { reader.old.refusal ≡ None }
     requires few { AreFew 1 (to_read reader.old (R.left source.old)) }
     ensures answer { TellsFrom checker 1 (to_read reader.old (R.left source.old)) result }
+    ensures spent { OnOk result (IsSpent (R.left source.new)) }
     ensures source { SourceGoes R.faults R.steady R.quiet result source.old source.new }
 {
     let mut checker = checker;
@@ -151,6 +156,7 @@ fn finish<R: Source>(
     requires fresh { reader.old.refusal ≡ None }
     requires few { AreFew 1 (to_read reader.old (R.left source.old)) }
     ensures answer { IfSome (to_read reader.old (R.left source.old)) (λ read. Tells (ended_answer (verdict_from checker to) read.ends) result) }
+    ensures spent { OnOk result (IsSpent (R.left source.new)) }
     ensures source { SourceGoes R.faults R.steady R.quiet result source.old source.new }
 {
     match end_reading(reader, source) {
@@ -163,6 +169,7 @@ fn end_reading<R: Source>(reader: &mut CertReader, source: &mut R) -> Result<(),
     requires fresh { reader.old.refusal ≡ None }
     requires few { AreFew 1 (to_read reader.old (R.left source.old)) }
     ensures answer { IsEnd (to_read reader.old (R.left source.old)) result }
+    ensures spent { OnOk result (IsSpent (R.left source.new)) }
     ensures source { SourceGoes R.faults R.steady R.quiet result source.old source.new }
 {
     for _read in 1..LIMIT + 1 {
@@ -183,6 +190,7 @@ fn next_line<R: Source>(
     requires { reader.old.refusal ≡ None }
     ensures answer { IsNextLine result (to_read reader.old (R.left source.old)) (to_read reader.new (R.left source.new)) }
     ensures fresh { OnOk result (reader.new.refusal ≡ None) }
+    ensures spent { IfOk result (λ line. IfNone line (IsSpent (R.left source.new))) }
     ensures source { SourceGoes R.faults R.steady R.quiet result source.old source.new }
 {
     match reader.next(source) {

@@ -20,7 +20,7 @@ use crate::listing::{Turn, given_book};
 use crate::open_tree::OpenTree;
 use cert_rules::RejectKind;
 use cert_text::{CertLine, RawFamily, Subject};
-use cert_tree::{Tree, Walk, family_fault, is_branch};
+use cert_tree::{Branching, Walk, family_fault, is_branch};
 use constraint_set::Problem;
 use lits_core::Line;
 use proof_check::Book;
@@ -250,7 +250,7 @@ impl Claims {
         ensures at { IfOk result (λ block. at_of block.walk ≡ Some []) }
     {
         let problem = self.problem_of(&subject)?;
-        let walk = Walk::new(self.alloc, Tree::root(self.alloc, problem));
+        let walk = Walk::new(self.alloc, Branching::root(self.alloc, problem));
         Ok(OpenTree { subject, walk })
     }
 

@@ -15,4 +15,6 @@ pub use accepted::{Accepted, Claim, ClaimList, Worlds};
 pub use cert_rules::RejectKind;
 pub use checking::check;
 pub use fault::CheckFault;
-pub use laws::law_written_is_accepted;
+pub use laws::{
+    law_accepted_bytes_show_all, law_written_claims_are_accepted, law_written_is_accepted,
+};

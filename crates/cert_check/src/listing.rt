@@ -13,7 +13,7 @@ ghost use Rattle.cert_check.specs.Checkers.{stand_of, IsStep};
 use crate::accepted::{Accepted, Worlds};
 use crate::fault::{Stop, stop_at};
 use cert_text::CertLine;
-use cert_tree::{Tree, Walk, is_branch};
+use cert_tree::{Branching, Walk, is_branch};
 use constraint_set::Problem;
 use lits_core::Line;
 use point_encode::given_clauses;
@@ -61,7 +61,7 @@ impl Listing {
         ensures tree { IfOk result (λ listing. listing.walk.tree ≡ listing_tree problem.now from) }
         ensures start { IfOk result (λ listing. stand_of listing ≡ start problem.now) }
     {
-        let tree = Tree::new(alloc, problem.copy()?, true, from)?;
+        let tree = Branching::new(alloc, problem.copy()?, true, from)?;
         Ok(Listing {
             alloc,
             book: given_book(alloc, problem)?,

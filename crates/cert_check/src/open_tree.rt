@@ -9,7 +9,7 @@ ghost use Rattle.cert_tree.specs.Walks.{at_of};
 use crate::fault::Stop;
 use cert_rules::RejectKind;
 use cert_text::Subject;
-use cert_tree::{Tree, Walk};
+use cert_tree::{Branching, Walk};
 use rcc5_core::Position;
 use std::alloc::{AllocError, Global};
 
@@ -44,7 +44,7 @@ impl OpenTree {
     {
         let OpenTree { subject, mut walk } = self;
         let problem = walk.tree.into_subject();
-        let tree = Tree::new(alloc, problem, false, Position::new(alloc))?;
+        let tree = Branching::new(alloc, problem, false, Position::new(alloc))?;
         walk.tree = tree;
         Ok(OpenTree { subject, walk })
     }

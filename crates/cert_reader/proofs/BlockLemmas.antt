@@ -1,5 +1,5 @@
 -- Bytes of a block up to the next LF.
-use Rattle.std.proofs.Common.{◌≡◌, ℕ, ◌+◌, ◌-◌, ◌<◌, ◌≤◌, Bool, true, false, eqb, ltb, cond, List, [], ◌∷◌, ◌++◌, append-nil, append_assoc, length, length-take, get_or, take, drop, position, Option, Some, None, option_map, refl, sym, ap, ◌∙◌, arith}
+use Rattle.std.proofs.Common.{◌≡◌, ℕ, ◌+◌, ◌-◌, ◌<◌, ◌≤◌, Bool, true, false, eqb, ltb, cond, List, [], ◌∷◌, ◌++◌, append-nil, append_assoc, length, length-append, length-take, get_or, take, drop, position, Option, Some, None, option_map, refl, sym, ap, ◌∙◌, arith}
 use Rattle.std.proofs.lemmas.Grind.{common_steps}
 use Rattle.std.specs.List.{position_or_len}
 use Rattle.std.proofs.lemmas.Bool.{eqb-true}
@@ -73,6 +73,17 @@ pub gathered_on : (found : Bool) (old new line more : List ℕ) (told left rest 
     told ≡ option_map (λ rest. line ++ rest) (to_come old left) → rest ≡ left → told ≡ option_map (λ rest. more ++ rest) rest
 gathered_on found old new line more told left rest is missed before kept =
     before ∙ moved_on old line more is.moved left is.grown (is.parted ∙ ap (λ b. is.moved ++ cond b (10 ∷ new) []) missed) ∙ ap (option_map (λ rest. more ++ rest)) (sym kept)
+
+-- a line that took all bytes at hand is longer by these
+pub moved_length : (found : Bool) (old new line more : List ℕ) → IsMoved found old new line more → found ≡ false → length more ≡ length line + length old
+moved_length found old new line more is missed =
+    let all : old ≡ is.moved = is.parted ∙ ap (λ b. is.moved ++ cond b (10 ∷ new) []) missed ∙ append-nil is.moved in
+    ap length is.grown ∙ length-append line is.moved ∙ ap (λ o. length line + length o) (sym all)
+
+-- no bytes are those whose number is 0
+pub none_of : (bytes : List ℕ) → length bytes ≡ 0 → bytes ≡ []
+none_of [] is = refl
+none_of (byte ∷ bytes) is = absurd (omega (arith, is))
 
 clean_on : (line moved : List ℕ) → has_byte 10 line ≡ false → has_byte 10 moved ≡ false → has_byte 10 (line ++ moved) ≡ false
 clean_on line moved before after = grind (arith, common_steps)

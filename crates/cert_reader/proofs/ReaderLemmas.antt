@@ -1,5 +1,5 @@
 -- What a line, or a rest with no LF, leaves to be read.
-use Rattle.std.proofs.Common.{◌≡◌, ◌≢◌, ℕ, ◌+◌, ◌-◌, ◌^◌, ◌<◌, false, cond, eqb, List, [], ◌∷◌, ◌++◌, length, length-append, Option, Some, None, option_map, IfSome, Result, Ok, Err, IsErrAnd, refl, sym, ap, subst, ◌∙◌, arith}
+use Rattle.std.proofs.Common.{◌≡◌, ◌≢◌, ℕ, ◌+◌, ◌-◌, ◌^◌, ◌<◌, ◌≤◌, false, cond, eqb, List, [], ◌∷◌, ◌++◌, length, length-append, Option, Some, None, option_map, IfSome, IfNone, IfOk, OnOk, Result, Ok, Err, IsErrAnd, refl, sym, ap, subst, ◌∙◌, arith}
 use Rattle.std.specs.List.{onto_first, join_with_byte}
 use Rattle.std.proofs.lemmas.Bool.{lt-ltb, or_parts}
 use Rattle.std.proofs.lemmas.List.Splits.{slice_split-cons_no, join_with_byte-slice_split}
@@ -17,6 +17,7 @@ use Rattle.cert_reader.specs.Reading.{Reading, faulty, with_first, is_over, rest
 use Rattle.cert_reader.specs.declared.gather.Gathered.{Gathered}
 use Rattle.cert_reader.specs.declared.gather.Gathered.TheVariants as gathered
 use Rattle.cert_reader.specs.Bytes.{to_come}
+use Rattle.cert_reader.proofs.BlockLemmas.{none_of}
 use Rattle.cert_reader.specs.Reader.{Reader, IsGathered, to_read, IsToldAt, IsAnswer, ended_by}
 
 -- a text has words, be it empty
@@ -109,6 +110,22 @@ pub answer_long : (spot : Spot) (front : List ℕ) (old : Option (List ℕ)) (la
     IfSome old (λ bytes. (rest : List ℕ) × (bytes ≡ front ++ rest)) → IsAnswer (Err (Text spot.line TooLong)) (option_map (λ bytes. reading_from spot bytes) old) later
 answer_long spot front None later clean long is = tt
 answer_long spot front (Some bytes) later clean long is = ap (reading_from spot) is.1 ∙ reading_long spot front is.0 clean long
+
+-- where the bytes have ended, none was at hand before, and none is at hand now
+pub stays_at_end : (r : Result (Option CertLine) CertTextFault) (self : Reader) (spot : Spot) (old new : List ℕ) (refusal : Option CertTextFault) (bytes line : List ℕ) →
+    record { spot = spot; pending = old; refusal = refusal } ≡ self → bytes ≡ line → OnOk r (length bytes ≡ 0) → (new ≡ []) × (length old ≤ length line) →
+    IfOk r (λ x. IfNone x (record { spot = spot; pending = new; refusal = refusal } ≡ self))
+stays_at_end (Ok None) self spot old new refusal bytes line is same empty rest =
+    let none : old ≡ [] = none_of old (omega (arith, rest.1, empty, ap length same)) in
+    ap (λ pending. record { spot = spot; pending = pending; refusal = refusal }) (rest.0 ∙ sym none) ∙ is
+stays_at_end (Ok (Some x)) self spot old new refusal bytes line is same empty rest = tt
+stays_at_end (Err fault) self spot old new refusal bytes line is same empty rest = tt
+
+-- a fact, where an answer is none
+pub where_none : (r : Result (Option CertLine) CertTextFault) (Fact : Type 0) → Fact → IfOk r (λ x. IfNone x Fact)
+where_none (Ok None) Fact fact = fact
+where_none (Ok (Some x)) Fact fact = tt
+where_none (Err fault) Fact fact = tt
 
 -- the same of a reader, by what its calls ensure
 module _ (self : Reader) (spot : Spot) (pending : List ℕ) (refusal : Option CertTextFault) (left new : Option (List ℕ)) (later : Option Reading) (how : Gathered) (room : ℕ) (bytes line : List ℕ)

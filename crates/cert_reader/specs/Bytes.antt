@@ -1,5 +1,5 @@
 -- Bytes of a source, taken in blocks and parted at each LF.
-use Rattle.std.specs.Prelude.{◌≡◌, ℕ, ◌-◌, ◌<◌, ◌≤◌, Bool, false, if◌then◌else◌, List, [], ◌∷◌, ◌++◌, length, take, drop, Option, option_map}
+use Rattle.std.specs.Prelude.{◌≡◌, ℕ, ◌-◌, ◌<◌, ◌≤◌, Bool, false, if◌then◌else◌, List, [], ◌∷◌, ◌++◌, length, take, drop, Option, option_map, IfSome}
 use Rattle.proof_text.specs.Laws.{has_byte}
 
 -- the part of a block that is still to come
@@ -17,6 +17,10 @@ pub record IsMoved (found : Bool) (old new line_old line_new : List ℕ) : Type 
   pub no_lf : has_byte 10 moved ≡ false
   pub parted : old ≡ moved ++ (if found then 10 ∷ new else [])
   pub all : found ≡ false → new ≡ []
+
+-- nothing is left, where a source tells it
+abbrev pub IsSpent : Option (List ℕ) → Type 0
+IsSpent left = IfSome left (λ bytes. bytes ≡ [])
 
 -- the bytes to come: those at hand, and those that a source has left, where it tells them
 abbrev pub to_come : List ℕ → Option (List ℕ) → Option (List ℕ)

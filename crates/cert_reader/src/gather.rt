@@ -1,8 +1,9 @@
 //! A line brought together from blocks.
 
-ghost use Rattle.std.specs.Prelude.{◌≡◌, ◌≤◌, ◌^◌, [], IfOk, ⊤};
+ghost use Rattle.std.specs.Prelude.{◌≡◌, ◌≤◌, ◌^◌, [], length, Ok, IfOk, ⊤};
 ghost use Rattle.outer_store.specs.Faults.{Rose, IfFailed};
-ghost use Rattle.cert_reader.specs.Bytes.{to_come};
+ghost use Rattle.cert_reader.specs.Bytes.{IsSpent, to_come};
+ghost use Rattle.cert_reader.specs.declared.gather.Gathered.TheVariants.{Rest};
 ghost use Rattle.cert_reader.specs.Reader.{IsGathered};
 
 use crate::blocks::Blocks;
@@ -30,6 +31,8 @@ pub(crate) fn gather<R: Source>(
     requires empty { line.old.items ≡ [] }
     requires room { room ≤ 2 ^ 36 }
     ensures bytes { IfOk result (λ how. IsGathered how room (to_come blocks.old (R.left source.old)) (to_come blocks.new (R.left source.new)) line.new.items) }
+    ensures rest { result ≡ Ok Rest → (blocks.new ≡ []) × (length blocks.old ≤ length line.new.items) }
+    ensures spent { result ≡ Ok Rest → IsSpent (R.left source.new) }
     ensures cause { IfFailed result (Rose (R.faults source.old) (R.faults source.new)) (R.faults source.new ≡ R.faults source.old) }
     ensures later { R.faults source.old ≤ R.faults source.new }
     ensures steady { R.steady source.old source.new }

@@ -1,7 +1,8 @@
 //! A certificate, read line by line.
 
-ghost use Rattle.std.specs.Prelude.{◌≡◌, ◌≤◌, [], None, Some, Err, IfOk, IfErr, OnOk, IfSome, ⊤};
+ghost use Rattle.std.specs.Prelude.{◌≡◌, ◌≤◌, [], None, Some, Err, IfOk, IfErr, OnOk, IfSome, IfNone, ⊤};
 ghost use Rattle.outer_store.specs.Faults.{Rose};
+ghost use Rattle.cert_reader.specs.Bytes.{IsSpent};
 ghost use Rattle.cert_reader.specs.Reading.{first_spot};
 ghost use Rattle.cert_reader.specs.Reader.{to_read, IsAnswer, IfReadFault};
 
@@ -51,6 +52,8 @@ impl CertReader {
     /// The next line, and none where the bytes end after the last one. After a refusal it is refused again.
     pub fn next<R: Source>(&mut self, source: &mut R) -> Result<Option<CertLine>, CertTextFault>
         ensures answer { self.old.refusal ≡ None → IsAnswer result (to_read self.old (R.left source.old)) (to_read self.new (R.left source.new)) }
+        ensures stays { IfOk result (λ line. IfNone line (self.new ≡ self.old)) }
+        ensures spent { IfOk result (λ line. IfNone line (IsSpent (R.left source.new))) }
         ensures refused { IfErr result (λ fault. self.new.refusal ≡ Some fault) }
         ensures open { OnOk result (self.new.refusal ≡ None) }
         ensures again { IfSome self.old.refusal (λ fault. (result ≡ Err fault) × (self.new ≡ self.old) × (source.new ≡ source.old)) }
@@ -71,6 +74,8 @@ impl CertReader {
 
     fn read_next<R: Source>(&mut self, source: &mut R) -> Result<Option<CertLine>, CertTextFault>
         ensures answer { IsAnswer result (to_read self.old (R.left source.old)) (to_read self.new (R.left source.new)) }
+        ensures stays { IfOk result (λ line. IfNone line (self.new ≡ self.old)) }
+        ensures spent { IfOk result (λ line. IfNone line (IsSpent (R.left source.new))) }
         ensures refusal { self.new.refusal ≡ self.old.refusal }
         ensures cause { IfReadFault result (Rose (R.faults source.old) (R.faults source.new)) (R.faults source.new ≡ R.faults source.old) }
         ensures later { R.faults source.old ≤ R.faults source.new }

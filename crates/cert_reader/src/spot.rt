@@ -1,6 +1,6 @@
 //! Which line comes next, and what stands there.
 
-ghost use Rattle.std.specs.Prelude.{◌≡◌, ◌-◌, ◌^◌, IfOk};
+ghost use Rattle.std.specs.Prelude.{◌≡◌, ◌-◌, ◌^◌, length, IfOk, IfNone, OnOk};
 ghost use Rattle.cert_reader.specs.declared.fault.CertTextFault.TheVariants.{Text};
 ghost use Rattle.cert_reader.specs.Reading.{first_spot, rest_fault, line_at};
 ghost use Rattle.cert_reader.specs.Reader.{IsSpot, IsToldAt, ended_by};
@@ -55,7 +55,8 @@ impl Spot {
     /// The answer where bytes with no LF behind them are all that is left.
     pub(crate) fn end(self, bytes: &[u8]) -> Result<Option<CertLine>, CertTextFault>
         requires { IsSpot self }
-        ensures { result ≡ ended_by self (rest_fault self bytes.now) }
+        ensures answer { result ≡ ended_by self (rest_fault self bytes.now) }
+        ensures none { OnOk result (length bytes.now ≡ 0) }
     {
         match self.rest_fault(bytes) {
             Some(kind) => Err(self.fault(kind)),
@@ -67,7 +68,8 @@ impl Spot {
     #[tactic(auto, unfolding(crate::specs::Reading::rest_fault))]
     fn rest_fault(self, bytes: &[u8]) -> Option<CertTextKind>
         requires { IsSpot self }
-        ensures { result ≡ rest_fault self bytes.now }
+        ensures fault { result ≡ rest_fault self bytes.now }
+        ensures none { IfNone result (length bytes.now ≡ 0) }
     {
         if bytes.len() as u64 > self.room() {
             Some(CertTextKind::TooLong)

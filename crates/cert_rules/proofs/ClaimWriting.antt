@@ -15,7 +15,7 @@ use Rattle.cert_text.specs.declared.line.Subject.{Subject}
 use Rattle.cert_text.specs.declared.line.CertLine.{CertLine}
 use Rattle.cert_text.specs.declared.line.CertLine.TheVariants.{Proof, Branch, NoPoint, NoRelation, Holds, Fails, End, Quit, Done}
 use Rattle.cert_rules.specs.declared.RejectKind.{RejectKind}
-use Rattle.cert_rules.specs.Trees.{Tree, node_problem, fault_or, node_fault, tree_fault, tree_next, family_fault, point_fault}
+use Rattle.cert_rules.specs.Trees.{Branching, node_problem, fault_or, node_fault, tree_fault, tree_next, family_fault, point_fault}
 use Rattle.cert_rules.specs.Listings.{Status, Going, unless, as_kind}
 use Rattle.cert_rules.specs.ClaimLists.{subject_problem, subject_tree, Claim, Block, ClaimStand, with_block, holds_fault, ForNode, claim_role, take_inside, claim_step, claim_steps, claim_start}
 use Rattle.cert_rules.specs.ClaimWriting.{ClaimsKeepUp, IsSoWithin, TellsWithin, ShowsSubject, open_at, one_more, ClaimsPutKeepUp}
@@ -82,14 +82,14 @@ holds_is_faultless p subject f s =
     ap (λ fault. fault_or fault (family_fault q (family_from f.universe f.sets))) s.subject_is ∙ ap (family_fault q) made ∙ ap (λ b. cond b None (Some RejectKind.FamilyDoesNotMeet)) s.met
 
 -- nor has a line that says what is so of its node
-node_is_faultless : (tree : Tree) (proof state : State) (m : List Rel) (line : CertLine) → SameState proof state → IsSoWithin tree state m line → node_fault tree proof m line ≡ None
+node_is_faultless : (tree : Branching) (proof state : State) (m : List Rel) (line : CertLine) → SameState proof state → IsSoWithin tree state m line → node_fault tree proof m line ≡ None
 node_is_faultless tree proof state m (Branch depth last) same so = branch_is_faultless m (length tree.levels) so
 node_is_faultless tree proof state m (NoPoint depth last need clause) same so =
     subst (λ q. point_fault q proof need clause ≡ None) (at_empty (node_problem tree m)) (point_is_faultless (node_problem tree m) [] proof state need clause same so)
 node_is_faultless tree proof state m (NoRelation depth last pair) same so = pair_is_faultless (node_problem tree m) pair so.0 so.1
 node_is_faultless tree proof state m line same so = absurd so
 
-node_role : (tree : Tree) (state : State) (m : List Rel) (line : CertLine) → IsSoWithin tree state m line → claim_role line ≡ ForNode
+node_role : (tree : Branching) (state : State) (m : List Rel) (line : CertLine) → IsSoWithin tree state m line → claim_role line ≡ ForNode
 node_role tree state m (Branch depth last) so = refl
 node_role tree state m (NoPoint depth last need clause) so = refl
 node_role tree state m (NoRelation depth last pair) so = refl

@@ -17,7 +17,7 @@ at_root : (found : Option Rel) → single found ≡ found_or [] found None
 at_root None = refl
 at_root (Some rel) = refl
 
-root_ends : (sets : List RelSet) (from : List Rel) → onward sets from false [] ≡ None
+pub root_ends : (sets : List RelSet) (from : List Rel) → onward sets from false [] ≡ None
 root_ends [] from = refl
 root_ends (set ∷ sets) from = refl
 

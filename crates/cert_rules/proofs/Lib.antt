@@ -18,3 +18,8 @@ pub mod Told
 pub mod NodeProblems
 pub mod Narrowing
 pub mod NodeLines
+pub mod Shape
+pub mod ListingShape
+pub mod Refutations
+pub mod Showing
+pub mod ClaimShape

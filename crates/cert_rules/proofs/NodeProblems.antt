@@ -13,7 +13,7 @@ use Rattle.world_model.specs.Problem.{Problem, Constraint, constraints, kept_art
 use Rattle.world_model.specs.Alive.{is_about, meet_of, allowed, narrowings_at}
 use Rattle.world_model.proofs.PointWhole.{has-both_of, has-meet_of, about_is, about_from}
 use Rattle.constraint_set.proofs.Lists.{filter-append}
-use Rattle.cert_rules.specs.Trees.{Tree, node_problem}
+use Rattle.cert_rules.specs.Trees.{Branching, node_problem}
 use Rattle.cert_rules.specs.NodeProblems.{level_at, ChildrenNarrow}
 
 -- a position's narrowings with one more relation
@@ -29,11 +29,11 @@ narrowings_none : (levels : List (ℕ × ℕ)) → narrowings_at levels [] ≡ [
 narrowings_none [] = refl
 narrowings_none (pair ∷ levels) = refl
 
-root : (tree : Tree) → node_problem tree [] ≡ tree.subject
+root : (tree : Branching) → node_problem tree [] ≡ tree.subject
 root tree =
     ap {B = Problem} (λ ns. record tree.subject { narrowings = ns }) (ap (λ ns. tree.subject.narrowings ++ ns) (narrowings_none tree.levels) ∙ append-nil tree.subject.narrowings)
 
-child : (tree : Tree) (m : List Rel) (rel : Rel) → length m < length tree.levels →
+child : (tree : Branching) (m : List Rel) (rel : Rel) → length m < length tree.levels →
     node_problem tree (m ++ rel ∷ []) ≡ narrowed (node_problem tree m) (level_at tree (length m)) (only rel)
 child tree m rel short =
     ap {B = Problem} (λ ns. record tree.subject { narrowings = ns })

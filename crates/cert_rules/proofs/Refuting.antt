@@ -16,7 +16,7 @@ use Rattle.cert_text.specs.declared.line.CertLine.{CertLine}
 use Rattle.cert_text.specs.declared.line.CertLine.TheVariants.{Branch, NoPoint, NoRelation, World}
 use Rattle.cert_rules.specs.declared.RejectKind.{RejectKind}
 use Rattle.cert_rules.specs.Order.{is_shown, onward}
-use Rattle.cert_rules.specs.Trees.{Tree, sets_of, names, is_branch, node_fault, tree_fault, end_fault}
+use Rattle.cert_rules.specs.Trees.{Branching, sets_of, names, is_branch, node_fault, tree_fault, end_fault}
 use Rattle.cert_rules.specs.Listings.{Status, Going, Ended, Rejected, unless, proof_fault, Stand, Listed, Role, ForProof, ForEnd, ForTree, role_of, with_world, after_proof, after_node, take_by, step, steps}
 use Rattle.cert_rules.specs.Laws.{is_leaf}
 use Rattle.world_model.proofs.Relations.{one_rel, itself}
@@ -60,7 +60,7 @@ rest_of (r ∷ m) [] b = absurd b
 rest_of (r ∷ m) (s ∷ t) b = let more = rest_of m t b.1 in let head = sym b.0 in let tail = more.1 in (more.0, λ i. head i ∷ tail i)
 
 -- a leaf that stands at a prefix of a table, among lines from a status on
-pub record HasLeaf (tree : Tree) (status : Status Stand Listed) (lines : List CertLine) (t : List Rel) : Type 0 where
+pub record HasLeaf (tree : Branching) (status : Status Stand Listed) (lines : List CertLine) (t : List Rel) : Type 0 where
   pub before : List CertLine
   pub line : CertLine
   pub after : List CertLine
@@ -75,7 +75,7 @@ pub record HasLeaf (tree : Tree) (status : Status Stand Listed) (lines : List Ce
   pub faultless : tree_fault tree stand.proof (Some prefix) line ≡ None
 
 -- one line earlier
-leaf_earlier : (tree : Tree) (status : Status Stand Listed) (line : CertLine) (lines : List CertLine) (t : List Rel) →
+leaf_earlier : (tree : Branching) (status : Status Stand Listed) (line : CertLine) (lines : List CertLine) (t : List Rel) →
     HasLeaf tree (step tree status line) lines t → HasLeaf tree status (line ∷ lines) t
 leaf_earlier tree status line lines t leaf = let same = leaf.split in record {
   before = line ∷ leaf.before;
@@ -93,16 +93,16 @@ leaf_earlier tree status line lines t leaf = let same = leaf.split in record {
 }
 
 -- what has ended or is rejected stays so
-ended_stays : (tree : Tree) (listed : Listed) (lines : List CertLine) → steps tree (Ended listed) lines ≡ Ended listed
+pub ended_stays : (tree : Branching) (listed : Listed) (lines : List CertLine) → steps tree (Ended listed) lines ≡ Ended listed
 ended_stays tree listed [] = refl
 ended_stays tree listed (line ∷ lines) = ended_stays tree listed lines
 
-rejected_stays : (tree : Tree) (number : ℕ) (kind : RejectKind) (lines : List CertLine) → steps tree (Rejected number kind) lines ≡ Rejected number kind
+pub rejected_stays : (tree : Branching) (number : ℕ) (kind : RejectKind) (lines : List CertLine) → steps tree (Rejected number kind) lines ≡ Rejected number kind
 rejected_stays tree number kind [] = refl
 rejected_stays tree number kind (line ∷ lines) = rejected_stays tree number kind lines
 
 -- where lines lead to an end, the first has no fault
-pub no_fault : (tree : Tree) (fault : Option RejectKind) (number : ℕ) (next : Status Stand Listed) (lines : List CertLine) (listed : Listed) →
+pub no_fault : (tree : Branching) (fault : Option RejectKind) (number : ℕ) (next : Status Stand Listed) (lines : List CertLine) (listed : Listed) →
     steps tree (unless fault number next) lines ≡ Ended listed → (fault ≡ None) × (steps tree next lines ≡ Ended listed)
 no_fault tree None number next lines listed e = (refl, e)
 no_fault tree (Some kind) number next lines listed e = let stays = rejected_stays tree number kind lines in let wrong : Rejected number kind ≡ Ended listed = sym stays ∙ e in cc
@@ -122,12 +122,12 @@ unless_has : (t : List Rel) (fault : Option RejectKind) (number : ℕ) (next : S
 unless_has t None number next h = h
 unless_has t (Some kind) number next h = tt
 
-take_has : (tree : Tree) (n : ℕ) (s : Stand) (line : CertLine) (t : List Rel) (role : Role) → In t s.worlds → HasWorld t (take_by tree n s line role)
+take_has : (tree : Branching) (n : ℕ) (s : Stand) (line : CertLine) (t : List Rel) (role : Role) → In t s.worlds → HasWorld t (take_by tree n s line role)
 take_has tree n s line t (ForProof proof) i = unless_has t (proof_fault s.proof proof) (n + 1) _ i
 take_has tree n s line t (ForEnd to) i = unless_has t (end_fault s.at to) (n + 1) _ i
 take_has tree n s line t ForTree i = unless_has t (tree_fault tree s.proof s.at line) (n + 1) _ (world_stays s.worlds s.at line t i)
 
-steps_have : (tree : Tree) (status : Status Stand Listed) (lines : List CertLine) (t : List Rel) → HasWorld t status → HasWorld t (steps tree status lines)
+steps_have : (tree : Branching) (status : Status Stand Listed) (lines : List CertLine) (t : List Rel) → HasWorld t status → HasWorld t (steps tree status lines)
 steps_have tree status [] t h = h
 steps_have tree status (line ∷ lines) t h = steps_have tree (step tree status line) lines t (one status h)
   where
@@ -137,18 +137,18 @@ steps_have tree status (line ∷ lines) t h = steps_have tree (step tree status 
     one (Rejected number kind) h = h
 
 -- what is asked of a table
-pub record IsAsked (tree : Tree) (t : List Rel) : Type 0 where
+pub record IsAsked (tree : Branching) (t : List Rel) : Type 0 where
   pub along : Along (sets_of tree) t
   pub long : length t ≡ length tree.levels
   pub shown : is_shown tree.from t ≡ true
 
 -- a table that is not below a node at which a line stands: below it at a leaf, the node itself as a world, or not below the next
-data Behind (tree : Tree) (m t : List Rel) (line : CertLine) : Type 0 where
+data Behind (tree : Branching) (m t : List Rel) (line : CertLine) : Type 0 where
   at_leaf : is_leaf line ≡ true → Begins m t → Behind tree m t line
   at_world : ((worlds : List (List Rel)) → In t (with_world worlds (Some m) line)) → Behind tree m t line
   passed : IsPassed (onward (sets_of tree) tree.from (is_branch line) m) t → Behind tree m t line
 
-behind_leaf : (tree : Tree) (m t : List Rel) (line : CertLine) → IsAsked tree t → is_below t m ≡ false → is_leaf line ≡ true → is_branch line ≡ false → Behind tree m t line
+behind_leaf : (tree : Branching) (m t : List Rel) (line : CertLine) → IsAsked tree t → is_below t m ≡ false → is_leaf line ≡ true → is_branch line ≡ false → Behind tree m t line
 behind_leaf tree m t line asked not_below is no_branch = elim (begins_or_not m t) [
   | inl begins ↦ at_leaf is begins
   | inr not_begins ↦ elim (below_cases t m) [
@@ -159,7 +159,7 @@ behind_leaf tree m t line asked not_below is no_branch = elim (begins_or_not m t
   ]
 ]
 
-behind_line : (tree : Tree) (m t : List Rel) (line : CertLine) → IsAsked tree t → is_below t m ≡ false → names m line ≡ true →
+behind_line : (tree : Branching) (m t : List Rel) (line : CertLine) → IsAsked tree t → is_below t m ≡ false → names m line ≡ true →
     (is_branch line ≡ true → (length m == length tree.levels) ≡ false) → ((depth : ℕ) (last : Option Rel) (f : Family) → line ≡ World depth last f → IsTableOf tree m) →
     Behind tree m t line
 behind_line tree m t (Branch depth last) asked not_below named short table = elim (below_cases t m) [
@@ -180,31 +180,31 @@ behind_line tree m t (World depth last f) asked not_below named short table = el
 behind_line tree m t line asked not_below named short table = absurd (true≢false (sym named))
 
 -- what a line at the expected node is without a fault
-pub tree_parts : (tree : Tree) (proof : State) (m : List Rel) (line : CertLine) → tree_fault tree proof (Some m) line ≡ None → (names m line ≡ true) × (node_fault tree proof m line ≡ None)
+pub tree_parts : (tree : Branching) (proof : State) (m : List Rel) (line : CertLine) → tree_fault tree proof (Some m) line ≡ None → (names m line ≡ true) × (node_fault tree proof m line ≡ None)
 tree_parts tree proof m line none = by (names m line) refl none
   where
     by : (b : Bool) → names m line ≡ b → cond b (node_fault tree proof m line) (Some RejectKind.MissingBranch) ≡ None → (names m line ≡ true) × (node_fault tree proof m line ≡ None)
     by false e none = cc
     by true e none = (e, none)
 
-pub branch_is_short : (tree : Tree) (proof : State) (m : List Rel) (line : CertLine) → node_fault tree proof m line ≡ None → is_branch line ≡ true → (length m == length tree.levels) ≡ false
+pub branch_is_short : (tree : Branching) (proof : State) (m : List Rel) (line : CertLine) → node_fault tree proof m line ≡ None → is_branch line ≡ true → (length m == length tree.levels) ≡ false
 branch_is_short tree proof m (Branch depth last) none is = fails (length m == length tree.levels) RejectKind.BranchTooDeep none
 branch_is_short tree proof m line none is = absurd (true≢false (sym is))
 
-pub world_is_its_table : (tree : Tree) (proof : State) (m : List Rel) (line : CertLine) → node_fault tree proof m line ≡ None →
+pub world_is_its_table : (tree : Branching) (proof : State) (m : List Rel) (line : CertLine) → node_fault tree proof m line ≡ None →
     (depth : ℕ) (last : Option Rel) (f : Family) → line ≡ World depth last f → IsTableOf tree m
 world_is_its_table tree proof m line none depth last f is = world_is_table tree m f (subst (λ line. node_fault tree proof m line ≡ None) is none)
 
 -- a table that is asked of, and what comes of it
-abbrev Found : Tree → Status Stand Listed → List CertLine → Listed → List Rel → Type 0
+abbrev Found : Branching → Status Stand Listed → List CertLine → Listed → List Rel → Type 0
 Found tree status lines listed t = In t listed.worlds ⊎ HasLeaf tree status lines t
 
-found_earlier : (tree : Tree) (status next : Status Stand Listed) (line : CertLine) (lines : List CertLine) (listed : Listed) (t : List Rel) → step tree status line ≡ next →
+found_earlier : (tree : Branching) (status next : Status Stand Listed) (line : CertLine) (lines : List CertLine) (listed : Listed) (t : List Rel) → step tree status line ≡ next →
     Found tree next lines listed t → Found tree status (line ∷ lines) listed t
 found_earlier tree status next line lines listed t is (inl there_is) = inl there_is
 found_earlier tree status next line lines listed t is (inr found) = inr (leaf_earlier tree status line lines t (subst (λ x. HasLeaf tree x lines t) (sym is) found))
 
-pub reach : (tree : Tree) (lines : List CertLine) (n : ℕ) (proof : State) (at : Option (List Rel)) (worlds : List (List Rel)) (listed : Listed) (t : List Rel) → IsAsked tree t →
+pub reach : (tree : Branching) (lines : List CertLine) (n : ℕ) (proof : State) (at : Option (List Rel)) (worlds : List (List Rel)) (listed : Listed) (t : List Rel) → IsAsked tree t →
     steps tree (Going n (record { proof = proof; at = at; worlds = worlds })) lines ≡ Ended listed → is_before_end t at ≡ false → is_before_end t listed.to ≡ true →
     Found tree (Going n (record { proof = proof; at = at; worlds = worlds })) lines listed t
 reach tree [] n proof at worlds listed t asked e not_yet before = cc

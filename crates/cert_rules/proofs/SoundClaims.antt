@@ -26,7 +26,7 @@ use Rattle.cert_text.specs.declared.line.CertLine.{CertLine}
 use Rattle.cert_text.specs.declared.line.CertLine.TheVariants.{World}
 use Rattle.cert_rules.specs.declared.RejectKind.{RejectKind}
 use Rattle.cert_rules.specs.Order.{is_shown}
-use Rattle.cert_rules.specs.Trees.{Tree, table_along, family_fault, tree_fault, tree_next, end_fault}
+use Rattle.cert_rules.specs.Trees.{Branching, table_along, family_fault, tree_fault, tree_next, end_fault}
 use Rattle.cert_rules.specs.Listings.{Status, Going, Ended, Rejected, unless, proof_fault, Stand, with_world}
 use Rattle.cert_rules.specs.ClaimLists.{subject_problem, subject_fault, subject_tree, Claim, Block, ClaimStand, holds_fault, ClaimRole, ForProof, ForHolding, ForFailing, ForNode, ForEnd, ForQuit, ForDone, ForNothing, claim_role, take_proof, take_outside, take_inside, take_claim, claim_step, claim_steps}
 use Rattle.set_family.specs.Sets.{family_from}
@@ -107,7 +107,7 @@ unless_sound p None number next sound = sound refl
 unless_sound p (Some kind) number next sound = tt
 
 -- no position comes before the empty one, where no table is found
-pub begins_sound : (tree : Tree) (proof : State) → IsTree tree proof.given → DerivedFollow proof → IsSound tree (block_stand proof (Some []))
+pub begins_sound : (tree : Branching) (proof : State) → IsTree tree proof.given → DerivedFollow proof → IsSound tree (block_stand proof (Some []))
 begins_sound tree proof is follow = record {
   tree_is = is;
   follow = follow;

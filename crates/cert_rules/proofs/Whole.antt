@@ -24,7 +24,7 @@ listing_law p built switches from lines listed e =
     let sound = steps_sound (listing_tree p from) (Going 1 (start p)) lines (first_is_sound p from built (room p switches from parts.0)) in
     listing p from listed.to listed.worlds (subst (IsSoundStatus (listing_tree p from)) parts.1 sound)
 
-goes_on : (fault : Option RejectKind) (number : ℕ) (next : Status ClaimStand (List Claim)) (claims : List Claim) → unless fault number next ≡ Ended claims → next ≡ Ended claims
+pub goes_on : (fault : Option RejectKind) (number : ℕ) (next : Status ClaimStand (List Claim)) (claims : List Claim) → unless fault number next ≡ Ended claims → next ≡ Ended claims
 goes_on None number next claims e = e
 goes_on (Some kind) number next claims e = cc
 
@@ -35,19 +35,19 @@ claims_law p built switches lines claims e claim there_is =
     subst (IsSoundEnd p) ended (claims_sound p (Going 1 (claim_start p)) lines first) claim (in_from_contains claims there_is)
 
 -- what is accepted has ended
-record HasEnded {S R : Type 0} (said : R → Verdict) (status : Status S R) (verdict : Verdict) : Type 0 where
-  end : R
-  ended : status ≡ Ended end
-  is : said end ≡ verdict
+pub record HasEnded {S R : Type 0} (said : R → Verdict) (status : Status S R) (verdict : Verdict) : Type 0 where
+  pub end : R
+  pub ended : status ≡ Ended end
+  pub is : said end ≡ verdict
 
-settled : {S R K : Type 0} (said : R → Verdict) (status : Status S R) (end : TextEnd K) (verdict : Verdict) → settle said status end ≡ Accepts verdict → HasEnded said status verdict
+pub settled : {S R K : Type 0} (said : R → Verdict) (status : Status S R) (end : TextEnd K) (verdict : Verdict) → settle said status end ≡ Accepts verdict → HasEnded said status verdict
 settled said (Going n s) Whole verdict e = cc
 settled said (Going n s) (Faulty number kind) verdict e = cc
 settled said (Ended r) Whole verdict e = let same : said r ≡ verdict = cc in record { end = r; ended = refl; is = same }
 settled said (Ended r) (Faulty number kind) verdict e = cc
 settled said (Rejected number kind) end verdict e = cc
 
-bare_fails : {K : Type 0} (end : TextEnd K) (verdict : Verdict) → bare end ≡ Accepts verdict → ⊥
+pub bare_fails : {K : Type 0} (end : TextEnd K) (verdict : Verdict) → bare end ≡ Accepts verdict → ⊥
 bare_fails Whole verdict e = cc
 bare_fails (Faulty number kind) verdict e = cc
 

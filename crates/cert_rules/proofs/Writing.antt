@@ -29,32 +29,32 @@ use Rattle.cert_text.specs.declared.line.CertLine.{CertLine}
 use Rattle.cert_text.specs.declared.line.CertLine.TheVariants.{Proof, Branch, NoPoint, NoRelation, World, End}
 use Rattle.cert_rules.proofs.LiveClauses.{AreAlike, alike_live}
 use Rattle.cert_rules.specs.declared.RejectKind.{RejectKind}
-use Rattle.cert_rules.specs.Trees.{Tree, same_position, names, is_branch, is_forced, fault_or, need_fault, clause_fault, point_fault, pair_fault, family_fault, table_fault, world_fault, node_fault, tree_fault, end_fault}
+use Rattle.cert_rules.specs.Trees.{Branching, same_position, names, is_branch, is_forced, fault_or, need_fault, clause_fault, point_fault, pair_fault, family_fault, table_fault, world_fault, node_fault, tree_fault, end_fault}
 use Rattle.cert_rules.specs.Listings.{Status, Going, Ended, unless, as_kind, Stand, Listed, ForTree, role_of, after_proof, after_node, take_by, step, steps, listing_tree, listing_next, start, same_switches, header_fault, listing_status}
 use Rattle.cert_rules.specs.ShownNodes.{AllBranchesAlive}
 use Rattle.cert_rules.specs.Writing.{KeepsUp, IsClosedNeed, IsWorldBy, IsSoAt, TellsOf, with_waiting, PutKeepsUp}
 use Rattle.world_model.proofs.Relations.{itself}
 
 -- lines, and then more
-pub steps_append : (tree : Tree) (status : Status Stand Listed) (a b : List CertLine) → steps tree status (a ++ b) ≡ steps tree (steps tree status a) b
+pub steps_append : (tree : Branching) (status : Status Stand Listed) (a b : List CertLine) → steps tree status (a ++ b) ≡ steps tree (steps tree status a) b
 steps_append tree status [] b = refl
 steps_append tree status (line ∷ a) b = steps_append tree (step tree status line) a b
 
-pub alive_append : (tree : Tree) (status : Status Stand Listed) (a b : List CertLine) → AllBranchesAlive tree status a → AllBranchesAlive tree (steps tree status a) b →
+pub alive_append : (tree : Branching) (status : Status Stand Listed) (a b : List CertLine) → AllBranchesAlive tree status a → AllBranchesAlive tree (steps tree status a) b →
     AllBranchesAlive tree status (a ++ b)
 alive_append tree status [] b h k = k
 alive_append tree status (line ∷ a) b h k = (h.0, alive_append tree (step tree status line) a b h.1 k)
 
 -- valid derivation lines lead on
-pub record Proves (tree : Tree) (n : ℕ) (s : Stand) (lines : List Line) : Type 0 where
+pub record Proves (tree : Branching) (n : ℕ) (s : Stand) (lines : List Line) : Type 0 where
   pub number : ℕ
   pub leads : steps tree (Going n s) (map Proof lines) ≡ Going number (record s { proof = state_after s.proof lines })
   pub alive : AllBranchesAlive tree (Going n s) (map Proof lines)
 
-pub line_leads : (tree : Tree) (n : ℕ) (s : Stand) (line : Line) → line_fault s.proof line ≡ None → step tree (Going n s) (Proof line) ≡ Going (n + 1) (after_proof s line)
+pub line_leads : (tree : Branching) (n : ℕ) (s : Stand) (line : Line) → line_fault s.proof line ≡ None → step tree (Going n s) (Proof line) ≡ Going (n + 1) (after_proof s line)
 line_leads tree n s line none = ap (λ fault. unless (option_map as_kind fault) (n + 1) (Going (n + 1) (after_proof s line))) none
 
-pub proves : (tree : Tree) (n : ℕ) (s : Stand) (lines : List Line) → is_valid_derivation s.proof lines ≡ true → Proves tree n s lines
+pub proves : (tree : Branching) (n : ℕ) (s : Stand) (lines : List Line) → is_valid_derivation s.proof lines ≡ true → Proves tree n s lines
 proves tree n s [] valid = record { number = n; leads = refl; alive = tt }
 proves tree n s (line ∷ lines) valid =
     let parts = and_parts (is_none (line_fault s.proof line)) (is_valid_derivation (next_state s.proof line) lines) valid in
@@ -173,7 +173,7 @@ in_has (l ∷ lits) lit h = elim (or_cases (l == lit) (has_lit lits lit) h) [
 ]
 
 -- what must be true at a node, by its own problem
-asked_at : (p : Problem) (m : List Rel) (need : Need) → asked_of (problem_at p m) [] need ≡ asked_of p m need
+pub asked_at : (p : Problem) (m : List Rel) (need : Need) → asked_of (problem_at p m) [] need ≡ asked_of p m need
 asked_at p m need =
     ap (λ (q : Problem). (region_selectors (concept_count p) (forced_pairs q) ++ sum_selectors p.kept (first_sum_selector p) (sum_places p)) ++ need_lits need) (at_empty (problem_at p m))
 
@@ -291,7 +291,7 @@ header_is_faultless p from room =
     ap (λ b. cond b None (Some RejectKind.WrongHeader)) (and_from (same_switches p.switches p.switches) (not (nat_lt (pair_count p) (length from))) (switches_same p.switches)
     (not_from_false (nat_lt (pair_count p) (length from)) (le-ltb (pair_count p) (length from) room)))
 
-end_is_faultless : (at : Option (List Rel)) → end_fault at at ≡ None
+pub end_is_faultless : (at : Option (List Rel)) → end_fault at at ≡ None
 end_is_faultless None = refl
 end_is_faultless (Some m) = ap (λ b. cond b None (Some RejectKind.MissingBranch)) (same_with_itself m)
 
@@ -304,7 +304,7 @@ keeps_ends p from lines state at room k = (
       ∙ ap (λ fault. unless fault (k.number + 1) (Ended (record { to = at; worlds = k.stand.worlds }))) (ap (λ here. end_fault here at) k.expects ∙ end_is_faultless at),
 )
   where
-    tree : Tree
+    tree : Branching
     tree = listing_tree p from
 
 pub put_keeps_up_law : PutKeepsUp

@@ -18,7 +18,7 @@ use Rattle.cert_text.specs.declared.line.CertLine.{CertLine}
 use Rattle.cert_text.specs.declared.line.CertLine.TheVariants.{Proof, Branch, NoPoint, NoRelation, Holds, Fails, End, Quit, Done}
 use Rattle.cert_rules.specs.declared.RejectKind.{RejectKind}
 use Rattle.cert_rules.specs.declared.RejectKind.TheVariants.{WrongHeader, WrongSubject, MissingBranch, ExtraBranch}
-use Rattle.cert_rules.specs.Trees.{Tree, fault_or, family_fault, tree_fault, tree_next, end_fault}
+use Rattle.cert_rules.specs.Trees.{Branching, fault_or, family_fault, tree_fault, tree_next, end_fault}
 use Rattle.cert_rules.specs.Listings.{Status, Going, Ended, Rejected, unless, proof_fault, same_switches}
 
 -- the problem that a claim is about: with a pair narrowed to one relation, or with some articulations kept
@@ -36,7 +36,7 @@ abbrev pub split_pairs : Problem → List (ℕ × ℕ)
 split_pairs q = filter (λ pair. not (is_empty_set (allowed q pair) || is_whole_set (allowed q pair))) (pairs q)
 
 -- the tree of a subject, which branches on the split pairs
-abbrev pub subject_tree : Problem → Subject → Tree
+abbrev pub subject_tree : Problem → Subject → Branching
 subject_tree p subject = record { subject = subject_problem p subject; levels = split_pairs (subject_problem p subject); from = [] }
 
 -- a claim: that the subject holds, so that a family meets its problem, or that it does not

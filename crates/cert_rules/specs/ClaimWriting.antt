@@ -14,7 +14,7 @@ use Rattle.set_family.specs.Sets.{is_set_below}
 use Rattle.cert_text.specs.declared.line.Subject.{Subject}
 use Rattle.cert_text.specs.declared.line.CertLine.{CertLine}
 use Rattle.cert_text.specs.declared.line.CertLine.TheVariants.{Proof, Branch, NoPoint, NoRelation, Holds, Fails, End, Quit, Done}
-use Rattle.cert_rules.specs.Trees.{Tree, node_problem, names, tree_next}
+use Rattle.cert_rules.specs.Trees.{Branching, node_problem, names, tree_next}
 use Rattle.cert_rules.specs.Listings.{Going, Ended}
 use Rattle.cert_rules.specs.ClaimLists.{subject_problem, subject_fault, subject_tree, Claim, Block, claim_steps, claim_start, claims_status}
 use Rattle.cert_rules.specs.Writing.{IsClosedNeed}
@@ -29,7 +29,7 @@ pub record ClaimsKeepUp (p : Problem) (lines : List CertLine) (waiting : List Li
   pub same : SameState (state_after proof waiting) state
 
 -- a line of a claim's tree says what is so of a node
-abbrev pub IsSoWithin : Tree → State → List Rel → CertLine → Type 0
+abbrev pub IsSoWithin : Branching → State → List Rel → CertLine → Type 0
 IsSoWithin tree state m (Branch depth last) = length m < length tree.levels
 IsSoWithin tree state m (NoPoint depth last need clause) = IsClosedNeed (node_problem tree m) state [] need clause
 IsSoWithin tree state m (NoRelation depth last pair) =
@@ -37,7 +37,7 @@ IsSoWithin tree state m (NoRelation depth last pair) =
 IsSoWithin tree state m line = ⊥
 
 -- and it names the node
-abbrev pub TellsWithin : Tree → State → List Rel → CertLine → Type 0
+abbrev pub TellsWithin : Branching → State → List Rel → CertLine → Type 0
 TellsWithin tree state m line = IsTrue (names m line) × IsSoWithin tree state m line
 
 -- a family is one and meets the problem of a subject

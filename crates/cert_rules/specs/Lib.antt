@@ -11,3 +11,5 @@ pub mod FromTheEnd
 pub mod ClaimWriting
 pub mod Selected
 pub mod NodeProblems
+pub mod Shape
+pub mod Showing

@@ -15,7 +15,7 @@ use Rattle.cert_text.specs.declared.line.CertLine.TheVariants.{Proof, World, End
 use Rattle.cert_rules.specs.declared.RejectKind.{RejectKind}
 use Rattle.cert_rules.specs.declared.RejectKind.TheVariants.{UnknownHint as HintIsUnknown, HintNotUnit as HintIsNotUnit, NoConflict as HasNoConflict, IdUsed as IdIsUsed, WrongHeader}
 use Rattle.cert_rules.specs.Order.{onward}
-use Rattle.cert_rules.specs.Trees.{Tree, sets_of, tree_fault, tree_next, end_fault}
+use Rattle.cert_rules.specs.Trees.{Branching, sets_of, tree_fault, tree_next, end_fault}
 
 -- how far the lines of a certificate lead: some were read and more are to come; the last one was read; or one was rejected
 pub data Status (S R : Type 0) : Type 0 where
@@ -71,27 +71,27 @@ with_world worlds at line = worlds
 abbrev pub after_proof : Stand → Line → Stand
 after_proof s line = record s { proof = next_state s.proof line }
 
-abbrev pub after_node : Tree → Stand → CertLine → Stand
+abbrev pub after_node : Branching → Stand → CertLine → Stand
 after_node tree s line = record s { at = tree_next tree s.at line; worlds = with_world s.worlds s.at line }
 
 -- a line of a listing, by what it is for
-abbrev pub take_by : Tree → ℕ → Stand → CertLine → Role → Status Stand Listed
+abbrev pub take_by : Branching → ℕ → Stand → CertLine → Role → Status Stand Listed
 take_by tree n s line (ForProof proof) = unless (proof_fault s.proof proof) (n + 1) (Going (n + 1) (after_proof s proof))
 take_by tree n s line (ForEnd to) = unless (end_fault s.at to) (n + 1) (Ended (record { to = to; worlds = s.worlds }))
 take_by tree n s line ForTree = unless (tree_fault tree s.proof s.at line) (n + 1) (Going (n + 1) (after_node tree s line))
 
 -- one line further
-abbrev pub step : Tree → Status Stand Listed → CertLine → Status Stand Listed
+abbrev pub step : Branching → Status Stand Listed → CertLine → Status Stand Listed
 step tree (Going n s) line = take_by tree n s line (role_of line)
 step tree (Ended listed) line = Ended listed
 step tree (Rejected number kind) line = Rejected number kind
 
-abbrev pub steps : Tree → Status Stand Listed → List CertLine → Status Stand Listed
+abbrev pub steps : Branching → Status Stand Listed → List CertLine → Status Stand Listed
 steps tree status [] = status
 steps tree status (line ∷ lines) = steps tree (step tree status line) lines
 
 -- the tree of a listing, which branches on every pair
-abbrev pub listing_tree : Problem → List Rel → Tree
+abbrev pub listing_tree : Problem → List Rel → Branching
 listing_tree p from = record { subject = p; levels = pairs p; from = from }
 
 -- the position that comes next in a listing

@@ -10,7 +10,7 @@ use Rattle.world_model.specs.Node.{IsNode}
 use Rattle.constraint_set.specs.Facts.{IsBuilt}
 use Rattle.cert_text.specs.declared.line.CertLine.{CertLine}
 use Rattle.cert_rules.specs.Order.{is_shown}
-use Rattle.cert_rules.specs.Trees.{Tree, node_problem, is_branch}
+use Rattle.cert_rules.specs.Trees.{Branching, node_problem, is_branch}
 use Rattle.cert_rules.specs.Listings.{Status, Going, Ended, Rejected, Stand, Listed, Role, ForProof, ForEnd, ForTree, role_of, step, listing_tree, listing_next, start, listing_status}
 
 -- a node that is shown
@@ -77,18 +77,18 @@ line_node (Ended listed) line = []
 line_node (Rejected number kind) line = []
 
 -- the nodes at which lines stand, in order
-abbrev pub visited : Tree → Status Stand Listed → List CertLine → List (List Rel)
+abbrev pub visited : Branching → Status Stand Listed → List CertLine → List (List Rel)
 visited tree status [] = []
 visited tree status (line ∷ lines) = line_node status line ++ visited tree (step tree status line) lines
 
 -- a branch stands at an alive node
-abbrev pub IsBranchAlive : Tree → Status Stand Listed → CertLine → Type 0
+abbrev pub IsBranchAlive : Branching → Status Stand Listed → CertLine → Type 0
 IsBranchAlive tree (Going n s) line = IsTrue (is_branch line) → IfSome s.at (λ m. IsAlive (node_problem tree m))
 IsBranchAlive tree (Ended listed) line = Unit {0}
 IsBranchAlive tree (Rejected number kind) line = Unit {0}
 
 -- so does each
-abbrev pub AllBranchesAlive : Tree → Status Stand Listed → List CertLine → Type 0
+abbrev pub AllBranchesAlive : Branching → Status Stand Listed → List CertLine → Type 0
 AllBranchesAlive tree status [] = Unit {0}
 AllBranchesAlive tree status (line ∷ lines) = IsBranchAlive tree status line × AllBranchesAlive tree (step tree status line) lines
 

@@ -21,18 +21,18 @@ use Rattle.cert_rules.specs.declared.RejectKind.{RejectKind}
 use Rattle.cert_rules.specs.declared.RejectKind.TheVariants.{MissingBranch, ExtraBranch, BranchTooDeep, NeedNotForced, UnknownClause, LiteralNotForced, PairNotEmpty, FamilyDoesNotMeet, FamilyHasOtherTable}
 use Rattle.cert_rules.specs.Order.{onward}
 
--- a tree: its problem, the pair on whose relation each depth branches, and the position from which on nodes are shown
-pub record Tree : Type 0 where
+-- how a tree branches: its problem, the pair on whose relation each depth branches, and the position from which on nodes are shown
+pub record Branching : Type 0 where
   pub subject : Problem
   pub levels : List (ℕ × ℕ)
   pub from : List Rel
 
 -- the problem at a node: narrowed at each pair on the way to the relation there
-abbrev pub node_problem : Tree → List Rel → Problem
+abbrev pub node_problem : Branching → List Rel → Problem
 node_problem tree m = record tree.subject { narrowings = tree.subject.narrowings ++ narrowings_at tree.levels m }
 
 -- the relations on which each depth branches
-abbrev pub sets_of : Tree → List RelSet
+abbrev pub sets_of : Branching → List RelSet
 sets_of tree = map (allowed tree.subject) tree.levels
 
 -- the relations that a family has at the pairs of a tree
@@ -80,7 +80,7 @@ fault_or None other = other
 fault_or (Some kind) other = Some kind
 
 -- a branch needs a pair to branch on
-abbrev pub branch_fault : Tree → List Rel → Option RejectKind
+abbrev pub branch_fault : Branching → List Rel → Option RejectKind
 branch_fault tree m = if length m == length tree.levels then Some BranchTooDeep else None
 
 -- whether a problem asks for a point in a need
@@ -116,15 +116,15 @@ family_fault q None = Some FamilyDoesNotMeet
 family_fault q (Some f) = if meets q f then None else Some FamilyDoesNotMeet
 
 -- and its table must be the node
-abbrev pub table_fault : Tree → List Rel → Family → Option RejectKind
+abbrev pub table_fault : Branching → List Rel → Family → Option RejectKind
 table_fault tree m f = if same_position (table_along tree.levels f) m then None else Some FamilyHasOtherTable
 
 -- what is wrong with a world, by its family
-abbrev pub world_fault : Tree → List Rel → Family → Option RejectKind
+abbrev pub world_fault : Branching → List Rel → Family → Option RejectKind
 world_fault tree m f = fault_or (family_fault tree.subject (family_from f.universe f.sets)) (table_fault tree m f)
 
 -- what is wrong with what a line says of the node that it names
-abbrev pub node_fault : Tree → State → List Rel → CertLine → Option RejectKind
+abbrev pub node_fault : Branching → State → List Rel → CertLine → Option RejectKind
 node_fault tree proof m (Branch depth last) = branch_fault tree m
 node_fault tree proof m (NoPoint depth last need clause) = point_fault (node_problem tree m) proof need clause
 node_fault tree proof m (NoRelation depth last pair) = pair_fault (node_problem tree m) pair
@@ -132,7 +132,7 @@ node_fault tree proof m (World depth last family) = world_fault tree m family
 node_fault tree proof m line = None
 
 -- what is wrong with a line where a node is expected, or none is. A line that is none of a tree names no node
-abbrev pub tree_fault : Tree → State → Option (List Rel) → CertLine → Option RejectKind
+abbrev pub tree_fault : Branching → State → Option (List Rel) → CertLine → Option RejectKind
 tree_fault tree proof None line = Some ExtraBranch
 tree_fault tree proof (Some m) line = if names m line then node_fault tree proof m line else Some MissingBranch
 
@@ -144,6 +144,6 @@ end_fault (Some m) None = Some MissingBranch
 end_fault (Some m) (Some to) = if same_position m to then None else Some MissingBranch
 
 -- the node that is expected after a line at the expected one
-abbrev pub tree_next : Tree → Option (List Rel) → CertLine → Option (List Rel)
+abbrev pub tree_next : Branching → Option (List Rel) → CertLine → Option (List Rel)
 tree_next tree None line = None
 tree_next tree (Some m) line = onward (sets_of tree) tree.from (is_branch line) m

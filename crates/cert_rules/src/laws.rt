@@ -5,12 +5,24 @@ ghost use Rattle.cert_rules.specs.ClaimWriting.{ClaimsPutKeepUp};
 ghost use Rattle.cert_rules.specs.FromTheEnd.{FoundFromTheEnd};
 ghost use Rattle.cert_rules.specs.NodeProblems.{ChildrenNarrow};
 ghost use Rattle.cert_rules.specs.Selected.{AskedByLiteral};
+ghost use Rattle.cert_rules.specs.Shape.{AcceptedClaimsHaveTrees, AcceptedIsATree};
+ghost use Rattle.cert_rules.specs.Showing.{AcceptedShowsAll};
 ghost use Rattle.cert_rules.specs.ShownNodes.{ExpectedIsNext, WalkedIsNext, LinesAreNodes};
 ghost use Rattle.cert_rules.specs.Writing.{PutKeepsUp, ToldStaysUp};
 
 /// The worlds of an accepted listing are exactly those between its two positions.
 pub fn accepted_is_the_listing()
     ensures { AcceptedIsTheListing }
+{}
+
+/// An accepted listing is a tree.
+pub fn accepted_is_a_tree()
+    ensures { AcceptedIsATree }
+{}
+
+/// A claim of an accepted list that no family meets its subject has its tree there.
+pub fn accepted_claims_have_trees()
+    ensures { AcceptedClaimsHaveTrees }
 {}
 
 /// Accepted claims are so.
@@ -26,6 +38,11 @@ pub fn accepted_is_so<K>()
 /// A table that an accepted listing leaves out has its refutation there.
 pub fn missing_tables_are_refuted()
     ensures { MissingTablesAreRefuted }
+{}
+
+/// Each world of an accepted listing has its family there, and each other table its refutation.
+pub fn accepted_shows_all<K>()
+    ensures { AcceptedShowsAll K }
 {}
 
 /// The position that is expected next is the next node.

@@ -5,8 +5,9 @@ mod laws;
 mod samples;
 
 pub use laws::{
-    accepted_claims_are_so, accepted_is_so, accepted_is_the_listing, asked_by_literal,
-    children_narrow, claims_put_keep_up, expected_is_next, found_from_the_end, lines_are_nodes,
+    accepted_claims_are_so, accepted_claims_have_trees, accepted_is_a_tree, accepted_is_so,
+    accepted_is_the_listing, accepted_shows_all, asked_by_literal, children_narrow,
+    claims_put_keep_up, expected_is_next, found_from_the_end, lines_are_nodes,
     missing_tables_are_refuted, put_keeps_up, told_stays_up, walked_is_next,
 };
 pub use samples::{

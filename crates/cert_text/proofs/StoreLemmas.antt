@@ -1,5 +1,5 @@
 -- The lines that bytes spell.
-use Rattle.std.proofs.Common.{◌≡◌, ℕ, List, [], ◌∷◌, ◌++◌, append_assoc, append-nil, Option, Some, None, option_map, option_and_then, Result, Ok, Err, OnOk, refl, sym, ap, ◌∙◌, subst, false}
+use Rattle.std.proofs.Common.{◌≡◌, ℕ, List, [], ◌∷◌, ◌++◌, append_assoc, append-nil, Bool, true, Option, Some, None, option_map, option_and_then, Result, Ok, Err, OnOk, refl, sym, ap, ◌∙◌, subst, false}
 use Rattle.std.specs.List.{AllByRecursion, join_with_byte}
 use Rattle.std.specs.Result.{result_ok}
 use Rattle.std.proofs.lemmas.Grind.{flat_map-append}
@@ -114,3 +114,9 @@ pub told_ok : {T E : Type 0} (r : Result T E) (old new : Option (List ℕ)) (lin
     OnOk r (IsToldWith (lines_held false old) line (lines_held false new))
 told_ok (Ok v) old new line one e = told_added old new line e one
 told_ok (Err k) old new line one e = tt
+
+-- what a name holds whose lines are told
+pub told_bytes : (refused : Bool) (held : Option (List ℕ)) (lines : List CertLine) → lines_held refused held ≡ Some lines → (bytes : List ℕ) × (held ≡ Some bytes) × (lines_in bytes ≡ Some lines)
+told_bytes true held lines e = absurd (cc)
+told_bytes false None lines e = absurd (cc)
+told_bytes false (Some bytes) lines e = (bytes, refl, e)

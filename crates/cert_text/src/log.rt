@@ -1,6 +1,6 @@
 //! Logs: where a search puts the lines of its certificate.
 
-ghost use Rattle.std.specs.Prelude.{◌≡◌, ◌≤◌, ℕ, Bool, true, None, OnOk, OnErr, ⊤};
+ghost use Rattle.std.specs.Prelude.{◌≡◌, ◌≤◌, ℕ, Bool, true, None, IsOk, OnOk, OnErr, ⊤};
 ghost use Rattle.outer_store.specs.Faults.{Rose, IfFailed};
 ghost use Rattle.cert_text.specs.Lines.{IdsFromOne};
 ghost use Rattle.cert_text.specs.Logs.{Told, IsToldWith};
@@ -52,7 +52,7 @@ pub trait TreeLog {
     ghost quiet_joins: { (a : Self) (b : Self) (c : Self) → quiet a b → quiet b c → quiet a c };
 }
 
-/// The log that drops everything. It takes no memory.
+/// The log that drops everything. It refuses no line, and takes no memory.
 #[derive(Clone, Copy, Debug, Default)]
 pub struct NoLog {}
 
@@ -75,7 +75,9 @@ impl TreeLog for NoLog {
 
     ghost quiet = { λ _ _. ⊤ };
 
-    fn put_line(&mut self, _line: &CertLine) -> Result<(), StoreFault> {
+    fn put_line(&mut self, _line: &CertLine) -> Result<(), StoreFault>
+        ensures { IsOk result }
+    {
         Ok(())
     }
 

@@ -1,8 +1,9 @@
 //! A line of a certificate, printed as text.
 
-ghost use Rattle.std.specs.Prelude.{◌≡◌, ◌++◌, ◌∷◌, [], IfOk, OnOk};
+ghost use Rattle.std.specs.Prelude.{◌≡◌, ◌++◌, ◌∷◌, [], Some, IfOk, OnOk};
 ghost use Rattle.lits_core.specs.Derivation.{FromOne};
 ghost use Rattle.cert_text.specs.Lines.{cert_text, IdsFromOne, IsCertLine};
+ghost use Rattle.cert_text.specs.Logs.{lines_in};
 ghost use Rattle.cert_text.specs.declared.line.CertLine.TheVariants.{Certificate, Claims, Proof, Branch, NoPoint, NoRelation, World, Holds, Fails, End};
 
 use crate::line::{CertLine, RawFamily, Subject};
@@ -16,7 +17,8 @@ use world_model::Switches;
 /// A line's text, with the LF that ends it.
 pub fn print_cert(alloc: Global, line: &CertLine) -> Result<Vec<u8>, AllocError>
     requires { IdsFromOne line.now }
-    ensures { IfOk result (λ text. text.items ≡ cert_text line.now ++ 10 ∷ []) }
+    ensures text { IfOk result (λ text. text.items ≡ cert_text line.now ++ 10 ∷ []) }
+    ensures read { IfOk result (λ text. lines_in text.items ≡ Some (line.now ∷ [])) }
 {
     let mut out = Vec::new(alloc);
     put_whole(alloc, &mut out, line)?;

@@ -2,12 +2,11 @@
 
 ghost use Rattle.std.specs.Prelude.{◌≡◌, ◌++◌, ◌∷◌, [], false, OnOk, OnErr};
 ghost use Rattle.outer_store.specs.Bytes.{added};
-ghost use Rattle.outer_store.specs.Contents.{OthersKept};
-ghost use Rattle.outer_store.specs.Faults.{Rose, NoneFell, IfFailed};
-ghost use Rattle.outer_store.specs.Reader.{NoneMoved};
+ghost use Rattle.outer_store.specs.Faults.{Rose, IfFailed};
+ghost use Rattle.outer_store.specs.States.{IsQuiet, OnlyWritten, IsQuiet-joins, OnlyWritten-stays, OnlyWritten-joins};
 ghost use Rattle.cert_text.specs.Lines.{cert_text, IdsFromOne, IsCertLine};
 ghost use Rattle.cert_text.specs.Logs.{lines_held, IsToldWith};
-ghost use Rattle.cert_text.specs.StoreLogs.{log_store, log_name, is_refused, OnlyWritten, OnlyWritten-stays, OnlyWritten-joins};
+ghost use Rattle.cert_text.specs.StoreLogs.{log_store, log_name, is_refused};
 
 use crate::line::CertLine;
 use crate::log::TreeLog;
@@ -34,7 +33,7 @@ impl<'a, S: Store> StoreLog<'a, S> {
         ensures store { (log_store result).now ≡ store.old }
         ensures name { log_name result ≡ name.entry }
         ensures refused { is_refused result ≡ false }
-        ensures told { lines_held (is_refused result) (S.held (log_store result).now (log_name result).now) ≡ lines_held false (S.held store.old name.now) }
+        ensures told { lines_held (is_refused result) ((S.state (log_store result).now).held (log_name result).now) ≡ lines_held false ((S.state store.old).held name.now) }
     {
         StoreLog {
             store,
@@ -56,11 +55,9 @@ fn append_line<S: Store>(
     line: &CertLine,
 ) -> Result<(), StoreFault>
     requires { IdsFromOne line.now }
-    ensures told { OnOk result (IsToldWith (lines_held false (S.held store.old name.now)) line.now (lines_held false (S.held store.new name.now))) }
-    ensures written { OnlyWritten name.now (S.held store.old) (S.held store.new)
-        (S.read_faults store.old) (S.read_faults store.new) (S.write_faults store.old) (S.write_faults store.new) }
-    ensures cause { IfFailed result (Rose (S.write_faults store.old name.now) (S.write_faults store.new name.now))
-        (NoneMoved (S.read_faults store.old) (S.read_faults store.new) (S.write_faults store.old) (S.write_faults store.new)) }
+    ensures told { OnOk result (IsToldWith (lines_held false ((S.state store.old).held name.now)) line.now (lines_held false ((S.state store.new).held name.now))) }
+    ensures written { OnlyWritten name.now (S.state store.old) (S.state store.new) }
+    ensures cause { IfFailed result (Rose ((S.state store.old).writes name.now) ((S.state store.new).writes name.now)) (IsQuiet (S.state store.old) (S.state store.new)) }
 {
     let mut text = Vec::with_capacity(alloc, USUAL)?;
     put_whole(alloc, &mut text, line)?;
@@ -73,19 +70,15 @@ impl<'a, S: Store> TreeLog for StoreLog<'a, S> {
 
     ghost drops = { λ _. false };
 
-    ghost lines = { λ l. lines_held (is_refused l) (S.held (log_store l).now (log_name l).now) };
+    ghost lines = { λ l. lines_held (is_refused l) ((S.state (log_store l).now).held (log_name l).now) };
 
-    ghost faults = { λ l. S.write_faults (log_store l).now (log_name l).now };
+    ghost faults = { λ l. (S.state (log_store l).now).writes (log_name l).now };
 
     ghost steady = { λ a b. (log_name b ≡ log_name a)
         × ((log_store b).ghost_name ≡ (log_store a).ghost_name)
-        × OnlyWritten (log_name a).now (S.held (log_store a).now) (S.held (log_store b).now)
-        (S.read_faults (log_store a).now) (S.read_faults (log_store b).now)
-        (S.write_faults (log_store a).now) (S.write_faults (log_store b).now) };
+        × OnlyWritten (log_name a).now (S.state (log_store a).now) (S.state (log_store b).now) };
 
-    ghost quiet = { λ a b. NoneMoved
-        (S.read_faults (log_store a).now) (S.read_faults (log_store b).now)
-        (S.write_faults (log_store a).now) (S.write_faults (log_store b).now) };
+    ghost quiet = { λ a b. IsQuiet (S.state (log_store a).now) (S.state (log_store b).now) };
 
     fn put_line(&mut self, line: &CertLine) -> Result<(), StoreFault> {
         let put = append_line(self.alloc, self.store, self.name, line);
@@ -101,26 +94,16 @@ impl<'a, S: Store> TreeLog for StoreLog<'a, S> {
 
     ghost tells_none = { λ log e. absurd (cc) };
 
-    ghost steady_stays = { λ s. (
-      refl,
-      refl,
-      OnlyWritten-stays (log_name s).now (S.held (log_store s).now)
-          (S.read_faults (log_store s).now) (S.write_faults (log_store s).now),
-    ) };
+    ghost steady_stays = { λ s. (refl, refl, OnlyWritten-stays (log_name s).now (S.state (log_store s).now)) };
 
     ghost steady_joins = { λ a b c first second. (
       second.0 ∙ first.0,
       second.1 ∙ first.1,
-      OnlyWritten-joins (log_name a).now
-          (S.held (log_store a).now) (S.held (log_store b).now) (S.held (log_store c).now)
-          (S.read_faults (log_store a).now) (S.read_faults (log_store b).now) (S.read_faults (log_store c).now)
-          (S.write_faults (log_store a).now) (S.write_faults (log_store b).now) (S.write_faults (log_store c).now)
-          first.2 (subst (λ n. OnlyWritten n.now (S.held (log_store b).now) (S.held (log_store c).now)
-          (S.read_faults (log_store b).now) (S.read_faults (log_store c).now)
-          (S.write_faults (log_store b).now) (S.write_faults (log_store c).now)) first.0 second.2),
+      OnlyWritten-joins (log_name a).now (S.state (log_store a).now) (S.state (log_store b).now) (S.state (log_store c).now)
+          first.2 (subst (λ n. OnlyWritten n.now (S.state (log_store b).now) (S.state (log_store c).now)) first.0 second.2),
     ) };
 
-    ghost quiet_stays = { λ s. record { reads = refl; writes = refl } };
+    ghost quiet_stays = { λ s. (refl, refl) };
 
-    ghost quiet_joins = { λ a b c first second. record { reads = second.reads ∙ first.reads; writes = second.writes ∙ first.writes } };
+    ghost quiet_joins = { λ a b c first second. IsQuiet-joins (S.state (log_store a).now) (S.state (log_store b).now) (S.state (log_store c).now) first second };
 }

@@ -5,7 +5,7 @@ use Rattle.rcc5_core.specs.declared.Rel.{Rel}
 use Rattle.world_model.specs.Problem.{Problem}
 use Rattle.world_model.specs.Family.{Family, meets}
 use Rattle.set_family.specs.Sets.{is_set_below}
-use Rattle.cert_rules.specs.Trees.{Tree, fault_or, family_fault, table_fault, world_fault}
+use Rattle.cert_rules.specs.Trees.{Branching, fault_or, family_fault, table_fault, world_fault}
 use Rattle.cert_rules.specs.declared.RejectKind.{RejectKind}
 use Rattle.cert_rules.specs.declared.RejectKind.TheVariants.{FamilyDoesNotMeet}
 use Rattle.cert_tree.specs.Families.{met_family}
@@ -20,7 +20,7 @@ words-some q words f true e = meets-some words f (meets q words) e
 words-some q words f false e = absurd (cc)
 
 -- a family that meets the tree's problem is what the words say, and only its table may be wrong
-pub world-some : (tree : Tree) (m : List Rel) (words f : Family) → met_family tree.subject words ≡ Some f → world_fault tree m words ≡ table_fault tree m f
+pub world-some : (tree : Branching) (m : List Rel) (words f : Family) → met_family tree.subject words ≡ Some f → world_fault tree m words ≡ table_fault tree m f
 world-some tree m words f e =
     let is = words-some tree.subject words f (list_all (is_set_below words.universe) words.sets) e in
     ap (λ fault. fault_or fault (table_fault tree m words)) is.1 ∙ ap (table_fault tree m) (sym is.0)
@@ -34,6 +34,6 @@ words-none : (q : Problem) (words : Family) (valid : Bool) →
 words-none q words true e = meets-none words (meets q words) e
 words-none q words false e = refl
 
-pub world-none : (tree : Tree) (m : List Rel) (words : Family) → met_family tree.subject words ≡ None → world_fault tree m words ≡ Some FamilyDoesNotMeet
+pub world-none : (tree : Branching) (m : List Rel) (words : Family) → met_family tree.subject words ≡ None → world_fault tree m words ≡ Some FamilyDoesNotMeet
 world-none tree m words e =
     ap (λ fault. fault_or fault (table_fault tree m words)) (words-none tree.subject words (list_all (is_set_below words.universe) words.sets) e)

@@ -3,7 +3,7 @@ use Rattle.std.proofs.Common.{◌≡◌, ℕ, zero, suc, true, List, [], ◌∷�
 use Rattle.std.specs.Prelude.{filter, slice_get}
 use Rattle.world_model.specs.Problem.{Problem, pairs}
 use Rattle.rcc5_core.specs.declared.Rel.{Rel}
-use Rattle.cert_rules.specs.Trees.{Tree}
+use Rattle.cert_rules.specs.Trees.{Branching}
 use Rattle.cert_rules.specs.Listings.{listing_tree}
 use Rattle.cert_tree.specs.Levels.{is_level, tree_over, AreDepths}
 
@@ -61,4 +61,4 @@ all_levels q [] = refl
 all_levels q (pair ∷ ps) = ap (λ rest. pair ∷ rest) (all_levels q ps)
 
 pub tree_over_all : (q : Problem) (from : List Rel) → tree_over q true from ≡ listing_tree q from
-tree_over_all q from = ap {B = Tree} (λ levels. record { subject = q; levels = levels; from = from }) (all_levels q (pairs q))
+tree_over_all q from = ap {B = Branching} (λ levels. record { subject = q; levels = levels; from = from }) (all_levels q (pairs q))

@@ -10,7 +10,7 @@ use Rattle.world_model.specs.Problem.{Problem, pairs, pair_count, narrowed}
 use Rattle.world_model.specs.Alive.{allowed, narrowings_at}
 use Rattle.world_model.specs.Node.{pair_at}
 use Rattle.world_model.specs.Laws.{PairsStandOnce}
-use Rattle.cert_rules.specs.Trees.{Tree, sets_of}
+use Rattle.cert_rules.specs.Trees.{Branching, sets_of}
 use Rattle.cert_rules.specs.FromTheEnd.{set_at}
 use Rattle.cert_rules.proofs.NodeProblems.{children_narrow_law}
 use Rattle.cert_tree.specs.Levels.{AreLevels, depth_of, narrowed_set}
@@ -99,10 +99,10 @@ allowed_by_depth law q list depths m k (Some d) are within at = by (slice_get m 
         (λ e other short differ got same. differ (only_there e other got same)))
 
 -- a tree by its parts
-abbrev pub tree_with : Problem → List ℕ → List Rel → Tree
+abbrev pub tree_with : Problem → List ℕ → List Rel → Branching
 tree_with q list from = record { subject = q; levels = map (pair_at q) list; from = from }
 
-pub depth_within : (q : Problem) (list : List ℕ) (from : List Rel) (tree : Tree) (d : ℕ) → tree_with q list from ≡ tree → d < length tree.levels → d < length list
+pub depth_within : (q : Problem) (list : List ℕ) (from : List Rel) (tree : Branching) (d : ℕ) → tree_with q list from ≡ tree → d < length tree.levels → d < length list
 depth_within q list from tree d is short = let counted = ap (λ t. length t.levels) is in omega (arith, short, counted, length-map list (pair_at q))
 
 pub level_within : (q : Problem) (list : List ℕ) (depths : List (Option ℕ)) (d k : ℕ) → AreLevels q list depths → d < length list → k ≡ get_or list d k → k < pair_count q

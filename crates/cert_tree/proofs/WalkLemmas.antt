@@ -14,7 +14,7 @@ use Rattle.lits_core.specs.Derivation.{State}
 use Rattle.cert_text.specs.declared.line.CertLine.{CertLine}
 use Rattle.cert_rules.specs.declared.RejectKind.{RejectKind}
 use Rattle.cert_rules.specs.declared.RejectKind.TheVariants.{MissingBranch}
-use Rattle.cert_rules.specs.Trees.{Tree, same_last, sets_of, names, node_fault, tree_fault}
+use Rattle.cert_rules.specs.Trees.{Branching, same_last, sets_of, names, node_fault, tree_fault}
 use Rattle.cert_rules.specs.FromTheEnd.{from_after, found_or, set_at}
 use Rattle.cert_rules.proofs.FromTheEnd.{found_from_the_end_law}
 use Rattle.cert_rules.proofs.Nexts.{shown_below, shown_above, shown_first, next_shown}
@@ -116,27 +116,27 @@ found_no_later sets from m rel short found = found_from_the_end_law.behind sets 
 shorter : (m : List Rel) (rel : Rel) (path : List Rel) (n : ℕ) → path ≡ m ++ rel ∷ [] → length path ≤ n → length m < n
 shorter m rel path n is short = let counted = ap length is in omega (arith, counted, short, length_more m rel)
 
-counted_sets : (tree : Tree) → length (sets_of tree) ≡ length tree.levels
+counted_sets : (tree : Branching) → length (sets_of tree) ≡ length tree.levels
 counted_sets tree = length-map tree.levels (allowed tree.subject)
 
-within_sets : (tree : Tree) (m : List Rel) (rel : Rel) (path : List Rel) → path ≡ m ++ rel ∷ [] → length path ≤ length tree.levels → length m < length (sets_of tree)
+within_sets : (tree : Branching) (m : List Rel) (rel : Rel) (path : List Rel) → path ≡ m ++ rel ∷ [] → length path ≤ length tree.levels → length m < length (sets_of tree)
 within_sets tree m rel path is short = let less = shorter m rel path (length tree.levels) is short in omega (arith, less, counted_sets tree)
 
 -- the last relation of a path gives way to a later one
-pub later_next : (tree : Tree) (m : List Rel) (rel : Rel) (path : List Rel) (found : Option Rel) → path ≡ m ++ rel ∷ [] → length path ≤ length tree.levels →
+pub later_next : (tree : Branching) (m : List Rel) (rel : Rel) (path : List Rel) (found : Option Rel) → path ≡ m ++ rel ∷ [] → length path ≤ length tree.levels →
     found ≡ next_of (set_at (sets_of tree) (length m)) rel → is_some found ≡ true → onward (sets_of tree) tree.from false path ≡ found_or m found None
 later_next tree m rel path None is short next some = cc
 later_next tree m rel path (Some later) is short next some =
     ap (onward (sets_of tree) tree.from false) is ∙ found_later (sets_of tree) tree.from m rel later (within_sets tree m rel path is short) (sym next)
 
-pub later_beside : (tree : Tree) (m : List Rel) (rel : Rel) (path : List Rel) (found : Option Rel) → path ≡ m ++ rel ∷ [] → is_shown tree.from path ≡ true →
+pub later_beside : (tree : Branching) (m : List Rel) (rel : Rel) (path : List Rel) (found : Option Rel) → path ≡ m ++ rel ∷ [] → is_shown tree.from path ≡ true →
     found ≡ next_of (set_at (sets_of tree) (length m)) rel → IfSome found (λ rel. IsBeside tree.from m rel)
 later_beside tree m rel path None is shown next = tt
 later_beside tree m rel path (Some later) is shown next =
     is_beside tree.from m (set_at (sets_of tree) (length m)) rel later (ap (is_shown tree.from) (sym is) ∙ shown) (sym next)
 
 -- or it is taken off
-pub later_none : (tree : Tree) (m : List Rel) (rel : Rel) (path : List Rel) (found : Option Rel) → path ≡ m ++ rel ∷ [] → length path ≤ length tree.levels →
+pub later_none : (tree : Branching) (m : List Rel) (rel : Rel) (path : List Rel) (found : Option Rel) → path ≡ m ++ rel ∷ [] → length path ≤ length tree.levels →
     found ≡ next_of (set_at (sets_of tree) (length m)) rel → is_some found ≡ false → onward (sets_of tree) tree.from false m ≡ onward (sets_of tree) tree.from false path
 later_none tree m rel path (Some later) is short next none = cc
 later_none tree m rel path None is short next none =
@@ -148,11 +148,11 @@ short_front m rel path n is short = let less = shorter m rel path n is short in 
 pub shown_rest : (from m : List Rel) (rel : Rel) (path : List Rel) → path ≡ m ++ rel ∷ [] → is_shown from path ≡ true → is_shown from m ≡ true
 shown_rest from m rel path is shown = shown_front from m rel (ap (is_shown from) (sym is) ∙ shown)
 
-pub root_ends : (tree : Tree) (path : List Rel) → path ≡ [] → onward (sets_of tree) tree.from false path ≡ None
+pub root_ends : (tree : Branching) (path : List Rel) → path ≡ [] → onward (sets_of tree) tree.from false path ≡ None
 root_ends tree path is = ap (onward (sets_of tree) tree.from false) is ∙ found_from_the_end_law.root (sets_of tree) tree.from
 
 -- what is found below a node, or not
-pub below_found : (tree : Tree) (m : List Rel) (branches : Bool) (found : Option Rel) → branches ≡ true → length m < length tree.levels →
+pub below_found : (tree : Branching) (m : List Rel) (branches : Bool) (found : Option Rel) → branches ≡ true → length m < length tree.levels →
     found ≡ least_with (set_at (sets_of tree) (length m)) (slice_get (from_after tree.from m) 0) →
     onward (sets_of tree) tree.from branches m ≡ found_or m found (onward (sets_of tree) tree.from false m)
 below_found tree m branches found branch short is =
@@ -160,11 +160,11 @@ below_found tree m branches found branch short is =
     ∙ found_below (sets_of tree) tree.from m (omega (arith, short, counted_sets tree))
     ∙ ap (λ rel. found_or m rel (onward (sets_of tree) tree.from false m)) (sym is)
 
-pub below_full : (tree : Tree) (m : List Rel) (branches : Bool) → branches ≡ true → length tree.levels ≤ length m →
+pub below_full : (tree : Branching) (m : List Rel) (branches : Bool) → branches ≡ true → length tree.levels ≤ length m →
     onward (sets_of tree) tree.from branches m ≡ onward (sets_of tree) tree.from false m
 below_full tree m branches branch long = ap (λ b. onward (sets_of tree) tree.from b m) branch ∙ full (sets_of tree) tree.from m (omega (arith, long, counted_sets tree))
 
-pub below_shown : (tree : Tree) (m n : List Rel) (branches : Bool) → is_shown tree.from m ≡ true → onward (sets_of tree) tree.from branches m ≡ Some n → is_shown tree.from n ≡ true
+pub below_shown : (tree : Branching) (m n : List Rel) (branches : Bool) → is_shown tree.from m ≡ true → onward (sets_of tree) tree.from branches m ≡ Some n → is_shown tree.from n ≡ true
 below_shown tree m n branches shown next = next_shown (sets_of tree) tree.from branches m n shown next
 
 named_or : (b : Bool) (fault : Option RejectKind) → option_or (cond b None (Some MissingBranch)) fault ≡ cond b fault (Some MissingBranch)
@@ -172,7 +172,7 @@ named_or true fault = refl
 named_or false fault = refl
 
 -- what is wrong with a line is what is wrong with its name, or else with what it says of the node
-pub both_faults : (tree : Tree) (proof : State) (expected : Bool) (m : List Rel) (line : CertLine) →
+pub both_faults : (tree : Branching) (proof : State) (expected : Bool) (m : List Rel) (line : CertLine) →
     option_or (name_fault (node_of expected m) line) (node_fault tree proof m line) ≡ tree_fault tree proof (node_of expected m) line
 both_faults tree proof true m line = named_or (names m line) (node_fault tree proof m line)
 both_faults tree proof false m line = refl

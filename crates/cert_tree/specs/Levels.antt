@@ -6,18 +6,18 @@ use Rattle.rcc5_core.specs.RelationSet.{is_empty_set, both_of, only}
 use Rattle.rcc5_core.specs.Region.{is_whole_set}
 use Rattle.world_model.specs.Problem.{Problem, pairs, pair_count}
 use Rattle.world_model.specs.Alive.{allowed}
-use Rattle.cert_rules.specs.Trees.{Tree}
+use Rattle.cert_rules.specs.Trees.{Branching}
 
 -- whether a tree branches on a pair: on each, or on those whose allowed set is neither empty nor whole
 abbrev pub is_level : Problem → Bool → ℕ × ℕ → Bool
 is_level q all pair = all || not (is_empty_set (allowed q pair) || is_whole_set (allowed q pair))
 
 -- the tree over these pairs
-abbrev pub tree_over : Problem → Bool → List Rel → Tree
+abbrev pub tree_over : Problem → Bool → List Rel → Branching
 tree_over q all from = record { subject = q; levels = filter (is_level q all) (pairs q); from = from }
 
 -- the tree that branches on no pair
-abbrev pub bare_tree : Problem → Tree
+abbrev pub bare_tree : Problem → Branching
 bare_tree q = record { subject = q; levels = []; from = [] }
 
 -- the depth of a pair, if it has one

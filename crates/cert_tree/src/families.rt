@@ -7,7 +7,7 @@ ghost use Rattle.cert_tree.specs.Families.{met_family};
 ghost use Rattle.cert_rules.specs.Trees.{table_along, same_position, family_fault, table_fault, world_fault};
 
 use crate::relations::is_same;
-use crate::tree::Tree;
+use crate::tree::Branching;
 use cert_rules::RejectKind;
 use cert_text::RawFamily;
 use constraint_set::Problem;
@@ -37,7 +37,7 @@ pub fn family_fault(problem: &Problem, words: RawFamily) -> Option<RejectKind>
     }
 }
 
-impl Tree {
+impl Branching {
     /// What is wrong with the words of a family that is to show a node as a world.
     pub(crate) fn world_fault(&self, path: &Position, words: RawFamily) -> Option<RejectKind>
         requires { length path.now ≤ length self.now.levels }

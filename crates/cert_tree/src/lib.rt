@@ -12,4 +12,4 @@ mod tree;
 pub use families::family_fault;
 pub use lines::is_branch;
 pub use path::Walk;
-pub use tree::Tree;
+pub use tree::Branching;

@@ -13,14 +13,14 @@ ghost use Rattle.point_encode.specs.Needs.{need_seen, IsInRange, lits_there};
 ghost use Rattle.cert_rules.specs.Trees.{node_problem, is_forced, is_closed, clause_fault, need_fault, point_fault, pair_fault};
 ghost use Rattle.cert_rules.specs.Selected.{is_emptied, is_sum_kept, is_selected, is_asked};
 
-use crate::tree::Tree;
+use crate::tree::Branching;
 use cert_rules::{RejectKind, asked_by_literal};
 use lits_core::Lit;
 use point_encode::{Need, need_lits, need_of};
 use proof_check::Book;
 use rcc5_core::{Occupancy, Position, Region};
 
-impl Tree {
+impl Branching {
     /// What is wrong with a need of a node that has no point by a clause, both by their numbers.
     pub(crate) fn point_fault(
         &self,

@@ -9,7 +9,7 @@ ghost use Rattle.cert_rules.specs.FromTheEnd.{from_after, found_or};
 ghost use Rattle.cert_tree.specs.Walks.{IsWalk, IsBeside, at_of, least_with};
 
 use crate::relations::is_same;
-use crate::tree::Tree;
+use crate::tree::Branching;
 use rcc5_core::{Position, Rel, RelSet};
 use std::alloc::{AllocError, Global};
 
@@ -18,7 +18,7 @@ use std::alloc::{AllocError, Global};
 /// The start is not compared with the path: `on_way` says whether what comes in it at the path's depth lies below the path.
 #[derive(Drop)]
 pub struct Walk {
-    pub tree: Tree,
+    pub tree: Branching,
     pub path: Position,
     pub expected: bool,
     pub on_way: bool,
@@ -26,7 +26,7 @@ pub struct Walk {
 
 impl Walk {
     /// The root is expected.
-    pub fn new(alloc: Global, tree: Tree) -> Walk
+    pub fn new(alloc: Global, tree: Branching) -> Walk
         ensures walk { IsWalk result }
         ensures at { at_of result ≡ Some [] }
         ensures tree { result.tree ≡ tree }
@@ -128,7 +128,7 @@ impl Walk {
 }
 
 /// Takes relations off a path up to one that has a later one in its set, and answers this one.
-fn later(tree: &Tree, path: &mut Position) -> Option<Rel>
+fn later(tree: &Branching, path: &mut Position) -> Option<Rel>
     requires short { length path.old ≤ length tree.now.levels }
     requires shown { is_shown tree.now.from path.old ≡ true }
     ensures next { onward (sets_of tree.now) tree.now.from false path.old ≡ found_or path.new result None }

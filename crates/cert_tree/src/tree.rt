@@ -18,37 +18,37 @@ use world_model::pairs_stand_once;
 
 /// A tree: a problem, the pair of each depth, and a start. Nothing in it changes with the path.
 #[derive(Drop)]
-pub struct Tree {
+pub struct Branching {
     pub(crate) subject: Problem,
     levels: Levels,
     pub(crate) from: Position,
 }
 
-impl Model for Tree {
+impl Model for Branching {
     ghost use Rattle.std.specs.Prelude.{map};
     ghost use Rattle.world_model.specs.Node.{pair_at};
-    ghost use Rattle.cert_rules.specs.Trees.{Tree};
+    ghost use Rattle.cert_rules.specs.Trees.{Branching};
     ghost use Rattle.cert_tree.specs.Levels.{AreLevels};
 
-    ghost Value = { Tree };
+    ghost Value = { Branching };
 
     ghost view = { λ g. record { subject = g.subject; levels = map (pair_at g.subject) g.levels.list.items; from = g.from } };
 
     ghost invariant = { λ g. AreLevels g.subject g.levels.list.items g.levels.depths.items };
 }
 
-impl Tree {
+impl Branching {
     /// A tree over all pairs, or over those that are split.
     pub fn new(
         alloc: Global,
         subject: Problem,
         all: bool,
         from: Position,
-    ) -> Result<Tree, AllocError>
+    ) -> Result<Branching, AllocError>
         ensures { IfOk result (λ tree. tree ≡ tree_over subject all from) }
     {
         let levels = Levels::new(alloc, &subject, all)?;
-        Ok(Tree {
+        Ok(Branching {
             subject,
             levels,
             from,
@@ -56,10 +56,10 @@ impl Tree {
     }
 
     /// A tree that branches on no pair. It looks at none.
-    pub fn root(alloc: Global, subject: Problem) -> Tree
+    pub fn root(alloc: Global, subject: Problem) -> Branching
         ensures { result ≡ bare_tree subject }
     {
-        Tree {
+        Branching {
             subject,
             levels: Levels::none(alloc),
             from: Position::new(alloc),

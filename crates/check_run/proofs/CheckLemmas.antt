@@ -15,7 +15,8 @@ use Rattle.run_ends.specs.declared.Status.{Status}
 use Rattle.run_ends.specs.declared.Status.TheVariants as status
 use Rattle.run_ends.specs.Ends.{end_line}
 use Rattle.run_ends.specs.Reads.{problem_in, ComesOf, IsWithout}
-use Rattle.run_ends.specs.Runs.{StoreState, SinkState, IsQuiet, Answered, ending_of, IsEarlyEnd, IsCarriedOut}
+use Rattle.outer_store.specs.States.{StoreState, SinkState, IsQuiet}
+use Rattle.run_ends.specs.Runs.{Answered, ending_of, IsEarlyEnd, IsCarriedOut}
 use Rattle.run_ends.proofs.TextLemmas.{err_same, says_problem, without_text}
 use Rattle.run_ends.proofs.EndLemmas.{all_kept, none_written}
 use Rattle.check_run.specs.Checking.{verdict_text, status_by, text_by, IsCertAnswer, IsAnswerBy, IsCheckAnswer, check_names}

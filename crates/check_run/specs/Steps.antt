@@ -13,7 +13,8 @@ use Rattle.cert_check.specs.declared.fault.CheckFault.TheVariants as fault
 use Rattle.run_ends.specs.declared.Status.{Status}
 use Rattle.run_ends.specs.declared.Status.TheVariants.{Done, ReadFault, RefusedCert, Rejected, NoMemory}
 use Rattle.run_ends.specs.Ends.{end_line}
-use Rattle.run_ends.specs.Runs.{StoreState, SinkState, Leaves, IsQuiet, Answered, ending_of}
+use Rattle.outer_store.specs.States.{StoreState, SinkState, IsQuiet}
+use Rattle.run_ends.specs.Runs.{Leaves, Answered, ending_of}
 use Rattle.check_run.specs.Checking.{verdict_text, cert_answer, IsCertAnswer}
 
 -- how a run ends by why a certificate is not accepted

@@ -1,7 +1,8 @@
 //! A check: its problem and its certificate are read, and what the certificate says is put.
 ghost use Rattle.std.specs.Prelude.{◌≡◌, IfOk, IfErr, OnOk};
 ghost use Rattle.cert_check.specs.Answers.{verdict_of};
-ghost use Rattle.run_ends.specs.Runs.{store_state, sink_state, IsQuiet, IsEarlyEnd, IsRunOf};
+ghost use Rattle.outer_store.specs.States.{IsQuiet};
+ghost use Rattle.run_ends.specs.Runs.{IsEarlyEnd, IsRunOf};
 ghost use Rattle.check_run.specs.Checking.{IsCheckAnswer, check_names};
 ghost use Rattle.check_run.specs.Steps.{status_of, IsAccepted, IsNotAccepted, IsVerdictOf, IsPutAnswer};
 
@@ -32,10 +33,10 @@ fn accepted_under<S: Store>(
     problem: &Problem,
     cert: &str,
 ) -> Result<Accepted, Status>
-    ensures accepted { IfOk result (λ accepted. IsAccepted problem.now (S.held store.old cert.now) (verdict_of accepted)) }
-    ensures quiet { OnOk result (IsQuiet (store_state (S.held store.old) (S.read_faults store.old) (S.write_faults store.old)) (store_state (S.held store.new) (S.read_faults store.new) (S.write_faults store.new))) }
-    ensures ended { IfErr result (λ status. IsNotAccepted problem.now cert.now status (store_state (S.held store.old) (S.read_faults store.old) (S.write_faults store.old)) (store_state (S.held store.new) (S.read_faults store.new) (S.write_faults store.new))) }
-    ensures kept { S.held store.new ≡ S.held store.old }
+    ensures accepted { IfOk result (λ accepted. IsAccepted problem.now ((S.state store.old).held cert.now) (verdict_of accepted)) }
+    ensures quiet { OnOk result (IsQuiet (S.state store.old) (S.state store.new)) }
+    ensures ended { IfErr result (λ status. IsNotAccepted problem.now cert.now status (S.state store.old) (S.state store.new)) }
+    ensures kept { (S.state store.new).held ≡ (S.state store.old).held }
 {
     let mut reader = StoreReader::new(store, cert);
     match check(alloc, problem, &mut reader) {
@@ -52,10 +53,10 @@ fn accepted_of<S: Store>(
     cert: &str,
     switches: Switches,
 ) -> Result<Accepted, Status>
-    ensures accepted { IfOk result (λ accepted. IsVerdictOf input.now cert.now switches (S.held store.old) (verdict_of accepted)) }
-    ensures quiet { OnOk result (IsQuiet (store_state (S.held store.old) (S.read_faults store.old) (S.write_faults store.old)) (store_state (S.held store.new) (S.read_faults store.new) (S.write_faults store.new))) }
-    ensures ended { IfErr result (λ status. IsEarlyEnd (check_names input.now cert.now) (IsCheckAnswer input.now cert.now switches) status (store_state (S.held store.old) (S.read_faults store.old) (S.write_faults store.old)) (store_state (S.held store.new) (S.read_faults store.new) (S.write_faults store.new))) }
-    ensures kept { S.held store.new ≡ S.held store.old }
+    ensures accepted { IfOk result (λ accepted. IsVerdictOf input.now cert.now switches (S.state store.old).held (verdict_of accepted)) }
+    ensures quiet { OnOk result (IsQuiet (S.state store.old) (S.state store.new)) }
+    ensures ended { IfErr result (λ status. IsEarlyEnd (check_names input.now cert.now) (IsCheckAnswer input.now cert.now switches) status (S.state store.old) (S.state store.new)) }
+    ensures kept { (S.state store.new).held ≡ (S.state store.old).held }
 {
     let problem = problem_under(alloc, store, input, switches)?;
     accepted_under(alloc, store, &problem, cert)
@@ -67,7 +68,7 @@ fn put_answer<W: Sink>(
     out: &mut W,
     accepted: &Accepted,
 ) -> Result<Status, StoreFault>
-    ensures { IsPutAnswer result (verdict_of accepted.now) (sink_state (W.received out.old) (W.faults out.old)) (sink_state (W.received out.new) (W.faults out.new)) }
+    ensures { IsPutAnswer result (verdict_of accepted.now) (W.state out.old) (W.state out.new) }
 {
     put_verdict(alloc, out, accepted)?;
     Ok(Status::Done)
@@ -82,7 +83,7 @@ pub fn run_check<S: Store, W: Sink>(
     cert: &str,
     switches: Switches,
 ) -> Status
-    ensures { IsRunOf (check_names input.now cert.now) (IsCheckAnswer input.now cert.now switches) result (store_state (S.held store.old) (S.read_faults store.old) (S.write_faults store.old)) (store_state (S.held store.new) (S.read_faults store.new) (S.write_faults store.new)) (sink_state (W.received out.old) (W.faults out.old)) (sink_state (W.received out.new) (W.faults out.new)) }
+    ensures { IsRunOf (check_names input.now cert.now) (IsCheckAnswer input.now cert.now switches) result (S.state store.old) (S.state store.new) (W.state out.old) (W.state out.new) }
 {
     let accepted = match accepted_of(alloc, store, input, cert, switches) {
         Ok(accepted) => accepted,

@@ -3,7 +3,7 @@ ghost use Rattle.std.specs.Prelude.{◌≡◌, ◌++◌, ◌∷◌, [], length, 
 ghost use Rattle.cert_text.specs.Lines.{position_word, end_word};
 ghost use Rattle.cert_check.specs.Answers.{verdict_of};
 ghost use Rattle.run_ends.specs.Ends.{line_of, world_line};
-ghost use Rattle.run_ends.specs.Runs.{sink_state, LeavesPiece};
+ghost use Rattle.run_ends.specs.Runs.{LeavesPiece};
 ghost use Rattle.check_run.specs.Checking.{claim_line, claim_word, accepted_line, verdict_text};
 
 use cert_check::{Accepted, Claim};
@@ -73,7 +73,7 @@ fn accepted_line(alloc: Global, count: usize) -> Result<String, AllocError>
 }
 
 fn put_worlds<W: Sink>(alloc: Global, out: &mut W, worlds: &[Position]) -> Result<(), StoreFault>
-    ensures { LeavesPiece result (flat_map world_line worlds.now) (sink_state (W.received out.old) (W.faults out.old)) (sink_state (W.received out.new) (W.faults out.new)) }
+    ensures { LeavesPiece result (flat_map world_line worlds.now) (W.state out.old) (W.state out.new) }
 {
     'worlds: for world in worlds {
         let line = world_line(alloc, world)?;
@@ -83,7 +83,7 @@ fn put_worlds<W: Sink>(alloc: Global, out: &mut W, worlds: &[Position]) -> Resul
 }
 
 fn put_claims<W: Sink>(alloc: Global, out: &mut W, claims: &[Claim]) -> Result<(), StoreFault>
-    ensures { LeavesPiece result (flat_map claim_line claims.now) (sink_state (W.received out.old) (W.faults out.old)) (sink_state (W.received out.new) (W.faults out.new)) }
+    ensures { LeavesPiece result (flat_map claim_line claims.now) (W.state out.old) (W.state out.new) }
 {
     'claims: for claim in claims {
         let line = claim_line(alloc, claim)?;
@@ -93,7 +93,7 @@ fn put_claims<W: Sink>(alloc: Global, out: &mut W, claims: &[Claim]) -> Result<(
 }
 
 fn put_accepted<W: Sink>(alloc: Global, out: &mut W, count: usize) -> Result<(), StoreFault>
-    ensures { LeavesPiece result (accepted_line count) (sink_state (W.received out.old) (W.faults out.old)) (sink_state (W.received out.new) (W.faults out.new)) }
+    ensures { LeavesPiece result (accepted_line count) (W.state out.old) (W.state out.new) }
 {
     let line = accepted_line(alloc, count)?;
     out.put(line.as_bytes())
@@ -106,7 +106,7 @@ fn put_last<W: Sink>(
     to: &Option<Position>,
     count: usize,
 ) -> Result<(), StoreFault>
-    ensures { LeavesPiece result (line_of (codes "to " ++ end_word to.now) ++ accepted_line count) (sink_state (W.received out.old) (W.faults out.old)) (sink_state (W.received out.new) (W.faults out.new)) }
+    ensures { LeavesPiece result (line_of (codes "to " ++ end_word to.now) ++ accepted_line count) (W.state out.old) (W.state out.new) }
 {
     let line = to_line(alloc, to)?;
     out.put(&line)?;
@@ -120,7 +120,7 @@ fn put_listed<W: Sink>(
     to: &Option<Position>,
     worlds: &[Position],
 ) -> Result<(), StoreFault>
-    ensures { LeavesPiece result (flat_map world_line worlds.now ++ (line_of (codes "to " ++ end_word to.now) ++ accepted_line (length worlds.now))) (sink_state (W.received out.old) (W.faults out.old)) (sink_state (W.received out.new) (W.faults out.new)) }
+    ensures { LeavesPiece result (flat_map world_line worlds.now ++ (line_of (codes "to " ++ end_word to.now) ++ accepted_line (length worlds.now))) (W.state out.old) (W.state out.new) }
 {
     put_worlds(alloc, out, worlds)?;
     put_last(alloc, out, to, worlds.len())
@@ -134,7 +134,7 @@ fn put_listing<W: Sink>(
     to: &Option<Position>,
     worlds: &[Position],
 ) -> Result<(), StoreFault>
-    ensures { LeavesPiece result (line_of (codes "from " ++ position_word from.now) ++ (flat_map world_line worlds.now ++ (line_of (codes "to " ++ end_word to.now) ++ accepted_line (length worlds.now)))) (sink_state (W.received out.old) (W.faults out.old)) (sink_state (W.received out.new) (W.faults out.new)) }
+    ensures { LeavesPiece result (line_of (codes "from " ++ position_word from.now) ++ (flat_map world_line worlds.now ++ (line_of (codes "to " ++ end_word to.now) ++ accepted_line (length worlds.now)))) (W.state out.old) (W.state out.new) }
 {
     let line = from_line(alloc, from)?;
     out.put(&line)?;
@@ -143,7 +143,7 @@ fn put_listing<W: Sink>(
 
 // Puts the claims, and how many they are.
 fn put_all_claims<W: Sink>(alloc: Global, out: &mut W, claims: &[Claim]) -> Result<(), StoreFault>
-    ensures { LeavesPiece result (flat_map claim_line claims.now ++ accepted_line (length claims.now)) (sink_state (W.received out.old) (W.faults out.old)) (sink_state (W.received out.new) (W.faults out.new)) }
+    ensures { LeavesPiece result (flat_map claim_line claims.now ++ accepted_line (length claims.now)) (W.state out.old) (W.state out.new) }
 {
     put_claims(alloc, out, claims)?;
     put_accepted(alloc, out, claims.len())
@@ -155,7 +155,7 @@ pub(crate) fn put_verdict<W: Sink>(
     out: &mut W,
     accepted: &Accepted,
 ) -> Result<(), StoreFault>
-    ensures { LeavesPiece result (verdict_text (verdict_of accepted.now)) (sink_state (W.received out.old) (W.faults out.old)) (sink_state (W.received out.new) (W.faults out.new)) }
+    ensures { LeavesPiece result (verdict_text (verdict_of accepted.now)) (W.state out.old) (W.state out.new) }
 {
     match accepted {
         Accepted::Listing { from, to, worlds } => {

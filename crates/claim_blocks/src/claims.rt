@@ -8,6 +8,7 @@ ghost use Rattle.cert_text.specs.Lines.{IdsFromOne};
 ghost use Rattle.cert_rules.specs.Trees.{is_branch};
 ghost use Rattle.cert_rules.specs.ClaimLists.{subject_fault, Claim, Block};
 ghost use Rattle.cert_rules.specs.ClaimWriting.{ShowsSubject, open_at};
+ghost use Rattle.search_log.specs.Leading.{KeepsLeading, derivation_of};
 ghost use Rattle.search_log.specs.Logging.{LogGoes, IsSameButLines};
 ghost use Rattle.split_search.specs.Choosing.{IsChoice, IsTidy};
 ghost use Rattle.claim_blocks.specs.Blocks.{IsProblemOf, claimed, settled, KeepsClaims};
@@ -31,10 +32,12 @@ pub(crate) fn put_behind<L: TreeLog>(
 ) -> Result<(), StepFault>
     requires ids { IdsFromOne line.now }
     requires no_branch { is_branch line.now ≡ false }
+    requires no_derivation { derivation_of line.now ≡ [] }
     ensures same { IsSameButLines asker.old asker.new }
     ensures ready { OnOk result (asker.new.solver.waiting ≡ []) }
     ensures keeps { (p : Problem) (block next : Option Block) (claims more : List Claim) → LineLeads p asker.old.solver.state line.now block claims next more →
         LeadsIf p result (L.lines log.old) (L.lines log.new) asker.old asker.new block claims next more }
+    ensures leads { KeepsLeading (L.lines log.old) (L.lines log.new) asker.old asker.new }
     ensures log { LogGoes L.drops L.lines L.faults L.steady L.quiet result log.old log.new }
 {
     put_waiting(alloc, asker, log)?;
@@ -65,6 +68,7 @@ pub fn show<L: TreeLog>(
     ensures ready { OnOk result (asker.new.solver.waiting ≡ []) }
     ensures keeps { (p : Problem) → ShowsSubject p subject.now family.now →
         KeepsClaims p result (λ _ more. more ≡ claimed subject.now true) (L.lines log.old) (L.lines log.new) asker.old asker.new }
+    ensures leads { KeepsLeading (L.lines log.old) (L.lines log.new) asker.old asker.new }
     ensures log { LogGoes L.drops L.lines L.faults L.steady L.quiet result log.old log.new }
 {
     if log.is_dropping() {
@@ -85,6 +89,7 @@ pub(crate) fn begin_tree<L: TreeLog>(
     ensures same { IsSameButLines asker.old asker.new }
     ensures keeps { (p : Problem) (claims : List Claim) → subject_fault p subject.now ≡ None →
         LeadsIf p result (L.lines log.old) (L.lines log.new) asker.old asker.new None claims (open_at subject.now (Some [])) claims }
+    ensures leads { KeepsLeading (L.lines log.old) (L.lines log.new) asker.old asker.new }
     ensures log { LogGoes L.drops L.lines L.faults L.steady L.quiet result log.old log.new }
 {
     let line = CertLine::Fails {
@@ -106,6 +111,7 @@ fn leave_tree<L: TreeLog>(
     ensures ready { OnOk result (asker.new.solver.waiting ≡ []) }
     ensures keeps { (p : Problem) (at : Option (List Rel)) (claims : List Claim) → ShowsSubject p subject.now family.now →
         LeadsIf p result (L.lines log.old) (L.lines log.new) asker.old asker.new (open_at subject.now at) claims None (claims ++ claimed subject.now true) }
+    ensures leads { KeepsLeading (L.lines log.old) (L.lines log.new) asker.old asker.new }
     ensures log { LogGoes L.drops L.lines L.faults L.steady L.quiet result log.old log.new }
 {
     put_behind(alloc, asker, log, &CertLine::Quit)?;
@@ -126,6 +132,7 @@ fn end_tree<L: TreeLog>(
     ensures ready { OnOk result (asker.new.solver.waiting ≡ []) }
     ensures keeps { (p : Problem) (at : Option (List Rel)) (claims : List Claim) → IsProblemOf p subject.now problem.now → MayEndAt choice.now at →
         LeadsIf p result (L.lines log.old) (L.lines log.new) asker.old asker.new (open_at subject.now at) claims None (claims ++ settled subject.now choice.now) }
+    ensures leads { KeepsLeading (L.lines log.old) (L.lines log.new) asker.old asker.new }
     ensures log { LogGoes L.drops L.lines L.faults L.steady L.quiet result log.old log.new }
 {
     problem.facts();
@@ -152,6 +159,7 @@ pub fn settle<L: TreeLog>(
     ensures ready { OnOk result (IsTidy asker.new) }
     ensures keeps { (p : Problem) → IsProblemOf p subject.now problem.now →
         KeepsClaims p result (λ choice more. more ≡ settled subject.now choice) (L.lines log.old) (L.lines log.new) asker.old asker.new }
+    ensures leads { KeepsLeading (L.lines log.old) (L.lines log.new) asker.old asker.new }
     ensures log { LogGoes L.drops L.lines L.faults L.steady L.quiet result log.old log.new }
 {
     if log.is_dropping() {

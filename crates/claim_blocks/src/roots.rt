@@ -3,6 +3,7 @@ ghost use Rattle.std.specs.Prelude.{◌≡◌, ◌≤◌, false, [], List, Some,
 ghost use Rattle.world_model.specs.Problem.{Problem};
 ghost use Rattle.cert_rules.specs.ClaimLists.{Claim};
 ghost use Rattle.cert_rules.specs.ClaimWriting.{open_at};
+ghost use Rattle.search_log.specs.Leading.{KeepsLeading};
 ghost use Rattle.search_log.specs.Logging.{LogGoes, IsSameButLines};
 ghost use Rattle.claim_blocks.specs.Blocks.{IsClosedSubject, claimed, KeepsClaims};
 ghost use Rattle.claim_blocks.specs.Steps.{LeadsIf};
@@ -26,6 +27,7 @@ fn put_root<L: TreeLog>(
     ensures same { IsSameButLines asker.old asker.new }
     ensures keeps { (p : Problem) (claims : List Claim) → IsClosedSubject p subject.now asker.old.solver.state need clause →
         LeadsIf p result (L.lines log.old) (L.lines log.new) asker.old asker.new (open_at subject.now (Some [])) claims (open_at subject.now None) claims }
+    ensures leads { KeepsLeading (L.lines log.old) (L.lines log.new) asker.old asker.new }
     ensures log { LogGoes L.drops L.lines L.faults L.steady L.quiet result log.old log.new }
 {
     let _subject = subject;
@@ -53,6 +55,7 @@ pub fn refute<L: TreeLog>(
     ensures ready { OnOk result (asker.new.solver.waiting ≡ []) }
     ensures keeps { (p : Problem) → IsClosedSubject p subject.now asker.old.solver.state need clause →
         KeepsClaims p result (λ _ more. more ≡ claimed subject.now false) (L.lines log.old) (L.lines log.new) asker.old asker.new }
+    ensures leads { KeepsLeading (L.lines log.old) (L.lines log.new) asker.old asker.new }
     ensures log { LogGoes L.drops L.lines L.faults L.steady L.quiet result log.old log.new }
 {
     begin_tree(alloc, subject, asker, log)?;

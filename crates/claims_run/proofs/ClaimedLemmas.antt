@@ -1,6 +1,6 @@
 -- What is claimed of an answer, and that it is told whole.
-use Rattle.std.proofs.Common.{◌≡◌, Bool, List, [], ◌∷◌, ◌++◌, map, Some, None, Result, Ok, Err, refl, sym, ap, subst}
-use Rattle.std.specs.Prelude.{⊤, IfOk}
+use Rattle.std.proofs.Common.{◌≡◌, Bool, List, [], ◌∷◌, ◌++◌, map, Some, None, Result, Ok, Err, refl, sym, ap₂, subst}
+use Rattle.std.specs.Prelude.{IfOk}
 use Rattle.std.specs.Result.{IsErrAnd}
 use Rattle.world_model.specs.Problem.{Problem}
 use Rattle.point_query.specs.Asking.{AskerState, IsNewAsker}
@@ -16,31 +16,27 @@ use Rattle.claim_blocks.specs.Blocks.{AreClaimsTold, AreClaimsMade, FromClaims, 
 use Rattle.claim_blocks.proofs.Joins.{told_then, keeps_join, keeps_err}
 use Rattle.claim_blocks.proofs.Steps.{leads_flushed}
 use Rattle.mir_report.specs.declared.possible.MirSets.{MirSets}
-use Rattle.mir_report.specs.Possible.{claims_from}
+use Rattle.mir_report.specs.Possible.{claims_from, whole_claim}
 use Rattle.claims_run.specs.declared.question.Answer.{Answer}
 use Rattle.claims_run.specs.declared.question.Answer.TheVariants.{Possible}
 use Rattle.claims_run.specs.Answering.{IsClaimed}
 use Rattle.claims_run.specs.Certifying.{AreAllTold, IsToldWhole}
 
--- the claims of the possible relations, with more behind them
-possible_claimed : (p : Problem) (mir : MirSets) (some : Bool) (first second : List Claim) → first ≡ claims_from p 0 mir.sets.items → IsClaimed p (Possible mir some) (first ++ second)
-possible_claimed p mir some first second is = (second, ap (λ claims. claims ++ second) is)
-
 -- the relations, and then whether there is a world: after both, and where the second step fails
 pub possible_made : (p : Problem) (mir : MirSets) (some : Bool) (a b c : Told) (one two three : AskerState) → AddsLines a b →
     FromClaims p a one (λ claims. AreClaimsMade p (λ claims. claims ≡ claims_from p 0 mir.sets.items) claims b two) →
-    FromClaims p b two (λ claims. AreClaimsMade p (λ claims. ⊤) claims c three) → KeepsClaims p (Ok (Possible mir some)) (IsClaimed p) a c one three
+    FromClaims p b two (λ claims. AreClaimsMade p (λ claims. claims ≡ whole_claim p mir.sets.items some) claims c three) → KeepsClaims p (Ok (Possible mir some)) (IsClaimed p) a c one three
 possible_made p mir some a b c one two three adds first second =
-    keeps_join (Ok some) p (λ claims. claims ≡ claims_from p 0 mir.sets.items) (λ some claims. ⊤) (λ some. IsClaimed p (Possible mir some)) a b c one two three adds
-    (λ some first second is nothing. possible_claimed p mir some first second is) first second
+    keeps_join (Ok some) p (λ claims. claims ≡ claims_from p 0 mir.sets.items) (λ some claims. claims ≡ whole_claim p mir.sets.items some) (λ some. IsClaimed p (Possible mir some)) a b c one two three adds
+    (λ some first second is rest. ap₂ (λ (xs ys : List Claim). xs ++ ys) is rest) first second
 
 pub possible_failed : (e : StepFault) (r : Result Answer StepFault) (p : Problem) (mir : MirSets) (a b c : Told) (one two three : AskerState) → IsErrAnd r (λ f. f ≡ e) → AddsLines a b →
     FromClaims p a one (λ claims. AreClaimsMade p (λ claims. claims ≡ claims_from p 0 mir.sets.items) claims b two) →
     FromClaims p b two (λ claims. AreClaimsTold p c three) → KeepsClaims p r (IsClaimed p) a c one three
 possible_failed e r p mir a b c one two three is adds first second =
     keeps_err (λ f. f ≡ e) r p (IsClaimed p) a c one three is
-    (keeps_join {T = Bool} (Err e) p (λ claims. claims ≡ claims_from p 0 mir.sets.items) (λ some claims. ⊤) (λ some. IsClaimed p (Possible mir some)) a b c one two three adds
-    (λ some first second is nothing. possible_claimed p mir some first second is) first second)
+    (keeps_join {T = Bool} (Err e) p (λ claims. claims ≡ claims_from p 0 mir.sets.items) (λ some claims. claims ≡ whole_claim p mir.sets.items some) (λ some. IsClaimed p (Possible mir some)) a b c one two three adds
+    (λ some first second is rest. ap₂ (λ (xs ys : List Claim). xs ++ ys) is rest) first second)
 
 -- the first line begins a list of claims with a new asker
 begun : (p : Problem) (asker : AskerState) → IsNewAsker p asker → ClaimsBegin p asker.solver.waiting asker.solver.state None [] (Claims p.switches ∷ [])

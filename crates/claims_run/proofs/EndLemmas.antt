@@ -16,13 +16,15 @@ use Rattle.run_ends.specs.declared.Status.{Status}
 use Rattle.run_ends.specs.declared.Status.TheVariants as status
 use Rattle.run_ends.specs.Ends.{end_line}
 use Rattle.run_ends.specs.Reads.{problem_in, ComesOf, IsWithout}
-use Rattle.run_ends.specs.Runs.{StoreState, SinkState, LeavesPiece, AreKeptBut, IsHeld, AreWritten, Answered, ending_of, IsEarlyEnd, IsCarriedOut}
+use Rattle.outer_store.specs.States.{StoreState, SinkState}
+use Rattle.run_ends.specs.Runs.{LeavesPiece, AreKeptBut, IsHeld, AreWritten, Answered, ending_of, IsEarlyEnd, IsCarriedOut}
 use Rattle.run_ends.proofs.EndLemmas.{carried_as}
 use Rattle.run_ends.proofs.TextLemmas.{says_problem, without_text}
 use Rattle.claims_run.specs.declared.question.Question.{Question}
 use Rattle.claims_run.specs.declared.question.Answer.{Answer}
 use Rattle.claims_run.specs.declared.question.Answer.TheVariants.{Possible, Consistent, Conflict}
-use Rattle.claims_run.specs.Answering.{answer_text, answer_status, IsClaimed, IsCertOf, file_under, IsSettled, IsAnswerBy, IsClaimsAnswer, claims_names}
+use Rattle.claims_run.specs.Answering.{answer_text, answer_status, IsClaimed, IsCertOf, IsSettled, IsAnswerBy, IsClaimsAnswer, claims_names}
+use Rattle.run_ends.specs.Runs.{file_under}
 use Rattle.claims_run.specs.Certifying.{IsCertLeft, IsSettledWith}
 
 -- a run that has no problem

@@ -11,7 +11,8 @@ use Rattle.mir_report.specs.declared.possible.MirSets.{MirSets}
 use Rattle.conflict_min.specs.Conflicts.{places_from}
 use Rattle.world_watch.specs.Kinds.{set_at, seen_lines}
 use Rattle.run_ends.specs.Ends.{in_lines}
-use Rattle.run_ends.specs.Runs.{SinkState, LeavesPiece}
+use Rattle.outer_store.specs.States.{SinkState}
+use Rattle.run_ends.specs.Runs.{LeavesPiece}
 use Rattle.run_ends.proofs.PieceLemmas.{IsEnded, ended_line, ended_behind, ended_lines}
 use Rattle.claims_run.specs.declared.question.Answer.{Answer}
 use Rattle.claims_run.specs.declared.question.Answer.TheVariants.{Possible, Consistent, Conflict}

@@ -1,5 +1,5 @@
 -- What the commands answer that settle questions by claims: what remains possible, and what is in conflict.
-use Rattle.std.specs.Prelude.{◌≡◌, ◌↔◌, ◌≤◌, ℕ, ◌+◌, ◌^◌, Bool, true, false, List, [], ◌∷◌, ◌++◌, length, Option, None, Some, IfSome, IsTrue, Result, Ok, Err, All, Contains, codes, decimal}
+use Rattle.std.specs.Prelude.{◌≡◌, ◌↔◌, ◌≤◌, ℕ, ◌+◌, ◌^◌, Bool, true, false, List, [], ◌∷◌, ◌++◌, length, Option, IfSome, IsTrue, Result, Ok, Err, All, Contains, codes, decimal}
 use Rattle.std.specs.Option.{option_to_list}
 use Rattle.outer_store.specs.Contents.{Contents}
 use Rattle.rcc5_core.specs.RelationSet.{has}
@@ -11,16 +11,21 @@ use Rattle.cleantax_text.specs.declared.TextKind.{TextKind}
 use Rattle.cleantax_text.specs.Reading.{text_result}
 use Rattle.cleantax_text.specs.Canonical.{articulation_text}
 use Rattle.cert_text.specs.declared.line.Subject.TheVariants.{Kept}
-use Rattle.cert_rules.specs.ClaimLists.{Claim}
+use Rattle.cert_text.specs.declared.line.CertLine.{CertLine}
+use Rattle.cert_text.specs.declared.line.CertLine.TheVariants.{Claims}
+use Rattle.cert_reader.specs.Reading.{reading}
+use Rattle.cert_rules.specs.Listings.{Going}
+use Rattle.cert_rules.specs.ClaimLists.{Claim, claim_start}
 use Rattle.cert_rules.specs.Files.{Accepts, ClaimList}
+use Rattle.split_search.specs.Claiming.{AllClaimBranchesAlive}
 use Rattle.claim_blocks.specs.Blocks.{claimed}
-use Rattle.mir_report.specs.Possible.{ArePossibleSets, claims_from}
+use Rattle.mir_report.specs.Possible.{ArePossibleSets, mir_claims}
 use Rattle.conflict_min.specs.Conflicts.{all_kept, places_from, conflict_claims}
 use Rattle.world_watch.specs.Kinds.{set_at, seen_lines}
 use Rattle.run_ends.specs.declared.Status.{Status}
 use Rattle.run_ends.specs.declared.Status.TheVariants as status
 use Rattle.run_ends.specs.Ends.{line_of, end_line}
-use Rattle.run_ends.specs.Runs.{File, Names}
+use Rattle.run_ends.specs.Runs.{File, Names, file_under}
 use Rattle.check_run.specs.Checking.{cert_answer}
 use Rattle.claims_run.specs.declared.question.Question.{Question}
 use Rattle.claims_run.specs.declared.question.Question.TheVariants as question
@@ -68,21 +73,24 @@ answer_status (Possible mir false) = status.NoWorld
 answer_status Consistent = status.Consistent
 answer_status (Conflict kept) = status.Done
 
--- what is claimed of it: for each pair across taxonomies and each relation that it allows, whether that is possible; that all articulations
--- hold together; or that those of the conflict do not, and do without any one of them
+-- what is claimed of it: for each pair across taxonomies and each relation that it allows, whether that is possible, and where there is no
+-- such pair, whether a family meets the problem; that all articulations hold together; or that those of the conflict do not, and do
+-- without any one of them
 abbrev pub IsClaimed : Problem → Answer → List Claim → Type 0
-IsClaimed p (Possible mir some) claims = (more : List Claim) × (claims ≡ claims_from p 0 mir.sets.items ++ more)
+IsClaimed p (Possible mir some) claims = claims ≡ mir_claims p mir.sets.items some
 IsClaimed p Consistent claims = claims ≡ claimed (Kept (all_kept p)) true
 IsClaimed p (Conflict kept) claims = All (Contains claims) (conflict_claims kept)
 
--- bytes are a certificate of claims: up to as many as are checked, they are accepted with claims of which this is so
-abbrev pub IsCertOf : Problem → (List Claim → Type 0) → List ℕ → Type 0
-IsCertOf p IsMade bytes = (claims : List Claim) × IsMade claims × (length bytes ≤ 2 ^ 36 → cert_answer p bytes ≡ Accepts (ClaimList claims))
+-- bytes are accepted with just these claims, and each branch among the lines that are read from them stands at an alive node
+pub record ArePrunedClaims (p : Problem) (claims : List Claim) (bytes : List ℕ) : Type 0 where
+  pub accepted : cert_answer p bytes ≡ Accepts (ClaimList claims)
+  pub lines : List CertLine
+  pub read : (reading bytes).lines ≡ Claims p.switches ∷ lines
+  pub alive : AllClaimBranchesAlive p (Going 1 (claim_start p)) lines
 
--- a file under a name, where there is one
-abbrev pub file_under : Option (List ℕ) → Option (List ℕ) → List File
-file_under None bytes = []
-file_under (Some name) bytes = record { name = name; bytes = bytes } ∷ []
+-- bytes are a certificate of claims of which a fact is so: up to as many as are checked
+abbrev pub IsCertOf : Problem → (List Claim → Type 0) → List ℕ → Type 0
+IsCertOf p IsMade bytes = (claims : List Claim) × IsMade claims × (length bytes ≤ 2 ^ 36 → ArePrunedClaims p claims bytes)
 
 -- a right answer is put, and its certificate is what is written, under a name that told its bytes
 pub record IsSettled (p : Problem) (asked : Question) (cert : Option (List ℕ)) (held : Contents) (status : Status) (text : List ℕ) (files : List File) : Type 0 where

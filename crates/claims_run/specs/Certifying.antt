@@ -14,7 +14,8 @@ use Rattle.cert_rules.specs.ClaimLists.{Claim}
 use Rattle.search_log.specs.declared.fault.StepFault.{StepFault}
 use Rattle.search_log.specs.declared.fault.StepFault.TheVariants as step
 use Rattle.split_search.specs.Claiming.{ClaimsBegin}
-use Rattle.run_ends.specs.Runs.{StoreState, HasFailed, AreKeptBut, IsQuiet}
+use Rattle.outer_store.specs.States.{StoreState, IsQuiet}
+use Rattle.run_ends.specs.Runs.{HasFailed, AreKeptBut}
 use Rattle.claims_run.specs.declared.question.Question.{Question}
 use Rattle.claims_run.specs.declared.question.Answer.{Answer}
 use Rattle.claims_run.specs.Answering.{IsRight, IsClaimed, IsCertOf}

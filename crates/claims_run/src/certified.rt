@@ -1,7 +1,6 @@
 //! An answer with its certificate.
 ghost use Rattle.std.specs.Prelude.{◌≡◌, Some, IfOk};
 ghost use Rattle.constraint_set.specs.Facts.{IsAsRead};
-ghost use Rattle.run_ends.specs.Runs.{store_state};
 ghost use Rattle.claims_run.specs.Answering.{IsRight};
 ghost use Rattle.claims_run.specs.Certifying.{IsSettledWith, store_fault};
 
@@ -33,7 +32,7 @@ fn settle_certified<S: Store>(
     name: &str,
 ) -> Result<Answer, StoreFault>
     requires { IsAsRead problem.now }
-    ensures { IsSettledWith problem.now asked (Some name.now) result (store_state (S.held store.old) (S.read_faults store.old) (S.write_faults store.old)) (store_state (S.held store.new) (S.read_faults store.new) (S.write_faults store.new)) }
+    ensures { IsSettledWith problem.now asked (Some name.now) result (S.state store.old) (S.state store.new) }
 {
     store.create(name)?;
     let mut log = StoreLog::new(alloc, store, name);
@@ -63,7 +62,7 @@ pub(crate) fn settled<S: Store>(
     cert: &Option<Word>,
 ) -> Result<Answer, StoreFault>
     requires { IsAsRead problem.now }
-    ensures { IsSettledWith problem.now asked cert.now result (store_state (S.held store.old) (S.read_faults store.old) (S.write_faults store.old)) (store_state (S.held store.new) (S.read_faults store.new) (S.write_faults store.new)) }
+    ensures { IsSettledWith problem.now asked cert.now result (S.state store.old) (S.state store.new) }
 {
     match cert {
         None => Ok(settle_bare(alloc, problem, asked)?),

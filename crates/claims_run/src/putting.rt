@@ -2,7 +2,7 @@
 ghost use Rattle.std.specs.Prelude.{◌≡◌, ◌<◌, length, string_bytes, IfOk, OnOk};
 ghost use Rattle.world_model.specs.Questions.{HasFlags};
 ghost use Rattle.conflict_min.specs.Conflicts.{places_from};
-ghost use Rattle.run_ends.specs.Runs.{sink_state, LeavesPiece};
+ghost use Rattle.run_ends.specs.Runs.{LeavesPiece};
 ghost use Rattle.claims_run.specs.Answering.{mir_line, conflict_line, answer_text};
 ghost use Rattle.claims_run.specs.Putting.{IsFlagged, IsNumberedAt};
 ghost use Rattle.claims_run.specs.declared.question.Answer.TheVariants.{Possible, Conflict};
@@ -108,7 +108,7 @@ pub(crate) fn put_answer<W: Sink>(
     answer: &Answer,
 ) -> Result<(), StoreFault>
     requires { IsFlagged problem.now answer.now }
-    ensures { LeavesPiece result (answer_text problem.now answer.now) (sink_state (W.received out.old) (W.faults out.old)) (sink_state (W.received out.new) (W.faults out.new)) }
+    ensures { LeavesPiece result (answer_text problem.now answer.now) (W.state out.old) (W.state out.new) }
 {
     let text = text_of(alloc, problem, answer)?;
     put_lines(alloc, out, &text)

@@ -2,7 +2,7 @@
 ghost use Rattle.std.specs.Prelude.{◌≡◌};
 ghost use Rattle.constraint_set.specs.Facts.{IsAsRead};
 ghost use Rattle.std.specs.Option.{option_to_list};
-ghost use Rattle.run_ends.specs.Runs.{store_state, sink_state, IsCarriedOut, IsRunOf};
+ghost use Rattle.run_ends.specs.Runs.{IsCarriedOut, IsRunOf};
 ghost use Rattle.claims_run.specs.Answering.{answer_status, IsSettled, IsClaimsAnswer, claims_names};
 
 use crate::certified::settled;
@@ -36,7 +36,7 @@ fn carry_out<S: Store, W: Sink>(
     cert: &Option<Word>,
 ) -> Result<Status, StoreFault>
     requires { IsAsRead problem.now }
-    ensures { IsCarriedOut (IsSettled problem.now asked cert.now) result (option_to_list cert.now) (store_state (S.held store.old) (S.read_faults store.old) (S.write_faults store.old)) (store_state (S.held store.new) (S.read_faults store.new) (S.write_faults store.new)) (sink_state (W.received out.old) (W.faults out.old)) (sink_state (W.received out.new) (W.faults out.new)) }
+    ensures { IsCarriedOut (IsSettled problem.now asked cert.now) result (option_to_list cert.now) (S.state store.old) (S.state store.new) (W.state out.old) (W.state out.new) }
 {
     let answer = settled(alloc, store, problem, asked, cert)?;
     put_answer(alloc, out, problem, &answer)?;
@@ -54,7 +54,7 @@ pub fn run_claims<S: Store, W: Sink>(
     cert: &Option<Word>,
     switches: Switches,
 ) -> Status
-    ensures { IsRunOf (claims_names input.now cert.now) (IsClaimsAnswer asked input.now cert.now switches) result (store_state (S.held store.old) (S.read_faults store.old) (S.write_faults store.old)) (store_state (S.held store.new) (S.read_faults store.new) (S.write_faults store.new)) (sink_state (W.received out.old) (W.faults out.old)) (sink_state (W.received out.new) (W.faults out.new)) }
+    ensures { IsRunOf (claims_names input.now cert.now) (IsClaimsAnswer asked input.now cert.now switches) result (S.state store.old) (S.state store.new) (W.state out.old) (W.state out.new) }
 {
     let problem = match problem_under(alloc, store, input, switches) {
         Ok(problem) => problem,

@@ -1,11 +1,10 @@
--- Names with commas between them, and whether they are those of watchers.
-use Rattle.std.proofs.Common.{◌≡◌, ℕ, ◌+◌, ◌<◌, true, false, eqb, ◌||◌, List, [], ◌∷◌, length, map, drop, get_or, sym, ap, ◌∙◌, arith}
-use Rattle.std.specs.Prelude.{bytes_eq}
+-- Names with commas between them.
+use Rattle.std.proofs.Common.{◌≡◌, ℕ, ◌+◌, ◌<◌, eqb, List, [], ◌∷◌, length, arith}
 use Rattle.std.specs.List.{position_or_len, before_first, after_first}
-use Rattle.std.proofs.lemmas.List.{drop_more, length-drop}
+use Rattle.std.proofs.lemmas.List.{length-drop}
 use Rattle.std.proofs.lemmas.List.Splits.{slice_split_none, slice_split_first}
 use Rattle.std.proofs.lemmas.List.Sums.{fails_before_first}
-use Rattle.command_line.specs.Words.{names_in, is_comma, is_among}
+use Rattle.command_line.specs.Words.{names_in, is_comma}
 
 -- a value with a comma has the name before the first one, and then the names behind it
 pub names_cut : (value : List ℕ) → position_or_len is_comma value < length value → names_in value ≡ before_first is_comma value ∷ names_in (after_first is_comma value)
@@ -19,20 +18,3 @@ pub after_shorter : (value : List ℕ) → position_or_len is_comma value < leng
 after_shorter value h = let n = length-drop (position_or_len is_comma value + 1) value in omega (arith, h, n)
 
 pub ruleset name_rules = (names_cut, names_whole, after_shorter)
-
--- the first of some watchers has the name
-pub known_here : {W : Type 0} (f : W → List ℕ) (ws : List W) (k : ℕ) (w : W) (word : List ℕ) → k < length ws → w ≡ get_or ws k w → bytes_eq word (f w) ≡ true → is_among (map f (drop k ws)) word ≡ true
-known_here f ws k w word h at same =
-    ap (λ some. is_among (map f some) word) (drop_more ws k w h)
-    ∙ ap (λ v. bytes_eq word (f v) || is_among (map f (drop (k + 1) ws)) word) (sym at)
-    ∙ ap (λ b. b || is_among (map f (drop (k + 1) ws)) word) same
-
--- or it is asked of the others
-pub known_later : {W : Type 0} (f : W → List ℕ) (ws : List W) (k : ℕ) (w : W) (word : List ℕ) → k < length ws → w ≡ get_or ws k w → bytes_eq word (f w) ≡ false
-    → is_among (map f (drop k ws)) word ≡ is_among (map f (drop (k + 1) ws)) word
-known_later f ws k w word h at other =
-    ap (λ some. is_among (map f some) word) (drop_more ws k w h)
-    ∙ ap (λ v. bytes_eq word (f v) || is_among (map f (drop (k + 1) ws)) word) (sym at)
-    ∙ ap (λ b. b || is_among (map f (drop (k + 1) ws)) word) other
-
-pub ruleset known_rules = (known_here, known_later)

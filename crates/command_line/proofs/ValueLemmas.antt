@@ -42,49 +42,49 @@ some_same a b e = cc
 
 -- an operand's value has no fault
 abbrev pub IsValued : List (List ℕ) → Operand → Type 0
-IsValued watchers operand = value_fault watchers (kind_of operand.key) operand.value ≡ None
+IsValued known operand = value_fault known (kind_of operand.key) operand.value ≡ None
 
 abbrev pub AreValued : List (List ℕ) → List Operand → Type 0
-AreValued watchers [] = Unit {0}
-AreValued watchers (operand ∷ operands) = IsValued watchers operand × AreValued watchers operands
+AreValued known [] = Unit {0}
+AreValued known (operand ∷ operands) = IsValued known operand × AreValued known operands
 
-valued_more : (watchers : List (List ℕ)) (operands : List Operand) (operand : Operand) → AreValued watchers operands → IsValued watchers operand → AreValued watchers (operands ++ operand ∷ [])
-valued_more watchers [] operand valued one = (one, tt)
-valued_more watchers (o ∷ os) operand valued one = (valued.0, valued_more watchers os operand valued.1 one)
+valued_more : (known : List (List ℕ)) (operands : List Operand) (operand : Operand) → AreValued known operands → IsValued known operand → AreValued known (operands ++ operand ∷ [])
+valued_more known [] operand valued one = (one, tt)
+valued_more known (o ∷ os) operand valued one = (valued.0, valued_more known os operand valued.1 one)
 
-operand_valued : (watchers : List (List ℕ)) (row : Row) (earlier : List Operand) (word : List ℕ) (operand : Operand) → operand_of watchers row earlier word ≡ Ok operand → IsValued watchers operand
-operand_valued watchers row earlier word operand e =
+operand_valued : (known : List (List ℕ)) (row : Row) (earlier : List Operand) (word : List ℕ) (operand : Operand) → operand_of known row earlier word ≡ Ok operand → IsValued known operand
+operand_valued known row earlier word operand e =
     let cut = need_ok (cut_word word) _ _ operand e in
     let key = need_ok (key_in row cut.0.0) _ _ operand cut.1 in
     let once = fail_ok (is_given earlier key.0) _ _ operand key.1 in
-    let valued = unless_ok (value_fault watchers (kind_of key.0) cut.0.1) _ operand once.1 in
+    let valued = unless_ok (value_fault known (kind_of key.0) cut.0.1) _ operand once.1 in
     by (record { key = key.0; value = cut.0.1 }) operand valued.0 valued.1
   where
-    by : (made operand : Operand) → IsValued watchers made → Same made operand → IsValued watchers operand
+    by : (made operand : Operand) → IsValued known made → Same made operand → IsValued known operand
     by made operand valued same = cc
 
-pub operands_valued : (watchers : List (List ℕ)) (row : Row) (earlier : List Operand) (words : List (List ℕ)) (operands : List Operand) → AreValued watchers earlier
-    → operands_of watchers row earlier words ≡ Ok operands → AreValued watchers operands
-operands_valued watchers row earlier [] operands valued e = by earlier operands valued e
+pub operands_valued : (known : List (List ℕ)) (row : Row) (earlier : List Operand) (words : List (List ℕ)) (operands : List Operand) → AreValued known earlier
+    → operands_of known row earlier words ≡ Ok operands → AreValued known operands
+operands_valued known row earlier [] operands valued e = by earlier operands valued e
   where
-    by : (some all : List Operand) → AreValued watchers some → SameAll some all → AreValued watchers all
-    by some all valued same = subst (AreValued watchers) (same_all some all same) valued
-operands_valued watchers row earlier (word ∷ words) operands valued e =
-    let one = and_ok (operand_of watchers row earlier word) _ operands e in
-    operands_valued watchers row (earlier ++ one.0 ∷ []) words operands (valued_more watchers earlier one.0 valued (operand_valued watchers row earlier word one.0 one.1)) one.2
+    by : (some all : List Operand) → AreValued known some → SameAll some all → AreValued known all
+    by some all valued same = subst (AreValued known) (same_all some all same) valued
+operands_valued known row earlier (word ∷ words) operands valued e =
+    let one = and_ok (operand_of known row earlier word) _ operands e in
+    operands_valued known row (earlier ++ one.0 ∷ []) words operands (valued_more known earlier one.0 valued (operand_valued known row earlier word one.0 one.1)) one.2
 
 -- so of the value that a key has
-found_valued : (watchers : List (List ℕ)) (key : Key) (operands : List Operand) (operand : Operand) → AreValued watchers operands
-    → find (λ o. same_key o.key key) operands ≡ Some operand → IsValued watchers operand × (same_key operand.key key ≡ true)
-found_valued watchers key [] operand valued e = cc
-found_valued watchers key (o ∷ os) operand valued e = by (same_key o.key key) refl (found_valued watchers key os operand valued.1) e
+found_valued : (known : List (List ℕ)) (key : Key) (operands : List Operand) (operand : Operand) → AreValued known operands
+    → find (λ o. same_key o.key key) operands ≡ Some operand → IsValued known operand × (same_key operand.key key ≡ true)
+found_valued known key [] operand valued e = cc
+found_valued known key (o ∷ os) operand valued e = by (same_key o.key key) refl (found_valued known key os operand valued.1) e
   where
-    by : (b : Bool) → same_key o.key key ≡ b → (find (λ o. same_key o.key key) os ≡ Some operand → IsValued watchers operand × (same_key operand.key key ≡ true))
-        → cond b (Some o) (find (λ o. same_key o.key key) os) ≡ Some operand → IsValued watchers operand × (same_key operand.key key ≡ true)
+    by : (b : Bool) → same_key o.key key ≡ b → (find (λ o. same_key o.key key) os ≡ Some operand → IsValued known operand × (same_key operand.key key ≡ true))
+        → cond b (Some o) (find (λ o. same_key o.key key) os) ≡ Some operand → IsValued known operand × (same_key operand.key key ≡ true)
     by true at rest same = here o operand valued.0 at same
       where
-        here : (a b : Operand) → IsValued watchers a → same_key a.key key ≡ true → Some a ≡ Some b → IsValued watchers b × (same_key b.key key ≡ true)
-        here a b one two same = subst (λ (o : Operand). IsValued watchers o × (same_key o.key key ≡ true)) (some_same a b same) (one, two)
+        here : (a b : Operand) → IsValued known a → same_key a.key key ≡ true → Some a ≡ Some b → IsValued known b × (same_key b.key key ≡ true)
+        here a b one two same = subst (λ (o : Operand). IsValued known o × (same_key o.key key ≡ true)) (some_same a b same) (one, two)
     by false at rest same = rest same
 
 of_kinds : (key : Key) → same_key key Kinds ≡ true → key ≡ Kinds
@@ -115,23 +115,23 @@ of_size Kinds e = cc
 of_size Seed e = cc
 of_size Size e = refl
 
--- the names of watchers that are given have no fault, nor has the size
-given_kinds : (watchers : List (List ℕ)) (operands : List Operand) (o : Option Operand) → AreValued watchers operands → find (λ o. same_key o.key Kinds) operands ≡ o
-    → (option_map (λ o. o.value) o ≡ None → ⊥) → names_fault watchers (names_in (unwrap_or (option_map (λ o. o.value) o) [])) ≡ None
-given_kinds watchers operands None valued found given = absurd (given refl)
-given_kinds watchers operands (Some o) valued found given =
-    let one = found_valued watchers Kinds operands o valued found in
-    subst (λ (key : Key). value_fault watchers (kind_of key) o.value ≡ None) (of_kinds o.key one.1) one.0
+-- the names of reports that are given have no fault, nor has the size
+given_kinds : (known : List (List ℕ)) (operands : List Operand) (o : Option Operand) → AreValued known operands → find (λ o. same_key o.key Kinds) operands ≡ o
+    → (option_map (λ o. o.value) o ≡ None → ⊥) → names_fault known (names_in (unwrap_or (option_map (λ o. o.value) o) [])) ≡ None
+given_kinds known operands None valued found given = absurd (given refl)
+given_kinds known operands (Some o) valued found given =
+    let one = found_valued known Kinds operands o valued found in
+    subst (λ (key : Key). value_fault known (kind_of key) o.value ≡ None) (of_kinds o.key one.1) one.0
 
-pub kinds_valued : (watchers : List (List ℕ)) (operands : List Operand) → AreValued watchers operands → (value_of operands Kinds ≡ None → ⊥) → names_fault watchers (kinds_of operands) ≡ None
-kinds_valued watchers operands valued given = given_kinds watchers operands (find (λ o. same_key o.key Kinds) operands) valued refl given
+pub kinds_valued : (known : List (List ℕ)) (operands : List Operand) → AreValued known operands → (value_of operands Kinds ≡ None → ⊥) → names_fault known (kinds_of operands) ≡ None
+kinds_valued known operands valued given = given_kinds known operands (find (λ o. same_key o.key Kinds) operands) valued refl given
 
-given_size : (watchers : List (List ℕ)) (operands : List Operand) (o : Option Operand) → AreValued watchers operands → find (λ o. same_key o.key Size) operands ≡ o
+given_size : (known : List (List ℕ)) (operands : List Operand) (o : Option Operand) → AreValued known operands → find (λ o. same_key o.key Size) operands ≡ o
     → (option_map (λ o. o.value) o ≡ None → ⊥) → size_fault (option_and_then size_of (option_map (λ o. o.value) o)) ≡ None
-given_size watchers operands None valued found given = absurd (given refl)
-given_size watchers operands (Some o) valued found given =
-    let one = found_valued watchers Size operands o valued found in
-    subst (λ (key : Key). value_fault watchers (kind_of key) o.value ≡ None) (of_size o.key one.1) one.0
+given_size known operands None valued found given = absurd (given refl)
+given_size known operands (Some o) valued found given =
+    let one = found_valued known Size operands o valued found in
+    subst (λ (key : Key). value_fault known (kind_of key) o.value ≡ None) (of_size o.key one.1) one.0
 
 -- a size without a fault is one
 sized : (o : Option ℕ) → IfSome o (λ n. (14 ≤ n) × (n ≤ 256)) → size_fault o ≡ None → (unwrap_or o 0 % 2 ≡ 0) × (14 ≤ unwrap_or o 0) × (unwrap_or o 0 ≤ 256)
@@ -150,7 +150,7 @@ in_range (Some word) = by (size_of word) refl
     by None e = tt
     by (Some n) e = let spells = number_in-spells 14 256 n word (omega arith) e in (spells.above, spells.below)
 
-pub size_valued : (watchers : List (List ℕ)) (operands : List Operand) → AreValued watchers operands → (value_of operands Size ≡ None → ⊥)
+pub size_valued : (known : List (List ℕ)) (operands : List Operand) → AreValued known operands → (value_of operands Size ≡ None → ⊥)
     → (size_in operands % 2 ≡ 0) × (14 ≤ size_in operands) × (size_in operands ≤ 256)
-size_valued watchers operands valued given =
-    sized (option_and_then size_of (value_of operands Size)) (in_range (value_of operands Size)) (given_size watchers operands (find (λ o. same_key o.key Size) operands) valued refl given)
+size_valued known operands valued given =
+    sized (option_and_then size_of (value_of operands Size)) (in_range (value_of operands Size)) (given_size known operands (find (λ o. same_key o.key Size) operands) valued refl given)

@@ -48,20 +48,20 @@ words_next words i word h at =
     ∙ ap (λ (w : String Global). string_bytes w ∷ map string_bytes (drop (i + 1) words)) (sym at)
 
 -- the loop over the further words takes one
-pub operands_take : (watchers : List (List ℕ)) (row : Row) (earlier longer : List Operand) (words : List (String Global)) (i : ℕ) (word : String Global) (operand : Operand) → i < length words → word ≡ get_or words i word
-    → operand_of watchers row earlier (string_bytes word) ≡ Ok operand → longer ≡ earlier ++ operand ∷ []
-    → operands_of watchers row earlier (map string_bytes (drop i words)) ≡ operands_of watchers row longer (map string_bytes (drop (i + 1) words))
-operands_take watchers row earlier longer words i word operand h at here more =
-    ap (λ (ws : List (List ℕ)). operands_of watchers row earlier ws) (words_next words i word h at)
-    ∙ ap (λ (r : Result Operand UsageKind). and_then r (λ o. operands_of watchers row (earlier ++ o ∷ []) (map string_bytes (drop (i + 1) words)))) here
-    ∙ ap (λ (list : List Operand). operands_of watchers row list (map string_bytes (drop (i + 1) words))) (sym more)
+pub operands_take : (known : List (List ℕ)) (row : Row) (earlier longer : List Operand) (words : List (String Global)) (i : ℕ) (word : String Global) (operand : Operand) → i < length words → word ≡ get_or words i word
+    → operand_of known row earlier (string_bytes word) ≡ Ok operand → longer ≡ earlier ++ operand ∷ []
+    → operands_of known row earlier (map string_bytes (drop i words)) ≡ operands_of known row longer (map string_bytes (drop (i + 1) words))
+operands_take known row earlier longer words i word operand h at here more =
+    ap (λ (ws : List (List ℕ)). operands_of known row earlier ws) (words_next words i word h at)
+    ∙ ap (λ (r : Result Operand UsageKind). and_then r (λ o. operands_of known row (earlier ++ o ∷ []) (map string_bytes (drop (i + 1) words)))) here
+    ∙ ap (λ (list : List Operand). operands_of known row list (map string_bytes (drop (i + 1) words))) (sym more)
 
 -- a fault ends it
-pub operands_stop : (watchers : List (List ℕ)) (row : Row) (earlier : List Operand) (words : List (String Global)) (i : ℕ) (word : String Global) (kind : UsageKind) → i < length words → word ≡ get_or words i word
-    → operand_of watchers row earlier (string_bytes word) ≡ Err kind
-    → operands_of watchers row earlier (map string_bytes (drop i words)) ≡ Err kind
-operands_stop watchers row earlier words i word kind h at here =
-    ap (λ (ws : List (List ℕ)). operands_of watchers row earlier ws) (words_next words i word h at)
-    ∙ ap (λ (r : Result Operand UsageKind). and_then r (λ o. operands_of watchers row (earlier ++ o ∷ []) (map string_bytes (drop (i + 1) words)))) here
+pub operands_stop : (known : List (List ℕ)) (row : Row) (earlier : List Operand) (words : List (String Global)) (i : ℕ) (word : String Global) (kind : UsageKind) → i < length words → word ≡ get_or words i word
+    → operand_of known row earlier (string_bytes word) ≡ Err kind
+    → operands_of known row earlier (map string_bytes (drop i words)) ≡ Err kind
+operands_stop known row earlier words i word kind h at here =
+    ap (λ (ws : List (List ℕ)). operands_of known row earlier ws) (words_next words i word h at)
+    ∙ ap (λ (r : Result Operand UsageKind). and_then r (λ o. operands_of known row (earlier ++ o ∷ []) (map string_bytes (drop (i + 1) words)))) here
 
 pub ruleset operands_rules = (operands_take, operands_stop)

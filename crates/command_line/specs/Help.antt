@@ -3,7 +3,7 @@ use Rattle.std.specs.Prelude.{ℕ, ◌==◌, if◌then◌else◌, List, [], ◌�
 use Rattle.command_line.specs.declared.Command.{Command}
 use Rattle.command_line.specs.declared.Key.{Key}
 use Rattle.command_line.specs.declared.KeyKind.{KeyKind}
-use Rattle.command_line.specs.declared.KeyKind.TheVariants.{FileName, OnOff, Limit, WatcherNames, Number, EvenSize}
+use Rattle.command_line.specs.declared.KeyKind.TheVariants.{FileName, OnOff, Limit, ReportNames, Number, EvenSize}
 use Rattle.command_line.specs.Words.{Row, row_of, all_commands, key_name, kind_of}
 
 -- how a value is shown
@@ -11,7 +11,7 @@ abbrev pub value_form : KeyKind → List ℕ
 value_form FileName = codes "FILE"
 value_form OnOff = codes "on|off"
 value_form Limit = codes "NUMBER"
-value_form WatcherNames = codes "KIND,.."
+value_form ReportNames = codes "KIND,.."
 value_form Number = codes "NUMBER"
 value_form EvenSize = codes "NUMBER"
 

@@ -7,7 +7,7 @@ use Rattle.world_model.specs.declared.Switches.{Switches}
 use Rattle.command_line.specs.declared.Key.{Key}
 use Rattle.command_line.specs.declared.Key.TheVariants.{In, Cert, Nonempty, Sibling, Coverage, Nodes, Worlds, Token, Resume, Kinds, Seed, Size}
 use Rattle.command_line.specs.declared.KeyKind.{KeyKind}
-use Rattle.command_line.specs.declared.KeyKind.TheVariants.{FileName, OnOff, Limit, WatcherNames, Number, EvenSize}
+use Rattle.command_line.specs.declared.KeyKind.TheVariants.{FileName, OnOff, Limit, ReportNames, Number, EvenSize}
 use Rattle.command_line.specs.declared.Command.{Command}
 use Rattle.command_line.specs.declared.Command.TheVariants as command
 use Rattle.command_line.specs.declared.Operand.{Operand}
@@ -44,7 +44,7 @@ kind_of Nodes = Limit
 kind_of Worlds = Limit
 kind_of Token = FileName
 kind_of Resume = FileName
-kind_of Kinds = WatcherNames
+kind_of Kinds = ReportNames
 kind_of Seed = Number
 kind_of Size = EvenSize
 
@@ -177,19 +177,19 @@ abbrev pub has_twice : List (List ℕ) → Bool
 has_twice [] = false
 has_twice (name ∷ names) = is_among names name || has_twice names
 
--- what is wrong with the names of watchers, by those that there are
+-- what is wrong with the names of reports, by those that are known
 abbrev pub names_fault : List (List ℕ) → List (List ℕ) → Option UsageKind
-names_fault watchers names =
-    if not (list_all (is_among watchers) names) then Some UnknownKind else (if has_twice names then Some KindTwice else None)
+names_fault known names =
+    if not (list_all (is_among known) names) then Some UnknownKind else (if has_twice names then Some KindTwice else None)
 
--- what is wrong with a key's value, by the names of the watchers
+-- what is wrong with a key's value, by the names of reports that are known
 abbrev pub value_fault : List (List ℕ) → KeyKind → List ℕ → Option UsageKind
-value_fault watchers Limit value = limit_fault (number_of value)
-value_fault watchers OnOff value = if is_switch value then None else Some BadSwitch
-value_fault watchers FileName value = if length value == 0 then Some EmptyName else None
-value_fault watchers WatcherNames value = names_fault watchers (names_in value)
-value_fault watchers Number value = number_fault (number_of value)
-value_fault watchers EvenSize value = size_fault (size_of value)
+value_fault known Limit value = limit_fault (number_of value)
+value_fault known OnOff value = if is_switch value then None else Some BadSwitch
+value_fault known FileName value = if length value == 0 then Some EmptyName else None
+value_fault known ReportNames value = names_fault known (names_in value)
+value_fault known Number value = number_fault (number_of value)
+value_fault known EvenSize value = size_fault (size_of value)
 
 -- whether a key is given
 abbrev pub is_given : List Operand → Key → Bool
@@ -197,18 +197,18 @@ is_given operands key = list_any (λ operand. same_key operand.key key) operands
 
 -- a further word after some operands
 abbrev pub operand_of : List (List ℕ) → Row → List Operand → List ℕ → Result Operand UsageKind
-operand_of watchers row earlier word =
+operand_of known row earlier word =
     need (cut_word word) NotOperand (λ cut.
     need (key_in row cut.0) UnknownKey (λ key.
     fail_if (is_given earlier key) KeyTwice (
-    unless (value_fault watchers (kind_of key) cut.1) (
+    unless (value_fault known (kind_of key) cut.1) (
     Ok (record { key = key; value = cut.1 })))))
 
 -- the further words, from the left
 abbrev pub operands_of : List (List ℕ) → Row → List Operand → List (List ℕ) → Result (List Operand) UsageKind
-operands_of watchers row earlier [] = Ok earlier
-operands_of watchers row earlier (word ∷ words) =
-    and_then (operand_of watchers row earlier word) (λ operand. operands_of watchers row (earlier ++ operand ∷ []) words)
+operands_of known row earlier [] = Ok earlier
+operands_of known row earlier (word ∷ words) =
+    and_then (operand_of known row earlier word) (λ operand. operands_of known row (earlier ++ operand ∷ []) words)
 
 -- the value of a key, if it is given
 abbrev pub value_of : List Operand → Key → Option (List ℕ)
@@ -254,7 +254,7 @@ has_same_name operands =
     share_value operands In Cert || share_value operands In Token || share_value operands In Resume ||
     share_value operands Cert Token || share_value operands Cert Resume || share_value operands Token Resume
 
--- the names of watchers, the seed and the size that are given
+-- the names of reports, the seed and the size that are given
 abbrev pub kinds_of : List Operand → List (List ℕ)
 kinds_of operands = names_in (unwrap_or (value_of operands Kinds) [])
 
@@ -284,12 +284,12 @@ request_from c operands =
     fail_if (has_same_name operands) SameName (
     Ok (request_for c operands))))
 
--- what words ask for, or their first fault, by the names of the watchers
+-- what words ask for, or their first fault, by the names of reports that are known
 abbrev pub request_of : List (List ℕ) → List (List ℕ) → Result Request UsageKind
-request_of watchers [] = Err NoCommand
-request_of watchers (word ∷ words) =
+request_of known [] = Err NoCommand
+request_of known (word ∷ words) =
     need (command_named word) UnknownCommand (λ c.
-    and_then (operands_of watchers (row_of c) [] words) (λ operands.
+    and_then (operands_of known (row_of c) [] words) (λ operands.
     request_from c operands))
 
 -- a fact of the fault of the words that is answered

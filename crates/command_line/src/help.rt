@@ -14,7 +14,7 @@ impl KeyKind {
             KeyKind::FileName => "FILE",
             KeyKind::OnOff => "on|off",
             KeyKind::Limit => "NUMBER",
-            KeyKind::WatcherNames => "KIND,..",
+            KeyKind::ReportNames => "KIND,..",
             KeyKind::Number => "NUMBER",
             KeyKind::EvenSize => "NUMBER",
         }

@@ -1,11 +1,22 @@
-//! The names of watchers, with commas between them.
+//! The names of reports, with commas between them.
 ghost use Rattle.std.specs.Prelude.{◌≡◌, ◌<◌, [], ◌∷◌, length, IfOk, map, IfSome, IfNone, bytes_eq};
 ghost use Rattle.std.specs.List.{list_any, list_all};
 ghost use Rattle.command_line.specs.Words.{names_in, is_among, has_twice, names_fault};
 
 use crate::{UsageKind, Word};
 use std::alloc::{AllocError, Global};
-use world_watch::WorldWatcher;
+
+/// What knows the names by which reports may be asked for.
+pub trait KnownNames {
+    ghost use Rattle.std.specs.Prelude.{ℕ, List};
+
+    /// The names, in order.
+    ghost names: { Self → List (List ℕ) };
+
+    /// Whether the word is one of them.
+    fn has(&self, word: &str) -> bool
+        ensures { result ≡ is_among (names self.now) word.now };
+}
 
 fn word_of(alloc: Global, text: &str) -> Result<Word, AllocError>
     ensures { IfOk result (λ word. word ≡ text.now) }
@@ -37,33 +48,14 @@ pub(crate) fn split_names(alloc: Global, value: &str) -> Result<Vec<Word>, Alloc
     Ok(names)
 }
 
-fn has_name(watcher: &Box<dyn WorldWatcher>, word: &str) -> bool
-    ensures { result ≡ bytes_eq word.now (name watcher.now) }
-{
-    watcher.is_named(word.as_bytes())
-}
-
-// Whether some watcher has this name.
-#[tactic(auto, using(crate::proofs::KindLemmas::known_rules))]
-fn is_known(watchers: &Vec<Box<dyn WorldWatcher>>, word: &str) -> bool
-    ensures { result ≡ is_among (map name watchers.now.items) word.now }
-{
-    'watchers: for place in 0..watchers.len() {
-        if has_name(&watchers[place], word) {
-            return true;
-        }
-    }
-    false
-}
-
-// Whether each name is some watcher's.
-fn are_known(watchers: &Vec<Box<dyn WorldWatcher>>, names: &[Word]) -> bool
-    ensures { result ≡ list_all (is_among (map name watchers.now.items)) names.now }
+// Whether each name is known.
+fn are_known<K: KnownNames>(known: &K, names: &[Word]) -> bool
+    ensures { result ≡ list_all (is_among (K.names known.now)) names.now }
 {
     let Some((first, further)) = names.split_first() else {
         return true;
     };
-    is_known(watchers, first.text()) && are_known(watchers, further)
+    known.has(first.text()) && are_known(known, further)
 }
 
 // Whether a name is one of some names.
@@ -83,14 +75,11 @@ fn has_twice(names: &[Word]) -> bool
     is_among(further, name.text()) || has_twice(further)
 }
 
-/// What is wrong with names: one is the name of no watcher, or one stands twice.
-pub(crate) fn names_fault(
-    watchers: &Vec<Box<dyn WorldWatcher>>,
-    names: &[Word],
-) -> Option<UsageKind>
-    ensures { result ≡ names_fault (map name watchers.now.items) names.now }
+/// What is wrong with names: one is not known, or one stands twice.
+pub(crate) fn names_fault<K: KnownNames>(known: &K, names: &[Word]) -> Option<UsageKind>
+    ensures { result ≡ names_fault (K.names known.now) names.now }
 {
-    if !are_known(watchers, names) {
+    if !are_known(known, names) {
         return Some(UsageKind::UnknownKind);
     }
     if has_twice(names) {

@@ -12,6 +12,7 @@ mod table;
 mod words;
 
 pub use help::{fault_place, usage_help};
+pub use kinds::KnownNames;
 use std::alloc::{AllocError, AllocFailed};
 use std::fmt;
 use std::marker::Model;
@@ -111,10 +112,10 @@ pub enum Request {
         cert: Option<Word>,
         switches: Switches,
     },
-    /// List the possible worlds, and let watchers report of them.
+    /// List the possible worlds, and report of them.
     Report {
         input: Word,
-        /// The names of the watchers.
+        /// The names of the reports.
         kinds: WordList,
         switches: Switches,
     },
@@ -241,8 +242,8 @@ pub enum KeyKind {
     OnOff,
     /// A number that isn't 0.
     Limit,
-    /// Names of watchers, with commas between them.
-    WatcherNames,
+    /// Names of reports, with commas between them.
+    ReportNames,
     Number,
     /// An even number from 14 to 256.
     EvenSize,

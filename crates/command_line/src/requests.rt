@@ -46,7 +46,7 @@ fn switches_of(operands: &[Operand]) -> Switches
     }
 }
 
-// The names of watchers that are given.
+// The names of reports that are given.
 fn kinds_of(alloc: Global, operands: &[Operand]) -> Result<WordList, AllocError>
     ensures { IfOk result (λ kinds. kinds ≡ kinds_of operands.now) }
 {

@@ -114,7 +114,7 @@ impl Key {
             Key::In | Key::Cert | Key::Token | Key::Resume => KeyKind::FileName,
             Key::Nonempty | Key::Sibling | Key::Coverage => KeyKind::OnOff,
             Key::Nodes | Key::Worlds => KeyKind::Limit,
-            Key::Kinds => KeyKind::WatcherNames,
+            Key::Kinds => KeyKind::ReportNames,
             Key::Seed => KeyKind::Number,
             Key::Size => KeyKind::EvenSize,
         }

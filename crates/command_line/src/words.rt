@@ -4,12 +4,11 @@ ghost use Rattle.std.specs.List.{list_any};
 ghost use Rattle.std.specs.Option.{option_copied};
 ghost use Rattle.command_line.specs.Words.{row_of, key_name, same_key, command_named, is_equals, cut_word, key_among, key_in, is_switch, number_of, limit_fault, number_fault, size_of, size_fault, limit_of, lacks_token, share_value, has_same_name, value_fault, is_given, operand_of, operands_of, value_of, is_lacking, request_from, request_of, IfUsage};
 
-use crate::kinds::{names_fault, split_names};
+use crate::kinds::{KnownNames, names_fault, split_names};
 use crate::requests::make_request;
 use crate::{Command, Key, KeyKind, Operand, Request, UsageKind, Word, WordsFault};
 use proof_text::read_number;
 use std::alloc::{AllocError, Global};
-use world_watch::WorldWatcher;
 
 impl Command {
     // The command of a word.
@@ -118,13 +117,13 @@ fn number_fault(number: Option<u64>) -> Option<UsageKind>
 }
 
 // What is wrong with the value of a key.
-fn value_fault(
+fn value_fault<K: KnownNames>(
     alloc: Global,
-    watchers: &Vec<Box<dyn WorldWatcher>>,
+    known: &K,
     kind: KeyKind,
     value: &str,
 ) -> Result<Option<UsageKind>, AllocError>
-    ensures { IfOk result (λ fault. fault ≡ value_fault (map name watchers.now.items) kind value.now) }
+    ensures { IfOk result (λ fault. fault ≡ value_fault (K.names known.now) kind value.now) }
 {
     match kind {
         KeyKind::OnOff if value == "on" || value == "off" => Ok(None),
@@ -134,7 +133,7 @@ fn value_fault(
         KeyKind::Limit => Ok(limit_fault(number_of(value))),
         KeyKind::Number => Ok(number_fault(number_of(value))),
         KeyKind::EvenSize => Ok(size_fault(size_of(value))),
-        KeyKind::WatcherNames => Ok(names_fault(watchers, &split_names(alloc, value)?)),
+        KeyKind::ReportNames => Ok(names_fault(known, &split_names(alloc, value)?)),
     }
 }
 
@@ -192,15 +191,15 @@ fn has_same_name(operands: &[Operand]) -> bool
 }
 
 // A further word after the operands before it.
-fn read_operand(
+fn read_operand<K: KnownNames>(
     alloc: Global,
-    watchers: &Vec<Box<dyn WorldWatcher>>,
+    known: &K,
     command: Command,
     earlier: &[Operand],
     word: &str,
 ) -> Result<Operand, WordsFault>
-    ensures ok { IfOk result (λ operand. operand_of (map name watchers.now.items) (row_of command) earlier.now word.now ≡ Ok operand) }
-    ensures usage { IfUsage result (λ kind. operand_of (map name watchers.now.items) (row_of command) earlier.now word.now ≡ Err kind) }
+    ensures ok { IfOk result (λ operand. operand_of (K.names known.now) (row_of command) earlier.now word.now ≡ Ok operand) }
+    ensures usage { IfUsage result (λ kind. operand_of (K.names known.now) (row_of command) earlier.now word.now ≡ Err kind) }
 {
     let Some((name, value)) = cut_word(word) else {
         return Err(WordsFault::Usage(UsageKind::NotOperand));
@@ -211,7 +210,7 @@ fn read_operand(
     if is_given(earlier, key) {
         return Err(WordsFault::Usage(UsageKind::KeyTwice));
     }
-    if let Some(kind) = value_fault(alloc, watchers, key.kind(), value)? {
+    if let Some(kind) = value_fault(alloc, known, key.kind(), value)? {
         return Err(WordsFault::Usage(kind));
     }
     let text = String::from_str(alloc, value)?;
@@ -223,18 +222,18 @@ fn read_operand(
 
 // The further words, from the left.
 #[tactic(auto, using(crate::proofs::WordsLemmas::operands_rules))]
-fn read_operands(
+fn read_operands<K: KnownNames>(
     alloc: Global,
-    watchers: &Vec<Box<dyn WorldWatcher>>,
+    known: &K,
     command: Command,
     words: &[String],
 ) -> Result<Vec<Operand>, WordsFault>
-    ensures ok { IfOk result (λ operands. operands_of (map name watchers.now.items) (row_of command) [] (map string_bytes words.now) ≡ Ok operands.items) }
-    ensures usage { IfUsage result (λ kind. operands_of (map name watchers.now.items) (row_of command) [] (map string_bytes words.now) ≡ Err kind) }
+    ensures ok { IfOk result (λ operands. operands_of (K.names known.now) (row_of command) [] (map string_bytes words.now) ≡ Ok operands.items) }
+    ensures usage { IfUsage result (λ kind. operands_of (K.names known.now) (row_of command) [] (map string_bytes words.now) ≡ Err kind) }
 {
     let mut operands = Vec::new(alloc);
     'further: for word in words {
-        let operand = read_operand(alloc, watchers, command, &operands, word.as_str())?;
+        let operand = read_operand(alloc, known, command, &operands, word.as_str())?;
         operands.push(operand)?;
     }
     Ok(operands)
@@ -261,14 +260,14 @@ fn request_from(
     Ok(make_request(alloc, command, operands)?)
 }
 
-/// What the words after the program's name ask for, or the first of their faults.
-pub fn read_words(
+/// What the words after the program's name ask for, or the first of their faults. Reports are asked for by names that are known.
+pub fn read_words<K: KnownNames>(
     alloc: Global,
     words: &[String],
-    watchers: &Vec<Box<dyn WorldWatcher>>,
+    known: &K,
 ) -> Result<Request, WordsFault>
-    ensures request { IfOk result (λ request. request_of (map name watchers.now.items) (map string_bytes words.now) ≡ Ok request) }
-    ensures usage { IfUsage result (λ kind. request_of (map name watchers.now.items) (map string_bytes words.now) ≡ Err kind) }
+    ensures request { IfOk result (λ request. request_of (K.names known.now) (map string_bytes words.now) ≡ Ok request) }
+    ensures usage { IfUsage result (λ kind. request_of (K.names known.now) (map string_bytes words.now) ≡ Err kind) }
 {
     let Some((first, further)) = words.split_first() else {
         return Err(WordsFault::Usage(UsageKind::NoCommand));
@@ -276,6 +275,6 @@ pub fn read_words(
     let Some(command) = Command::named(first.as_str()) else {
         return Err(WordsFault::Usage(UsageKind::UnknownCommand));
     };
-    let operands = read_operands(alloc, watchers, command, further)?;
+    let operands = read_operands(alloc, known, command, further)?;
     request_from(alloc, command, &operands)
 }

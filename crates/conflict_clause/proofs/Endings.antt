@@ -13,9 +13,9 @@ use Rattle.watch_arena.specs.Places.{place_at, is_false, is_false_clause}
 use Rattle.watch_arena.specs.Trails.{TrailState, IsTrail, IsConflict, AreInRange}
 use Rattle.watch_arena.proofs.ByIndex.{and_from, list_all_from}
 use Rattle.watch_arena.proofs.Watching.{contains_at}
-use Rattle.conflict_clause.specs.declared.notes.Notes.{Notes}
+use Rattle.conflict_clause.specs.declared.analysis.Analysis.{Analysis}
 use Rattle.conflict_clause.specs.Taught.{IsLiveId, IsTaught, IsLearnt, IsClosing, level_in}
-use Rattle.conflict_clause.specs.Search.{IsLooking, IsLower, Meets, Covers, IsSearch, IsAssumedFrom, Finds, IsArranged, is_met}
+use Rattle.conflict_clause.specs.Search.{IsLooking, IsLower, Sees, Covers, IsSearch, IsAssumedFrom, Finds, IsArranged, is_seen}
 use Rattle.conflict_clause.proofs.AtPlaces.{false_at, false_below, false_from, each_false, level_in-place, false_in_range, level-later, level-most, is_decided-at}
 use Rattle.conflict_clause.proofs.Hinted.{has_lit-Contains, has_lit-first, has_lit-rest, hints-false}
 use Rattle.conflict_clause.proofs.Searching.{covered, of_live_push}
@@ -24,32 +24,32 @@ use Rattle.conflict_clause.proofs.Searching.{covered, of_live_push}
 pub none_in : (lits : List ℕ) (lit : ℕ) → lits ≡ [] → Contains lits lit → ⊥
 none_in lits lit e c = let has : Contains {X = ℕ} [] lit = subst (λ (xs : List ℕ). Contains xs lit) e c in let lt = has.1 in absurd (omega arith)
 
--- the first literals met are of lower levels
-pub lower-first : (t : TrailState) (level : ℕ) (old new : Notes) → Meets t level old new → old.lits.items ≡ [] → (lit : ℕ) → Contains new.lits.items lit → IsLower t level lit
-lower-first t level old new meets empty lit c =
-    elim (meets.added lit c) [
+-- the first literals seen are of lower levels
+pub lower-first : (t : TrailState) (level : ℕ) (old new : Analysis) → Sees t level old new → old.lits.items ≡ [] → (lit : ℕ) → Contains new.lits.items lit → IsLower t level lit
+lower-first t level old new sees empty lit c =
+    elim (sees.added lit c) [
       | inl before ↦ absurd (none_in old.lits.items lit empty before)
       | inr lower ↦ lower
     ]
 
--- a false clause whose literals were met
-pub IsSearch-started : (t : TrailState) (level at : ℕ) (n : Notes) → IsTrail t → IsConflict t at → IsLooking t level n → ((lit : ℕ) → Contains (record_at t.records at).lits lit → is_met n (variable_of lit) ≡ true) → n.hints.items ≡ (record_at t.records at).id ∷ [] → IsSearch t level (length t.places) n
-IsSearch-started t level at n trail conflict looking met hints = record {
+-- a false clause whose literals were seen
+pub IsSearch-started : (t : TrailState) (level at : ℕ) (n : Analysis) → IsTrail t → IsConflict t at → IsLooking t level n → ((lit : ℕ) → Contains (record_at t.records at).lits lit → is_seen n (variable_of lit) ≡ true) → n.hints.items ≡ (record_at t.records at).id ∷ [] → IsSearch t level (length t.places) n
+IsSearch-started t level at n trail conflict looking seen hints = record {
   looking = looking;
   within = omega arith;
   shown = λ state lits holds covers.
       subst (λ (hs : List ℕ). hints_fault state (reverse hs) lits ≡ None) (sym hints)
       (hints-false state t.records at [] lits holds conflict.live (λ m c.
-      covered t (length t.places) m n lits covers (met m c) (false_at t.places m (each_false t.places (record_at t.records at).lits m conflict.all_false c))));
+      covered t (length t.places) m n lits covers (seen m c) (false_at t.places m (each_false t.places (record_at t.records at).lits m conflict.all_false c))));
   of_live = subst (λ (hs : List ℕ). (hint : ℕ) → Contains hs hint → IsLiveId t.records hint) (sym hints) (of_live_push t.records [] at conflict.live (λ hint c. absurd (none_in [] hint refl c)));
 }
 
--- a literal that was met at this level or above it has a place to be looked at
-pub lowest-within : (t : TrailState) (level lit : ℕ) (n : Notes) → IsTrail t → IsLooking t level n → ((m : ℕ) → Contains n.lits.items m → IsLower t level m) → is_false t.places lit ≡ true → is_met n (variable_of lit) ≡ true → level ≤ level_in t.places lit → n.lowest < length t.places
-lowest-within t level lit n trail looking lower off met high =
+-- a literal that was seen at this level or above it has a place to be looked at
+pub lowest-within : (t : TrailState) (level lit : ℕ) (n : Analysis) → IsTrail t → IsLooking t level n → ((m : ℕ) → Contains n.lits.items m → IsLower t level m) → is_false t.places lit ≡ true → is_seen n (variable_of lit) ≡ true → level ≤ level_in t.places lit → n.lowest < length t.places
+lowest-within t level lit n trail looking lower off seen high =
     let at = false_at t.places lit off in
     let within = at.1 in
-    let here : is_met n (variable_of (place_at t.places at.0).lit) ≡ true = subst (λ (v : ℕ). is_met n v ≡ true) (sym (ap variable_of at.2 ∙ variable_of-negation lit)) met in
+    let here : is_seen n (variable_of (place_at t.places at.0).lit) ≡ true = subst (λ (v : ℕ). is_seen n v ≡ true) (sym (ap variable_of at.2 ∙ variable_of-negation lit)) seen in
     elim (looking.left at.0 at.1 here) [
       | inl kept ↦
           let own : Contains n.lits.items lit = subst (λ (x : ℕ). Contains n.lits.items x) (ap negation_of at.2 ∙ negation-negation lit) kept in
@@ -58,9 +58,9 @@ lowest-within t level lit n trail looking lower off met high =
       | inr late ↦ omega arith
     ]
 
--- the reason of a place whose literal is kept, once the other literals were met
-pub IsSearch-below : (t : TrailState) (p at : ℕ) (n : Notes) → IsTrail t → p < length t.places → (place_at t.places p).reason ≡ Some at → IsLooking t 0 n → ((lit : ℕ) → Contains (record_at t.records at).lits lit → is_met n (variable_of lit) ≡ true) → Contains n.lits.items (place_at t.places p).lit → n.hints.items ≡ (record_at t.records at).id ∷ [] → IsSearch t 0 p n
-IsSearch-below t p at n trail lt reason looking met own hints =
+-- the reason of a place whose literal is kept, once the other literals were seen
+pub IsSearch-below : (t : TrailState) (p at : ℕ) (n : Analysis) → IsTrail t → p < length t.places → (place_at t.places p).reason ≡ Some at → IsLooking t 0 n → ((lit : ℕ) → Contains (record_at t.records at).lits lit → is_seen n (variable_of lit) ≡ true) → Contains n.lits.items (place_at t.places p).lit → n.hints.items ≡ (record_at t.records at).id ∷ [] → IsSearch t 0 p n
+IsSearch-below t p at n trail lt reason looking seen own hints =
     let r = trail.reasons p at lt reason in
     record {
       looking = looking;
@@ -69,7 +69,7 @@ IsSearch-below t p at n trail lt reason looking met own hints =
           subst (λ (hs : List ℕ). hints_fault state (reverse hs) lits ≡ None) (sym hints)
           (hints-false state t.records at [] lits holds r.live (λ m c. elim (cases_eq m (place_at t.places p).lit) [
             | inl is ↦ subst (λ (x : ℕ). has_lit lits x ≡ true) (sym is) (covers.kept (place_at t.places p).lit own)
-            | inr ne ↦ covered t p m n lits covers (met m c) (false_below t.places p m (omega arith) (r.others m c ne))
+            | inr ne ↦ covered t p m n lits covers (seen m c) (false_below t.places p m (omega arith) (r.others m c ne))
           ]));
       of_live = subst (λ (hs : List ℕ). (hint : ℕ) → Contains hs hint → IsLiveId t.records hint) (sym hints) (of_live_push t.records [] at r.live (λ hint c. absurd (none_in [] hint refl c)));
     }
@@ -79,7 +79,7 @@ reversed : (hints : List ℕ) (hint : ℕ) → Contains (reverse hints) hint →
 reversed hints hint c = subst (λ (hs : List ℕ). Contains hs hint) (reverse-reverse hints) (Contains-permutation (reverse hints) (reverse (reverse hints)) hint (IsPermutation-reverse (reverse hints)) c)
 
 -- a clause that covers what is below is taught
-IsTaught-covers : (t : TrailState) (level p : ℕ) (n : Notes) (lits hints : List ℕ) → IsSearch t level p n → Covers t p n lits → AreInRange lits t.variables → hints ≡ reverse n.hints.items → IsTaught t lits hints
+IsTaught-covers : (t : TrailState) (level p : ℕ) (n : Analysis) (lits hints : List ℕ) → IsSearch t level p n → Covers t p n lits → AreInRange lits t.variables → hints ≡ reverse n.hints.items → IsTaught t lits hints
 IsTaught-covers t level p n lits hints s covers range is = record {
   shown = λ state holds. subst (λ (hs : List ℕ). hints_fault state hs lits ≡ None) (sym is) (s.shown state lits holds covers);
   of_live = λ hint c. s.of_live hint (reversed n.hints.items hint (subst (λ (hs : List ℕ). Contains hs hint) is c));
@@ -92,7 +92,7 @@ assumed-in_range t p lit trail a =
     subst (λ (v : ℕ). v < t.variables) (sym (ap variable_of a.is ∙ variable_of-negation (place_at t.places a.place).lit)) (trail.places_in_range a.place a.within)
 
 -- where no place is left to look at, the kept literals are the clause
-pub IsClosing-ended : (t : TrailState) (stands : Option ℕ) (p : ℕ) (start n : Notes) (lits hints : List ℕ) → IsTrail t → p ≤ n.lowest → IsSearch t 0 p n → Finds t 0 p start n → ((lit : ℕ) → Contains start.lits.items lit → (stands ≡ Some lit) × (variable_of lit < t.variables)) → lits ≡ n.lits.items → hints ≡ reverse n.hints.items → IsClosing t stands lits hints
+pub IsClosing-ended : (t : TrailState) (stands : Option ℕ) (p : ℕ) (start n : Analysis) (lits hints : List ℕ) → IsTrail t → p ≤ n.lowest → IsSearch t 0 p n → Finds t 0 p start n → ((lit : ℕ) → Contains start.lits.items lit → (stands ≡ Some lit) × (variable_of lit < t.variables)) → lits ≡ n.lits.items → hints ≡ reverse n.hints.items → IsClosing t stands lits hints
 IsClosing-ended t stands p start n lits hints trail low s f first are hints_are =
     let kept : (lit : ℕ) → Contains lits lit → Contains n.lits.items lit = λ lit c. subst (λ (xs : List ℕ). Contains xs lit) are c in
     let has : (lit : ℕ) → Contains n.lits.items lit → has_lit lits lit ≡ true = λ lit c. has_lit-Contains lits lit (subst (λ (xs : List ℕ). Contains xs lit) (sym are) c) in
@@ -100,7 +100,7 @@ IsClosing-ended t stands p start n lits hints trail low s f first are hints_are 
     record {
       taught = IsTaught-covers t 0 p n lits hints s (record {
         kept = has;
-        below = λ q lt met. elim (s.looking.left q (omega arith) met) [
+        below = λ q lt seen. elim (s.looking.left q (omega arith) seen) [
           | inl c ↦ has _ c
           | inr late ↦ absurd (omega arith)
         ];
@@ -121,7 +121,7 @@ IsClosing-ended t stands p start n lits hints trail low s f first are hints_are 
     }
 
 -- the literals kept on the way to the lowest place of the level are of lower levels
-pub all-lower : (t : TrailState) (level : ℕ) (start n : Notes) → IsTrail t → level ≡ t.level → n.lowest < length t.places → IsLooking t level n → Finds t level (n.lowest + 1) start n → ((lit : ℕ) → Contains start.lits.items lit → IsLower t level lit) → (lit : ℕ) → Contains n.lits.items lit → IsLower t level lit
+pub all-lower : (t : TrailState) (level : ℕ) (start n : Analysis) → IsTrail t → level ≡ t.level → n.lowest < length t.places → IsLooking t level n → Finds t level (n.lowest + 1) start n → ((lit : ℕ) → Contains start.lits.items lit → IsLower t level lit) → (lit : ℕ) → Contains n.lits.items lit → IsLower t level lit
 all-lower t level start n trail is lt looking f lower lit c =
     elim (f.added lit c) [
       | inl before ↦ lower lit before
@@ -146,7 +146,7 @@ below-top t [] back top second some each = omega arith
 below-top t (lit ∷ others) back top second some each = let first = each lit (contains_at (lit ∷ others) 0 lit (omega arith) refl) in omega arith
 
 -- where only the lowest place is left to look at, its literal's negation and the kept literals are the clause
-pub IsLearnt-ended : (t : TrailState) (level : ℕ) (start n : Notes) (lits hints : List ℕ) (back : ℕ) → IsTrail t → level ≡ t.level → 0 < t.level → n.lowest < length t.places → IsSearch t level (n.lowest + 1) n → Finds t level (n.lowest + 1) start n → ((lit : ℕ) → Contains start.lits.items lit → IsLower t level lit) → IsArranged t (negation_of (place_at t.places n.lowest).lit) n.lits.items lits back → hints ≡ reverse n.hints.items → IsLearnt t lits hints back
+pub IsLearnt-ended : (t : TrailState) (level : ℕ) (start n : Analysis) (lits hints : List ℕ) (back : ℕ) → IsTrail t → level ≡ t.level → 0 < t.level → n.lowest < length t.places → IsSearch t level (n.lowest + 1) n → Finds t level (n.lowest + 1) start n → ((lit : ℕ) → Contains start.lits.items lit → IsLower t level lit) → IsArranged t (negation_of (place_at t.places n.lowest).lit) n.lits.items lits back → hints ≡ reverse n.hints.items → IsLearnt t lits hints back
 IsLearnt-ended t level start n lits hints back trail is some lt s f lower a hints_are =
     let is_point : (place_at t.places n.lowest).lit ≡ negation_of (negation_of (place_at t.places n.lowest).lit) = sym (negation-negation (place_at t.places n.lowest).lit) in
     let kept : (lit : ℕ) → Contains a.others lit → IsLower t level lit = λ lit c.
@@ -164,7 +164,7 @@ IsLearnt-ended t level start n lits hints back trail is some lt s f lower a hint
     record {
       taught = IsTaught-covers t level (n.lowest + 1) n lits hints s (record {
         kept = has;
-        below = λ q below met. elim (s.looking.left q (omega arith) met) [
+        below = λ q below seen. elim (s.looking.left q (omega arith) seen) [
           | inl c ↦ has _ c
           | inr late ↦
               let here : q ≡ n.lowest = omega arith in

@@ -10,41 +10,41 @@ use Rattle.clause_arena.specs.Records.{Record, record_at}
 use Rattle.watch_arena.specs.declared.places.Place.{Place}
 use Rattle.watch_arena.specs.Places.{place_at, is_false}
 use Rattle.watch_arena.specs.Trails.{TrailState, IsTrail}
-use Rattle.conflict_clause.specs.declared.notes.Notes.{Notes}
-use Rattle.conflict_clause.specs.Search.{IsNoted, IsClear, IsLooking, IsLower, Meets, is_met}
+use Rattle.conflict_clause.specs.declared.analysis.Analysis.{Analysis}
+use Rattle.conflict_clause.specs.Search.{IsNoted, IsClear, IsLooking, IsLower, Sees, is_seen}
 use Rattle.conflict_clause.proofs.AtPlaces.{place-once, false_below, false_from, level_in-place}
 
 -- the same variables are noted
-pub IsNoted-same : (old new : Notes) (a b : ℕ) → IsNoted old a → new.marks ≡ old.marks → new.met.items ≡ old.met.items → a ≡ b → IsNoted new b
-IsNoted-same old new a b n marks met same = record {
+pub IsNoted-same : (old new : Analysis) (a b : ℕ) → IsNoted old a → new.marks ≡ old.marks → new.seen.items ≡ old.seen.items → a ≡ b → IsNoted new b
+IsNoted-same old new a b n marks seen same = record {
   size = ap length marks ∙ n.size ∙ same;
-  listed = λ v m. subst (λ (xs : List ℕ). Contains xs v) (sym met) (n.listed v (ap (λ (bs : List Bool). get_or bs v false) (sym marks) ∙ m));
-  in_range = subst (λ (k : ℕ). All (λ (v : ℕ). v < k) new.met.items) same (subst (λ (xs : List ℕ). All (λ (v : ℕ). v < a) xs) (sym met) n.in_range);
+  listed = λ v m. subst (λ (xs : List ℕ). Contains xs v) (sym seen) (n.listed v (ap (λ (bs : List Bool). get_or bs v false) (sym marks) ∙ m));
+  in_range = subst (λ (k : ℕ). All (λ (v : ℕ). v < k) new.seen.items) same (subst (λ (xs : List ℕ). All (λ (v : ℕ). v < a) xs) (sym seen) n.in_range);
 }
 
--- where one variable more was met, a place of another one was met before
-other_met : (marks : List Bool) (v w : ℕ) → w ≢ v → get_or (set marks v true) w false ≡ true → get_or marks w false ≡ true
-other_met marks v w ne h = sym (get_or-set_other marks v w true false ne) ∙ h
+-- where one variable more was seen, a place of another one was seen before
+other_seen : (marks : List Bool) (v w : ℕ) → w ≢ v → get_or (set marks v true) w false ≡ true → get_or marks w false ≡ true
+other_seen marks v w ne h = sym (get_or-set_other marks v w true false ne) ∙ h
 
--- a variable that was marked is met, and those that were met before are so still
-pub is_met-marked : (old new : Notes) (v : ℕ) → new.marks ≡ set old.marks v true → v < length old.marks → is_met new v ≡ true
-is_met-marked old new v is lt = ap (λ (bs : List Bool). get_or bs v false) is ∙ get_or-set_same old.marks v true false lt
+-- a variable that was marked is seen, and those that were seen before are so still
+pub is_seen-marked : (old new : Analysis) (v : ℕ) → new.marks ≡ set old.marks v true → v < length old.marks → is_seen new v ≡ true
+is_seen-marked old new v is lt = ap (λ (bs : List Bool). get_or bs v false) is ∙ get_or-set_same old.marks v true false lt
 
-still_met : (old new : Notes) (v w : ℕ) → new.marks ≡ set old.marks v true → v < length old.marks → is_met old w ≡ true → is_met new w ≡ true
-still_met old new v w is lt met = elim (cases_eq w v) [
-  | inl same ↦ subst (λ (u : ℕ). is_met new u ≡ true) (sym same) (is_met-marked old new v is lt)
-  | inr other ↦ ap (λ (bs : List Bool). get_or bs w false) is ∙ get_or-set_other old.marks v w true false other ∙ met
+still_seen : (old new : Analysis) (v w : ℕ) → new.marks ≡ set old.marks v true → v < length old.marks → is_seen old w ≡ true → is_seen new w ≡ true
+still_seen old new v w is lt seen = elim (cases_eq w v) [
+  | inl same ↦ subst (λ (u : ℕ). is_seen new u ≡ true) (sym same) (is_seen-marked old new v is lt)
+  | inr other ↦ ap (λ (bs : List Bool). get_or bs w false) is ∙ get_or-set_other old.marks v w true false other ∙ seen
 ]
 
--- a literal that is met or false, and was not met, is false
-pub false_unmet : (places : List Place) (n : Notes) (lit : ℕ) → (is_met n (variable_of lit) ≡ true) ⊎ (is_false places lit ≡ true) → is_met n (variable_of lit) ≡ false → is_false places lit ≡ true
-false_unmet places n lit either unmet = elim either [
-  | inl met ↦ absurd (true≢false (sym met ∙ unmet))
+-- a literal that is seen or false, and was not seen, is false
+pub false_unseen : (places : List Place) (n : Analysis) (lit : ℕ) → (is_seen n (variable_of lit) ≡ true) ⊎ (is_false places lit ≡ true) → is_seen n (variable_of lit) ≡ false → is_false places lit ≡ true
+false_unseen places n lit either unseen = elim either [
+  | inl seen ↦ absurd (true≢false (sym seen ∙ unseen))
   | inr off ↦ off
 ]
 
--- a literal was met and is kept
-pub IsLooking-kept : (t : TrailState) (level : ℕ) (old new : Notes) (lit q : ℕ) → IsTrail t → IsLooking t level old → IsNoted new t.variables → new.marks ≡ set old.marks (variable_of lit) true → new.lits.items ≡ old.lits.items ++ lit ∷ [] → new.lowest ≡ old.lowest → q < length t.places → (place_at t.places q).lit ≡ negation_of lit → IsLooking t level new
+-- a literal was seen and is kept
+pub IsLooking-kept : (t : TrailState) (level : ℕ) (old new : Analysis) (lit q : ℕ) → IsTrail t → IsLooking t level old → IsNoted new t.variables → new.marks ≡ set old.marks (variable_of lit) true → new.lits.items ≡ old.lits.items ++ lit ∷ [] → new.lowest ≡ old.lowest → q < length t.places → (place_at t.places q).lit ≡ negation_of lit → IsLooking t level new
 IsLooking-kept t level old new lit q trail l noted marks lits lowest lt is = record {
   noted = noted;
   left = λ p within m. elim (cases_eq (variable_of (place_at t.places p).lit) (variable_of lit)) [
@@ -53,7 +53,7 @@ IsLooking-kept t level old new lit q trail l noted marks lits lowest lt is = rec
         let back : lit ≡ negation_of (place_at t.places p).lit = sym (ap (λ (n : ℕ). negation_of (place_at t.places n).lit) here ∙ ap negation_of is ∙ negation-negation lit) in
         inl (subst (λ (x : ℕ). Contains new.lits.items x) back (subst (λ (xs : List ℕ). Contains xs lit) (sym lits) (Contains-push old.lits.items lit)))
     | inr other ↦
-        elim (l.left p within (other_met old.marks (variable_of lit) (variable_of (place_at t.places p).lit) other (subst (λ (b : List Bool). get_or b (variable_of (place_at t.places p).lit) false ≡ true) marks m))) [
+        elim (l.left p within (other_seen old.marks (variable_of lit) (variable_of (place_at t.places p).lit) other (subst (λ (b : List Bool). get_or b (variable_of (place_at t.places p).lit) false ≡ true) marks m))) [
           | inl has ↦ inl (subst (λ (xs : List ℕ). Contains xs (negation_of (place_at t.places p).lit)) (sym lits) (Contains-append_left old.lits.items (lit ∷ []) (negation_of (place_at t.places p).lit) has))
           | inr late ↦ inr (omega arith)
         ]
@@ -61,8 +61,8 @@ IsLooking-kept t level old new lit q trail l noted marks lits lowest lt is = rec
   at_level = λ within. subst (λ (n : ℕ). level ≤ (place_at t.places n).level) (sym lowest) (l.at_level (omega arith));
 }
 
--- a literal was met, and its place is to be looked at
-pub IsLooking-lowered : (t : TrailState) (level : ℕ) (old new : Notes) (lit q : ℕ) → IsTrail t → IsLooking t level old → IsNoted new t.variables → new.marks ≡ set old.marks (variable_of lit) true → new.lits.items ≡ old.lits.items → new.lowest ≡ min old.lowest q → q < length t.places → (place_at t.places q).lit ≡ negation_of lit → level ≤ (place_at t.places q).level → IsLooking t level new
+-- a literal was seen, and its place is to be looked at
+pub IsLooking-lowered : (t : TrailState) (level : ℕ) (old new : Analysis) (lit q : ℕ) → IsTrail t → IsLooking t level old → IsNoted new t.variables → new.marks ≡ set old.marks (variable_of lit) true → new.lits.items ≡ old.lits.items → new.lowest ≡ min old.lowest q → q < length t.places → (place_at t.places q).lit ≡ negation_of lit → level ≤ (place_at t.places q).level → IsLooking t level new
 IsLooking-lowered t level old new lit q trail l noted marks lits lowest lt is high = record {
   noted = noted;
   left = λ p within m. elim (cases_eq (variable_of (place_at t.places p).lit) (variable_of lit)) [
@@ -70,7 +70,7 @@ IsLooking-lowered t level old new lit q trail l noted marks lits lowest lt is hi
         let here : p ≡ q = place-once t p q trail within lt (same ∙ sym (ap variable_of is ∙ variable_of-negation lit)) in
         inr (omega arith)
     | inr other ↦
-        elim (l.left p within (other_met old.marks (variable_of lit) (variable_of (place_at t.places p).lit) other (subst (λ (b : List Bool). get_or b (variable_of (place_at t.places p).lit) false ≡ true) marks m))) [
+        elim (l.left p within (other_seen old.marks (variable_of lit) (variable_of (place_at t.places p).lit) other (subst (λ (b : List Bool). get_or b (variable_of (place_at t.places p).lit) false ≡ true) marks m))) [
           | inl has ↦ inl (subst (λ (xs : List ℕ). Contains xs (negation_of (place_at t.places p).lit)) (sym lits) has)
           | inr late ↦ inr (omega arith)
         ]
@@ -85,10 +85,10 @@ IsLooking-lowered t level old new lit q trail l noted marks lits lowest lt is hi
   ];
 }
 
--- a literal of a lower level was met and is kept
-pub Meets-kept : (t : TrailState) (level : ℕ) (old new : Notes) (lit q : ℕ) → IsTrail t → new.marks ≡ set old.marks (variable_of lit) true → variable_of lit < length old.marks → new.lits.items ≡ old.lits.items ++ lit ∷ [] → new.lowest ≡ old.lowest → is_false t.places lit ≡ true → q < length t.places → (place_at t.places q).lit ≡ negation_of lit → (place_at t.places q).level < level → Meets t level old new
-Meets-kept t level old new lit q trail marks lt lits lowest off within is low = record {
-  marks = λ w met. still_met old new (variable_of lit) w marks lt met;
+-- a literal of a lower level was seen and is kept
+pub Sees-kept : (t : TrailState) (level : ℕ) (old new : Analysis) (lit q : ℕ) → IsTrail t → new.marks ≡ set old.marks (variable_of lit) true → variable_of lit < length old.marks → new.lits.items ≡ old.lits.items ++ lit ∷ [] → new.lowest ≡ old.lowest → is_false t.places lit ≡ true → q < length t.places → (place_at t.places q).lit ≡ negation_of lit → (place_at t.places q).level < level → Sees t level old new
+Sees-kept t level old new lit q trail marks lt lits lowest off within is low = record {
+  marks = λ w seen. still_seen old new (variable_of lit) w marks lt seen;
   kept = λ other c. subst (λ (xs : List ℕ). Contains xs other) (sym lits) (Contains-append_left old.lits.items (lit ∷ []) other c);
   added = λ other c. elim (Contains-push_cases old.lits.items lit other (subst (λ (xs : List ℕ). Contains xs other) lits c)) [
     | inl before ↦ inl before
@@ -97,21 +97,21 @@ Meets-kept t level old new lit q trail marks lt lits lowest off within is low = 
   lowest = omega arith;
 }
 
--- a literal was met, and its place is to be looked at
-pub Meets-lowered : (t : TrailState) (level : ℕ) (old new : Notes) (lit q : ℕ) → new.marks ≡ set old.marks (variable_of lit) true → variable_of lit < length old.marks → new.lits.items ≡ old.lits.items → new.lowest ≡ min old.lowest q → Meets t level old new
-Meets-lowered t level old new lit q marks lt lits lowest = record {
-  marks = λ w met. still_met old new (variable_of lit) w marks lt met;
+-- a literal was seen, and its place is to be looked at
+pub Sees-lowered : (t : TrailState) (level : ℕ) (old new : Analysis) (lit q : ℕ) → new.marks ≡ set old.marks (variable_of lit) true → variable_of lit < length old.marks → new.lits.items ≡ old.lits.items → new.lowest ≡ min old.lowest q → Sees t level old new
+Sees-lowered t level old new lit q marks lt lits lowest = record {
+  marks = λ w seen. still_seen old new (variable_of lit) w marks lt seen;
   kept = λ other c. subst (λ (xs : List ℕ). Contains xs other) (sym lits) c;
   added = λ other c. inl (subst (λ (xs : List ℕ). Contains xs other) lits c);
   lowest = omega arith;
 }
 
 -- meeting goes on
-pub Meets-refl : (t : TrailState) (level : ℕ) (n : Notes) → Meets t level n n
-Meets-refl t level n = record { marks = λ v m. m; kept = λ lit c. c; added = λ lit c. inl c; lowest = omega arith }
+pub Sees-refl : (t : TrailState) (level : ℕ) (n : Analysis) → Sees t level n n
+Sees-refl t level n = record { marks = λ v m. m; kept = λ lit c. c; added = λ lit c. inl c; lowest = omega arith }
 
-pub Meets-trans : (t : TrailState) (level : ℕ) (a b c : Notes) → Meets t level a b → Meets t level b c → Meets t level a c
-Meets-trans t level a b c f g = let low = f.lowest in let lower = g.lowest in record {
+pub Sees-trans : (t : TrailState) (level : ℕ) (a b c : Analysis) → Sees t level a b → Sees t level b c → Sees t level a c
+Sees-trans t level a b c f g = let low = f.lowest in let lower = g.lowest in record {
   marks = λ v m. g.marks v (f.marks v m);
   kept = λ lit h. g.kept lit (f.kept lit h);
   added = λ lit h. elim (g.added lit h) [
@@ -121,22 +121,22 @@ Meets-trans t level a b c f g = let low = f.lowest in let lower = g.lowest in re
   lowest = omega arith;
 }
 
--- after the listed variables are marked as not met, none is met
-pub IsClear-unmarked : (old new : Notes) (variables : ℕ) → IsNoted old variables → length new.marks ≡ length old.marks → new.met.items ≡ old.met.items → ((v : ℕ) → is_met new v ≡ true → is_met old v ≡ true) → ((v : ℕ) → Contains old.met.items v → is_met new v ≡ false) → IsClear new variables
-IsClear-unmarked old new variables n size met only none = record {
+-- after the listed variables are marked as not seen, none is seen
+pub IsClear-unmarked : (old new : Analysis) (variables : ℕ) → IsNoted old variables → length new.marks ≡ length old.marks → new.seen.items ≡ old.seen.items → ((v : ℕ) → is_seen new v ≡ true → is_seen old v ≡ true) → ((v : ℕ) → Contains old.seen.items v → is_seen new v ≡ false) → IsClear new variables
+IsClear-unmarked old new variables n size seen only none = record {
   size = size ∙ n.size;
-  none = λ v. elim (cases_Bool (is_met new v)) [
+  none = λ v. elim (cases_Bool (is_seen new v)) [
     | inl on ↦ none v (n.listed v (only v on))
     | inr off ↦ off
   ];
-  in_range = subst (λ (xs : List ℕ). All (λ (v : ℕ). v < variables) xs) (sym met) n.in_range;
+  in_range = subst (λ (xs : List ℕ). All (λ (v : ℕ). v < variables) xs) (sym seen) n.in_range;
 }
 
--- the literals of a reason whose own literal was met are met or false
-pub reason-off : (t : TrailState) (p at lit : ℕ) (n : Notes) → IsTrail t → p < length t.places → (place_at t.places p).reason ≡ Some at → is_met n (variable_of (place_at t.places p).lit) ≡ true → Contains (record_at t.records at).lits lit → (is_met n (variable_of lit) ≡ true) ⊎ (is_false t.places lit ≡ true)
-reason-off t p at lit n trail lt reason met has =
+-- the literals of a reason whose own literal was seen are seen or false
+pub reason-off : (t : TrailState) (p at lit : ℕ) (n : Analysis) → IsTrail t → p < length t.places → (place_at t.places p).reason ≡ Some at → is_seen n (variable_of (place_at t.places p).lit) ≡ true → Contains (record_at t.records at).lits lit → (is_seen n (variable_of lit) ≡ true) ⊎ (is_false t.places lit ≡ true)
+reason-off t p at lit n trail lt reason seen has =
     elim (cases_eq lit (place_at t.places p).lit) [
-      | inl is ↦ inl (subst (λ (x : ℕ). is_met n (variable_of x) ≡ true) (sym is) met)
+      | inl is ↦ inl (subst (λ (x : ℕ). is_seen n (variable_of x) ≡ true) (sym is) seen)
       | inr ne ↦
           let off = false_below t.places p lit (omega arith) ((trail.reasons p at lt reason).others lit has ne) in
           let below = off.1 in

@@ -10,9 +10,9 @@ use Rattle.lits_core.proofs.LiteralLemmas.{variable_of-negation, negation-negati
 use Rattle.clause_arena.specs.Records.{Record, record_at}
 use Rattle.watch_arena.specs.Places.{place_at}
 use Rattle.watch_arena.specs.Trails.{TrailState, IsTrail}
-use Rattle.conflict_clause.specs.declared.notes.Notes.{Notes}
+use Rattle.conflict_clause.specs.declared.analysis.Analysis.{Analysis}
 use Rattle.conflict_clause.specs.Taught.{IsLiveId}
-use Rattle.conflict_clause.specs.Search.{IsLooking, Meets, Covers, IsSearch, Finds, is_met}
+use Rattle.conflict_clause.specs.Search.{IsLooking, Sees, Covers, IsSearch, Finds, is_seen}
 use Rattle.conflict_clause.proofs.AtPlaces.{false_below}
 use Rattle.conflict_clause.proofs.Looking.{IsNoted-same}
 use Rattle.conflict_clause.proofs.Hinted.{has_lit-first, has_lit-rest, hints-unit}
@@ -29,26 +29,26 @@ of_live_push records hints at live old hint c =
       | inr new ↦ record { at = at; live = live; named = new }
     ]
 
--- a literal that is false by a place below p, and was met, is held false by what covers the places below p
-pub covered : (t : TrailState) (p m : ℕ) (n : Notes) (lits : List ℕ) → Covers t p n lits → is_met n (variable_of m) ≡ true → (q : ℕ) × (q < p) × ((place_at t.places q).lit ≡ negation_of m) → has_lit lits m ≡ true
-covered t p m n lits covers met at =
+-- a literal that is false by a place below p, and was seen, is held false by what covers the places below p
+pub covered : (t : TrailState) (p m : ℕ) (n : Analysis) (lits : List ℕ) → Covers t p n lits → is_seen n (variable_of m) ≡ true → (q : ℕ) × (q < p) × ((place_at t.places q).lit ≡ negation_of m) → has_lit lits m ≡ true
+covered t p m n lits covers seen at =
     let same : variable_of m ≡ variable_of (place_at t.places at.0).lit = sym (ap variable_of at.2 ∙ variable_of-negation m) in
     subst (λ (x : ℕ). has_lit lits x ≡ true) (ap negation_of at.2 ∙ negation-negation m)
-    (covers.below at.0 at.1 (subst (λ (v : ℕ). is_met n v ≡ true) same met))
+    (covers.below at.0 at.1 (subst (λ (v : ℕ). is_seen n v ≡ true) same seen))
 
 -- what covers the places below p covers one more, once the negation of its literal is held false too
-covers-more : (t : TrailState) (level p : ℕ) (old new : Notes) (lits : List ℕ) → Meets t level old new → Covers t p new lits → Covers t (p + 1) old (negation_of (place_at t.places p).lit ∷ lits)
-covers-more t level p old new lits meets covers = record {
-  kept = λ lit c. has_lit-rest _ lits lit (covers.kept lit (meets.kept lit c));
-  below = λ q lt met. elim (cases_eq q p) [
+covers-more : (t : TrailState) (level p : ℕ) (old new : Analysis) (lits : List ℕ) → Sees t level old new → Covers t p new lits → Covers t (p + 1) old (negation_of (place_at t.places p).lit ∷ lits)
+covers-more t level p old new lits sees covers = record {
+  kept = λ lit c. has_lit-rest _ lits lit (covers.kept lit (sees.kept lit c));
+  below = λ q lt seen. elim (cases_eq q p) [
     | inl here ↦ subst (λ (n : ℕ). has_lit (negation_of (place_at t.places p).lit ∷ lits) (negation_of (place_at t.places n).lit) ≡ true) (sym here) (has_lit-first _ lits)
-    | inr other ↦ has_lit-rest _ lits _ (covers.below q (omega arith) (meets.marks _ met))
+    | inr other ↦ has_lit-rest _ lits _ (covers.below q (omega arith) (sees.marks _ seen))
   ];
 }
 
--- the place has a reason, whose literals were met
-pub IsSearch-resolved : (t : TrailState) (level p at : ℕ) (old new : Notes) → IsTrail t → IsSearch t level (p + 1) old → (place_at t.places p).reason ≡ Some at → Meets t level old new → IsLooking t level new → ((lit : ℕ) → Contains (record_at t.records at).lits lit → is_met new (variable_of lit) ≡ true) → new.hints.items ≡ old.hints.items ++ (record_at t.records at).id ∷ [] → IsSearch t level p new
-IsSearch-resolved t level p at old new trail s reason meets looking met hints =
+-- the place has a reason, whose literals were seen
+pub IsSearch-resolved : (t : TrailState) (level p at : ℕ) (old new : Analysis) → IsTrail t → IsSearch t level (p + 1) old → (place_at t.places p).reason ≡ Some at → Sees t level old new → IsLooking t level new → ((lit : ℕ) → Contains (record_at t.records at).lits lit → is_seen new (variable_of lit) ≡ true) → new.hints.items ≡ old.hints.items ++ (record_at t.records at).id ∷ [] → IsSearch t level p new
+IsSearch-resolved t level p at old new trail s reason sees looking seen hints =
     let within = s.within in
     let r = trail.reasons p at (omega arith) reason in
     record {
@@ -58,15 +58,15 @@ IsSearch-resolved t level p at old new trail s reason meets looking met hints =
           let shown : hints_fault state ((record_at t.records at).id ∷ reverse old.hints.items) lits ≡ None = hints-unit state t.records at (place_at t.places p).lit (reverse old.hints.items) lits holds r.live
           (λ m c. elim (cases_eq m (place_at t.places p).lit) [
             | inl is ↦ inl is
-            | inr ne ↦ inr (covered t p m new lits covers (met m c) (false_below t.places p m (omega arith) (r.others m c ne)))
+            | inr ne ↦ inr (covered t p m new lits covers (seen m c) (false_below t.places p m (omega arith) (r.others m c ne)))
           ])
-          (s.shown state (negation_of (place_at t.places p).lit ∷ lits) holds (covers-more t level p old new lits meets covers)) in
+          (s.shown state (negation_of (place_at t.places p).lit ∷ lits) holds (covers-more t level p old new lits sees covers)) in
           subst (λ (hs : List ℕ). hints_fault state hs lits ≡ None) (sym (ap reverse hints ∙ reverse_push old.hints.items (record_at t.records at).id)) shown;
       of_live = subst (λ (hs : List ℕ). (hint : ℕ) → Contains hs hint → IsLiveId t.records hint) (sym hints) (of_live_push t.records old.hints.items at r.live s.of_live);
     }
 
--- the place was not met
-pub IsSearch-passed : (t : TrailState) (level p : ℕ) (n : Notes) → IsSearch t level (p + 1) n → is_met n (variable_of (place_at t.places p).lit) ≡ false → IsSearch t level p n
+-- the place was not seen
+pub IsSearch-passed : (t : TrailState) (level p : ℕ) (n : Analysis) → IsSearch t level (p + 1) n → is_seen n (variable_of (place_at t.places p).lit) ≡ false → IsSearch t level p n
 IsSearch-passed t level p n s off =
     let within = s.within in
     record {
@@ -74,24 +74,24 @@ IsSearch-passed t level p n s off =
       within = omega arith;
       shown = λ state lits holds covers. s.shown state lits holds (record {
         kept = covers.kept;
-        below = λ q lt met. elim (cases_eq q p) [
-          | inl here ↦ absurd (true≢false (sym met ∙ ap (λ (x : ℕ). is_met n (variable_of (place_at t.places x).lit)) here ∙ off))
-          | inr other ↦ covers.below q (omega arith) met
+        below = λ q lt seen. elim (cases_eq q p) [
+          | inl here ↦ absurd (true≢false (sym seen ∙ ap (λ (x : ℕ). is_seen n (variable_of (place_at t.places x).lit)) here ∙ off))
+          | inr other ↦ covers.below q (omega arith) seen
         ];
       });
       of_live = s.of_live;
     }
 
 -- the place was assumed, and the negation of its literal is kept
-pub IsSearch-kept : (t : TrailState) (level p : ℕ) (old new : Notes) → IsSearch t level (p + 1) old → new.marks ≡ old.marks → new.met.items ≡ old.met.items → new.hints.items ≡ old.hints.items → new.lowest ≡ old.lowest → new.lits.items ≡ old.lits.items ++ negation_of (place_at t.places p).lit ∷ [] → IsSearch t level p new
-IsSearch-kept t level p old new s marks met hints lowest lits =
+pub IsSearch-kept : (t : TrailState) (level p : ℕ) (old new : Analysis) → IsSearch t level (p + 1) old → new.marks ≡ old.marks → new.seen.items ≡ old.seen.items → new.hints.items ≡ old.hints.items → new.lowest ≡ old.lowest → new.lits.items ≡ old.lits.items ++ negation_of (place_at t.places p).lit ∷ [] → IsSearch t level p new
+IsSearch-kept t level p old new s marks seen hints lowest lits =
     let within = s.within in
-    let same : (v : ℕ) → is_met new v ≡ is_met old v = λ v. ap (λ (b : List Bool). get_or b v false) marks in
+    let same : (v : ℕ) → is_seen new v ≡ is_seen old v = λ v. ap (λ (b : List Bool). get_or b v false) marks in
     let has : (lit : ℕ) → Contains old.lits.items lit → Contains new.lits.items lit = λ lit c. subst (λ (xs : List ℕ). Contains xs lit) (sym lits) (Contains-append_left old.lits.items (negation_of (place_at t.places p).lit ∷ []) lit c) in
     let own : Contains new.lits.items (negation_of (place_at t.places p).lit) = subst (λ (xs : List ℕ). Contains xs (negation_of (place_at t.places p).lit)) (sym lits) (Contains-push old.lits.items (negation_of (place_at t.places p).lit)) in
     record {
       looking = record {
-        noted = IsNoted-same old new t.variables t.variables s.looking.noted marks met refl;
+        noted = IsNoted-same old new t.variables t.variables s.looking.noted marks seen refl;
         left = λ q lt m. elim (s.looking.left q lt (sym (same _) ∙ m)) [
           | inl c ↦ inl (has _ c)
           | inr late ↦ inr (omega arith)
@@ -112,10 +112,10 @@ IsSearch-kept t level p old new s marks met hints lowest lits =
     }
 
 -- what was found so far, and one place more
-pub Finds-refl : (t : TrailState) (level p : ℕ) (n : Notes) → Finds t level p n n
+pub Finds-refl : (t : TrailState) (level p : ℕ) (n : Analysis) → Finds t level p n n
 Finds-refl t level p n = record { added = λ lit c. inl c; lowest = omega arith }
 
-pub Finds-more : (t : TrailState) (level p q : ℕ) (a b c : Notes) → q ≤ p → Finds t level p a b → Finds t level q b c → Finds t level q a c
+pub Finds-more : (t : TrailState) (level p q : ℕ) (a b c : Analysis) → q ≤ p → Finds t level p a b → Finds t level q b c → Finds t level q a c
 Finds-more t level p q a b c le f g = let low = f.lowest in let lower = g.lowest in record {
   added = λ lit h. elim (g.added lit h) [
     | inl old ↦ elim (f.added lit old) [
@@ -131,7 +131,7 @@ Finds-more t level p q a b c le f g = let low = f.lowest in let lower = g.lowest
 }
 
 -- an assumed place whose literal's negation was kept
-pub Finds-kept : (t : TrailState) (level p : ℕ) (old new : Notes) → p < length t.places → (place_at t.places p).reason ≡ None → new.lowest ≡ old.lowest → new.lits.items ≡ old.lits.items ++ negation_of (place_at t.places p).lit ∷ [] → Finds t level p old new
+pub Finds-kept : (t : TrailState) (level p : ℕ) (old new : Analysis) → p < length t.places → (place_at t.places p).reason ≡ None → new.lowest ≡ old.lowest → new.lits.items ≡ old.lits.items ++ negation_of (place_at t.places p).lit ∷ [] → Finds t level p old new
 Finds-kept t level p old new lt assumed lowest lits = record {
   added = λ lit h. elim (Contains-push_cases old.lits.items (negation_of (place_at t.places p).lit) lit (subst (λ (xs : List ℕ). Contains xs lit) lits h)) [
     | inl before ↦ inl before
@@ -141,11 +141,11 @@ Finds-kept t level p old new lt assumed lowest lits = record {
 }
 
 -- what meeting literals finds
-pub Finds-met : (t : TrailState) (level p : ℕ) (old new : Notes) → Meets t level old new → Finds t level p old new
-Finds-met t level p old new meets = record {
-  added = λ lit c. elim (meets.added lit c) [
+pub Finds-seen : (t : TrailState) (level p : ℕ) (old new : Analysis) → Sees t level old new → Finds t level p old new
+Finds-seen t level p old new sees = record {
+  added = λ lit c. elim (sees.added lit c) [
     | inl before ↦ inl before
     | inr lower ↦ inr (inl lower)
   ];
-  lowest = meets.lowest;
+  lowest = sees.lowest;
 }

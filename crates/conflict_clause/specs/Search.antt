@@ -1,33 +1,33 @@
 -- What a search back through a trail has come to. It goes through the places from the top down, and looks at those whose
--- variables were met.
+-- variables were seen.
 use Rattle.std.specs.Prelude.{◌≡◌, ℕ, ◌<◌, ◌≤◌, ◌⊎◌, Bool, true, false, List, ◌∷◌, length, reverse, slice_index_or, None, MatchOption, slice_get, Contains, All, IsPermutation, IsTrue}
 use Rattle.lits_core.specs.Literals.{negation_of, variable_of}
 use Rattle.lits_core.specs.Derivation.{State, has_lit, hints_fault}
 use Rattle.watch_arena.specs.Places.{place_at, is_false}
 use Rattle.watch_arena.specs.Trails.{TrailState}
-use Rattle.conflict_clause.specs.declared.notes.Notes.{Notes}
+use Rattle.conflict_clause.specs.declared.analysis.Analysis.{Analysis}
 use Rattle.conflict_clause.specs.Taught.{HoldsRecords, IsLiveId, level_in}
 
--- whether a variable was met
-abbrev pub is_met : Notes → ℕ → Bool
-is_met n variable = slice_index_or n.marks variable false
+-- whether a variable was seen
+abbrev pub is_seen : Analysis → ℕ → Bool
+is_seen n variable = slice_index_or n.marks variable false
 
--- each variable that was met is listed
-pub record IsNoted (n : Notes) (variables : ℕ) : Type 0 where
+-- each variable that was seen is listed
+pub record IsNoted (n : Analysis) (variables : ℕ) : Type 0 where
   pub size : length n.marks ≡ variables
-  pub listed : (variable : ℕ) → is_met n variable ≡ true → Contains n.met.items variable
-  pub in_range : All (λ variable. variable < variables) n.met.items
+  pub listed : (variable : ℕ) → is_seen n variable ≡ true → Contains n.seen.items variable
+  pub in_range : All (λ variable. variable < variables) n.seen.items
 
--- no variable is marked as met
-pub record IsClear (n : Notes) (variables : ℕ) : Type 0 where
+-- no variable is marked as seen
+pub record IsClear (n : Analysis) (variables : ℕ) : Type 0 where
   pub size : length n.marks ≡ variables
-  pub none : (variable : ℕ) → is_met n variable ≡ false
-  pub in_range : All (λ variable. variable < variables) n.met.items
+  pub none : (variable : ℕ) → is_seen n variable ≡ false
+  pub in_range : All (λ variable. variable < variables) n.seen.items
 
--- of the places whose variables were met, all are from the lowest place on but those whose negations are kept; the level of the lowest is at least this
-pub record IsLooking (t : TrailState) (level : ℕ) (n : Notes) : Type 0 where
+-- of the places whose variables were seen, all are from the lowest place on but those whose negations are kept; the level of the lowest is at least this
+pub record IsLooking (t : TrailState) (level : ℕ) (n : Analysis) : Type 0 where
   pub noted : IsNoted n t.variables
-  pub left : (q : ℕ) → q < length t.places → is_met n (variable_of (place_at t.places q).lit) ≡ true → Contains n.lits.items (negation_of (place_at t.places q).lit) ⊎ (n.lowest ≤ q)
+  pub left : (q : ℕ) → q < length t.places → is_seen n (variable_of (place_at t.places q).lit) ≡ true → Contains n.lits.items (negation_of (place_at t.places q).lit) ⊎ (n.lowest ≤ q)
   pub at_level : n.lowest < length t.places → level ≤ (place_at t.places n.lowest).level
 
 -- a literal that is false by a lower level than this
@@ -35,20 +35,20 @@ pub record IsLower (t : TrailState) (level lit : ℕ) : Type 0 where
   pub off : IsTrue (is_false t.places lit)
   pub below : level_in t.places lit < level
 
--- more variables were met, and the literals of lower levels among theirs are kept
-pub record Meets (t : TrailState) (level : ℕ) (old new : Notes) : Type 0 where
-  pub marks : (variable : ℕ) → is_met old variable ≡ true → is_met new variable ≡ true
+-- more variables were seen, and the literals of lower levels among theirs are kept
+pub record Sees (t : TrailState) (level : ℕ) (old new : Analysis) : Type 0 where
+  pub marks : (variable : ℕ) → is_seen old variable ≡ true → is_seen new variable ≡ true
   pub kept : (lit : ℕ) → Contains old.lits.items lit → Contains new.lits.items lit
   pub added : (lit : ℕ) → Contains new.lits.items lit → Contains old.lits.items lit ⊎ IsLower t level lit
   pub lowest : new.lowest ≤ old.lowest
 
--- literals have the kept ones, and the negations of those at the places below p that were met
-pub record Covers (t : TrailState) (p : ℕ) (n : Notes) (lits : List ℕ) : Type 0 where
+-- literals have the kept ones, and the negations of those at the places below p that were seen
+pub record Covers (t : TrailState) (p : ℕ) (n : Analysis) (lits : List ℕ) : Type 0 where
   pub kept : (lit : ℕ) → Contains n.lits.items lit → has_lit lits lit ≡ true
-  pub below : (q : ℕ) → q < p → is_met n (variable_of (place_at t.places q).lit) ≡ true → has_lit lits (negation_of (place_at t.places q).lit) ≡ true
+  pub below : (q : ℕ) → q < p → is_seen n (variable_of (place_at t.places q).lit) ≡ true → has_lit lits (negation_of (place_at t.places q).lit) ≡ true
 
 -- the places from p on were looked at: the hints so far, last one first, show each clause that covers what is below
-pub record IsSearch (t : TrailState) (level p : ℕ) (n : Notes) : Type 0 where
+pub record IsSearch (t : TrailState) (level p : ℕ) (n : Analysis) : Type 0 where
   pub looking : IsLooking t level n
   pub within : p ≤ length t.places
   pub shown : (state : State) (lits : List ℕ) → HoldsRecords state t.records → Covers t p n lits → hints_fault state (reverse n.hints.items) lits ≡ None
@@ -63,7 +63,7 @@ pub record IsAssumedFrom (t : TrailState) (p lit : ℕ) : Type 0 where
   pub is : lit ≡ negation_of (place_at t.places place).lit
 
 -- the literals that looking at the places from p on has added are false by lower levels than this or by assumed places
-pub record Finds (t : TrailState) (level p : ℕ) (old new : Notes) : Type 0 where
+pub record Finds (t : TrailState) (level p : ℕ) (old new : Analysis) : Type 0 where
   pub added : (lit : ℕ) → Contains new.lits.items lit → Contains old.lits.items lit ⊎ IsLower t level lit ⊎ IsAssumedFrom t p lit
   pub lowest : new.lowest ≤ old.lowest
 

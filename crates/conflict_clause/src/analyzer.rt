@@ -6,7 +6,7 @@ ghost use Rattle.watch_arena.specs.Places.{is_false, reason_of};
 ghost use Rattle.watch_arena.specs.Trails.{IsConflict};
 ghost use Rattle.conflict_clause.specs.Taught.{level_in, IsLearnt, IsClosing};
 
-use crate::notes::Notes;
+use crate::analysis::Analysis;
 use clause_arena::Ref;
 use lits_core::{Clause, Ids, Lit};
 use std::alloc::{AllocError, Global};
@@ -31,7 +31,7 @@ pub struct Closing {
 /// Looks into conflicts over so many variables, and keeps the room for it.
 #[derive(Drop)]
 pub struct Analyzer {
-    notes: Notes,
+    analysis: Analysis,
     alloc: Global,
 }
 
@@ -41,9 +41,9 @@ impl Model for Analyzer {
 
     ghost Value = { ℕ };
 
-    ghost view = { λ analyzer. length analyzer.notes.marks };
+    ghost view = { λ analyzer. length analyzer.analysis.marks };
 
-    ghost invariant = { λ analyzer. IsClear analyzer.notes (length analyzer.notes.marks) };
+    ghost invariant = { λ analyzer. IsClear analyzer.analysis (length analyzer.analysis.marks) };
 }
 
 impl Analyzer {
@@ -51,8 +51,8 @@ impl Analyzer {
     pub fn new(alloc: Global, variables: u32) -> Result<Analyzer, AllocError>
         ensures { IfOk result (λ analyzer. analyzer ≡ variables) }
     {
-        let notes = Notes::new(alloc, variables)?;
-        Ok(Analyzer { notes, alloc })
+        let analysis = Analysis::new(alloc, variables)?;
+        Ok(Analyzer { analysis, alloc })
     }
 
     /// The clause of the first unique implication point of a conflict at the current level
@@ -60,7 +60,7 @@ impl Analyzer {
     /// Conflict Driven Learning*, 2001).
     ///
     /// Its second literal, if it has one, is one of the level `back`.
-    pub fn learn(&mut self, trail: &Trail, at: Ref) -> Result<Learnt, AllocError>
+    pub fn analyze(&mut self, trail: &Trail, at: Ref) -> Result<Learnt, AllocError>
         requires variables { self.old ≡ trail.now.variables }
         requires conflict { IsConflict trail.now at }
         requires at_the_level { (lit : ℕ) × Contains (record_at trail.now.records at).lits lit × (level_in trail.now.places lit ≡ trail.now.level) }
@@ -69,40 +69,40 @@ impl Analyzer {
         ensures second { IfOk result (λ learnt. MatchOption (slice_get learnt.lits 1) (learnt.back ≡ 0) (λ lit. level_in trail.now.places lit ≡ learnt.back)) }
         ensures kept { self.new ≡ self.old }
     {
-        let learnt = self.notes.learn(self.alloc, trail, at);
-        self.notes.clear();
+        let learnt = self.analysis.analyze(self.alloc, trail, at);
+        self.analysis.clear();
         learnt
     }
 
     /// The clause of the assumed literals that a conflict rests on.
-    pub fn close(&mut self, trail: &Trail, at: Ref) -> Result<Closing, AllocError>
+    pub fn analyze_final(&mut self, trail: &Trail, at: Ref) -> Result<Closing, AllocError>
         requires variables { self.old ≡ trail.now.variables }
         requires conflict { IsConflict trail.now at }
         ensures closing { IfOk result (λ closing. IsClosing trail.now None closing.lits closing.hints) }
         ensures kept { self.new ≡ self.old }
     {
-        let closing = self.notes.close(self.alloc, trail, at);
-        self.notes.clear();
+        let closing = self.analysis.analyze_final(self.alloc, trail, at);
+        self.analysis.clear();
         closing
     }
 
     /// The clause of the assumed literals that make an implied literal true, with that literal itself: here the negation of `lit`.
-    pub fn close_false(&mut self, trail: &Trail, lit: Lit) -> Result<Closing, AllocError>
+    pub fn analyze_final_lit(&mut self, trail: &Trail, lit: Lit) -> Result<Closing, AllocError>
         requires variables { self.old ≡ trail.now.variables }
         requires false_there { IsTrue (is_false trail.now.places lit) }
         requires implied { reason_of trail.now.places (variable_of lit) ≢ None }
         ensures closing { IfOk result (λ closing. IsClosing trail.now (Some (negation_of lit)) closing.lits closing.hints) }
         ensures kept { self.new ≡ self.old }
     {
-        let closing = self.notes.close_false(self.alloc, trail, lit);
-        self.notes.clear();
+        let closing = self.analysis.analyze_final_lit(self.alloc, trail, lit);
+        self.analysis.clear();
         closing
     }
 
-    /// The variables that the last call met, for the choice of what to decide next.
-    pub fn met(&self) -> &[u32]
+    /// The variables that the last call saw, for the choice of what to decide next.
+    pub fn seen(&self) -> &[u32]
         ensures { All (λ variable. variable < self.now) result.now }
     {
-        &self.notes.met
+        &self.analysis.seen
     }
 }

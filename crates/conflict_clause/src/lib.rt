@@ -1,7 +1,7 @@
 //! The clause that a conflict teaches.
 #![tactic(auto)]
 
+mod analysis;
 mod analyzer;
-mod notes;
 
 pub use analyzer::{Analyzer, Closing, Learnt};

@@ -1,6 +1,7 @@
 //! The least conflict, and what shows that it is one.
 ghost use Rattle.std.specs.Prelude.{◌≡◌, IfOk};
 ghost use Rattle.constraint_set.specs.Shape.{shape_of};
+ghost use Rattle.search_log.specs.Leading.{KeepsLeading};
 ghost use Rattle.search_log.specs.Logging.{LogGoes};
 ghost use Rattle.claim_blocks.specs.Blocks.{KeepsClaims};
 ghost use Rattle.conflict_min.specs.Conflicts.{IsFound, IsClaimedOf, as_step};
@@ -55,6 +56,7 @@ pub fn least_conflict<L: TreeLog>(
     ensures shape { asker.new.shape ≡ asker.old.shape }
     ensures answer { IfOk (as_step result) (IsFound problem.now) }
     ensures keeps { KeepsClaims problem.now (as_step result) (IsClaimedOf problem.now) (L.lines log.old) (L.lines log.new) asker.old asker.new }
+    ensures leads { KeepsLeading (L.lines log.old) (L.lines log.new) asker.old asker.new }
     ensures log { LogGoes L.drops L.lines L.faults L.steady L.quiet (as_step result) log.old log.new }
 {
     match find(alloc, problem, asker, log) {

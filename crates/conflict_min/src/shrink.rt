@@ -4,6 +4,7 @@ ghost use Rattle.world_model.specs.Problem.{restricted};
 ghost use Rattle.world_model.specs.Questions.{HasFlags, IsConsistent};
 ghost use Rattle.constraint_set.specs.Shape.{shape_of};
 ghost use Rattle.cert_text.specs.declared.line.Subject.TheVariants.{Kept};
+ghost use Rattle.search_log.specs.Leading.{KeepsLeading};
 ghost use Rattle.search_log.specs.Logging.{LogGoes};
 ghost use Rattle.split_search.specs.Choosing.{IsMetBy};
 ghost use Rattle.claim_blocks.specs.Blocks.{claimed, KeepsClaims};
@@ -63,6 +64,7 @@ fn pass_some<L: TreeLog>(
     ensures some { IfOk result (λ passed. 0 < passed) }
     ensures after { IfOk result (λ passed. IsShrunk problem.now (place + passed) kept.new.items families.new.items) }
     ensures keeps { KeepsClaims problem.now result (λ _ more. IsDropped kept.old.items kept.new.items more) (L.lines log.old) (L.lines log.new) asker.old asker.new }
+    ensures leads { KeepsLeading (L.lines log.old) (L.lines log.new) asker.old asker.new }
     ensures log { LogGoes L.drops L.lines L.faults L.steady L.quiet result log.old log.new }
 {
     let dropped = drop_some(alloc, problem, place, most, kept, asker, log)?;
@@ -92,6 +94,7 @@ fn go_on<L: TreeLog>(
     ensures further { OnOk result (place < pass.new.next) }
     ensures after { OnOk result (IsShrunk problem.now pass.new.next kept.new.items families.new.items) }
     ensures keeps { KeepsClaims problem.now result (λ _ more. IsDropped kept.old.items kept.new.items more) (L.lines log.old) (L.lines log.new) asker.old asker.new }
+    ensures leads { KeepsLeading (L.lines log.old) (L.lines log.new) asker.old asker.new }
     ensures log { LogGoes L.drops L.lines L.faults L.steady L.quiet result log.old log.new }
 {
     if place < pass.next {
@@ -118,6 +121,7 @@ fn shrink<L: TreeLog>(
     ensures shape { asker.new.shape ≡ asker.old.shape }
     ensures least { IfOk result (IsLeast problem.now) }
     ensures keeps { KeepsClaims problem.now result (λ conflict more. IsDropped all.items conflict.kept.items more) (L.lines log.old) (L.lines log.new) asker.old asker.new }
+    ensures leads { KeepsLeading (L.lines log.old) (L.lines log.new) asker.old asker.new }
     ensures log { LogGoes L.drops L.lines L.faults L.steady L.quiet result log.old log.new }
 {
     let mut kept = all;
@@ -166,6 +170,7 @@ fn show_loss<L: TreeLog>(
     requires met { IsMetBy (restricted problem.now (set kept.now place false)) family.now }
     ensures shape { asker.new.shape ≡ asker.old.shape }
     ensures keeps { KeepsClaims problem.now result (λ _ more. more ≡ claimed (Kept (set kept.now place false)) true) (L.lines log.old) (L.lines log.new) asker.old asker.new }
+    ensures leads { KeepsLeading (L.lines log.old) (L.lines log.new) asker.old asker.new }
     ensures log { LogGoes L.drops L.lines L.faults L.steady L.quiet result log.old log.new }
 {
     problem.facts();
@@ -187,6 +192,7 @@ fn show_losses<L: TreeLog>(
     requires least { IsLeast problem.now conflict.now }
     ensures shape { asker.new.shape ≡ asker.old.shape }
     ensures keeps { KeepsClaims problem.now result (λ _ more. more ≡ loss_claims conflict.now.kept.items) (L.lines log.old) (L.lines log.new) asker.old asker.new }
+    ensures leads { KeepsLeading (L.lines log.old) (L.lines log.new) asker.old asker.new }
     ensures log { LogGoes L.drops L.lines L.faults L.steady L.quiet result log.old log.new }
 {
     if log.is_dropping() {
@@ -225,6 +231,7 @@ pub(crate) fn find<L: TreeLog>(
     ensures shape { asker.new.shape ≡ asker.old.shape }
     ensures answer { IfOk result (IsFound problem.now) }
     ensures keeps { KeepsClaims problem.now result (IsClaimedOf problem.now) (L.lines log.old) (L.lines log.new) asker.old asker.new }
+    ensures leads { KeepsLeading (L.lines log.old) (L.lines log.new) asker.old asker.new }
     ensures log { LogGoes L.drops L.lines L.faults L.steady L.quiet result log.old log.new }
 {
     let all = all_flags(alloc, problem)?;

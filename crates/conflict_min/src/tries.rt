@@ -4,6 +4,7 @@ ghost use Rattle.world_model.specs.Problem.{restricted};
 ghost use Rattle.world_model.specs.Questions.{HasFlags, IsConsistent};
 ghost use Rattle.constraint_set.specs.Shape.{shape_of};
 ghost use Rattle.cert_text.specs.declared.line.Subject.TheVariants.{Kept};
+ghost use Rattle.search_log.specs.Leading.{KeepsLeading};
 ghost use Rattle.search_log.specs.Logging.{LogGoes};
 ghost use Rattle.split_search.specs.Choosing.{IsChoice};
 ghost use Rattle.claim_blocks.specs.Blocks.{settled, KeepsClaims};
@@ -31,6 +32,7 @@ pub(crate) fn settle_kept<L: TreeLog>(
     ensures shape { asker.new.shape ≡ asker.old.shape }
     ensures answer { IfOk result (IsChoice (restricted problem.now kept.now)) }
     ensures keeps { KeepsClaims problem.now result (λ choice more. more ≡ settled (Kept kept.now) choice) (L.lines log.old) (L.lines log.new) asker.old asker.new }
+    ensures leads { KeepsLeading (L.lines log.old) (L.lines log.new) asker.old asker.new }
     ensures log { LogGoes L.drops L.lines L.faults L.steady L.quiet result log.old log.new }
 {
     let subject = Subject::Kept(Flags::new(Vec::from_slice(alloc, kept)?));
@@ -63,6 +65,7 @@ pub(crate) fn try_without<L: TreeLog>(
     ensures shape { asker.new.shape ≡ asker.old.shape }
     ensures after { OnOk result (IsShrunk problem.now (place + 1) kept.new.items families.new.items) }
     ensures keeps { KeepsClaims problem.now result (λ _ more. IsDropped kept.old.items kept.new.items more) (L.lines log.old) (L.lines log.new) asker.old asker.new }
+    ensures leads { KeepsLeading (L.lines log.old) (L.lines log.new) asker.old asker.new }
     ensures log { LogGoes L.drops L.lines L.faults L.steady L.quiet result log.old log.new }
 {
     kept[place] = false;
@@ -112,6 +115,7 @@ pub(crate) fn drop_some<L: TreeLog>(
     ensures upto { IfOk result (λ dropped. dropped ≤ count) }
     ensures cut { IfOk result (IsCut problem.now place kept.old.items kept.new.items) }
     ensures keeps { KeepsClaims problem.now result (λ _ more. IsDropped kept.old.items kept.new.items more) (L.lines log.old) (L.lines log.new) asker.old asker.new }
+    ensures leads { KeepsLeading (L.lines log.old) (L.lines log.new) asker.old asker.new }
     ensures log { LogGoes L.drops L.lines L.faults L.steady L.quiet result log.old log.new }
 {
     if count < 2 {

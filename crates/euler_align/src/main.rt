@@ -100,14 +100,38 @@ fn explain_read(rt: &HostRuntime, words: &[String]) -> io::Result<()> {
     )
 }
 
-// Tells that something can't be written.
-fn explain_write(rt: &impl Eprint, words: &[String]) -> io::Result<()> {
+// The word that gives a file this name; empty where none does.
+fn word_naming<'a>(words: &'a [String], name: &str) -> &'a str {
+    for word in words {
+        for key in ["in=", "resume=", "cert=", "token="] {
+            if word.as_str().strip_prefix(key) == Some(name) {
+                return word.as_str();
+            }
+        }
+    }
+    ""
+}
+
+// Tells that something can't be written, or that two words name one file, which the second would have replaced.
+fn explain_write(
+    rt: &HostRuntime,
+    words: &[String],
+    store: &FileStore<'_, HostRuntime>,
+) -> io::Result<()> {
     let token = value_of(words, "token=");
     let cert = if is_check(words) {
         ""
     } else {
         value_of(words, "cert=")
     };
+    for name in [token, cert] {
+        if let Some(other) = store.kept_as(name) {
+            let (first, second) = (word_naming(words, other), word_naming(words, name));
+            return eprintln!(rt;
+                "{first} and {second} name one file, so what it holds was kept and the run ended there; give another name for what is to be written"
+            );
+        }
+    }
     let (first, second) = (between(token), between(cert));
     eprintln!(rt;
         "standard output{first}{token}{second}{cert} can't be written: whoever read it may have stopped early, as `head` does; or check that the folder exists, that you may write there and that there is room. What was written is not whole"
@@ -166,31 +190,44 @@ fn explain_text(
     show_line(rt, input, line)
 }
 
+// Tells what is wrong with a line of a certificate.
+fn explain_certificate(
+    rt: &impl Eprint,
+    words: &[String],
+    line: u64,
+    sentence: &str,
+    advice: &str,
+) -> io::Result<()> {
+    let name = value_of(words, "cert=");
+    eprintln!(rt; "{name}:{line}: {sentence}{advice}")
+}
+
 // Tells people, on standard error, what an ending means that is not good, and what to do about it.
-fn explain(rt: &HostRuntime, alloc: Global, words: &[String], status: &Status) -> io::Result<()> {
+fn explain(
+    rt: &HostRuntime,
+    words: &[String],
+    store: &FileStore<'_, HostRuntime>,
+    status: &Status,
+) -> io::Result<()> {
+    let alloc = rt.alloc();
     match status {
         Status::Usage(kind) => explain_usage(rt, alloc, words, *kind),
         Status::RefusedText { line, kind } => {
             explain_text(rt, alloc, words, *line, text_help(*kind))
         }
         Status::ReadFault => explain_read(rt, words),
-        Status::WriteFault => explain_write(rt, words),
+        Status::WriteFault => explain_write(rt, words, store),
         Status::RefusedToken(kind) => {
             let name = value_of(words, "resume=");
             let sentence = token_help(*kind);
             eprintln!(rt; "{name}: {sentence}")
         }
         Status::RefusedCert { line, kind } => {
-            let name = value_of(words, "cert=");
-            let sentence = certificate_help(*kind);
-            eprintln!(rt; "{name}:{line}: {sentence}")
+            explain_certificate(rt, words, *line, certificate_help(*kind), "")
         }
         Status::Rejected { line, kind } => {
-            let name = value_of(words, "cert=");
-            let sentence = rejection_help(*kind);
-            eprintln!(rt;
-                "{name}:{line}: {sentence}; check it with the problem and the switches that it was made with"
-            )
+            let advice = "; check it with the problem and the switches that it was made with";
+            explain_certificate(rt, words, *line, rejection_help(*kind), advice)
         }
         Status::NoWorld => {
             let input = value_of(words, "in=");
@@ -207,7 +244,11 @@ fn explain(rt: &HostRuntime, alloc: Global, words: &[String], status: &Status) -
 
 // Does what the words ask for, on the files of the system and standard output. Where no memory is found for the watchers,
 // nothing is done.
-fn run_words(rt: &HostRuntime, words: &[String]) -> Result<Status, AllocError> {
+fn run_words(
+    rt: &HostRuntime,
+    words: &[String],
+    store: &mut FileStore<'_, HostRuntime>,
+) -> Result<Status, AllocError> {
     let alloc = rt.alloc();
     let mut watchers: Vec<Box<dyn WorldWatcher>> = Vec::new(alloc);
     watchers.push(Box::new(alloc, CountWatcher::new(alloc))?)?;
@@ -215,9 +256,8 @@ fn run_words(rt: &HostRuntime, words: &[String]) -> Result<Status, AllocError> {
     watchers.push(Box::new(alloc, SeenWatcher::new(alloc))?)?;
     watchers.push(Box::new(alloc, MergeWatcher::new(alloc))?)?;
     watchers.push(Box::new(alloc, JsonWatcher::new(alloc))?)?;
-    let mut store = FileStore::new(alloc, rt);
     let mut out = StdoutSink::new(rt);
-    Ok(run(alloc, words, &mut store, &mut out, watchers))
+    Ok(run(alloc, words, store, &mut out, watchers))
 }
 
 fn main(rt: HostRuntime) -> ExitCode {
@@ -230,10 +270,11 @@ fn main(rt: HostRuntime) -> ExitCode {
         Ok(words) => words,
         Err(fault) => return ExitCode::from(fault.code()),
     };
-    let Ok(status) = run_words(&rt, &words) else {
+    let mut store = FileStore::new(rt.alloc(), &rt);
+    let Ok(status) = run_words(&rt, &words, &mut store) else {
         return ExitCode::from(NoWords::NoMemory.code());
     };
     // How the run ended doesn't hang on whether this could be written.
-    let _ = explain(&rt, rt.alloc(), &words, &status);
+    let _ = explain(&rt, &words, &store, &status);
     ExitCode::from(status.code())
 }

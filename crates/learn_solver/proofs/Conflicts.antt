@@ -17,15 +17,15 @@ use Rattle.conflict_clause.specs.Taught.{level_in}
 use Rattle.learn_solver.specs.declared.learner.Learner.{Learner}
 use Rattle.learn_solver.specs.Solving.{IsRefutation, AreConsistent}
 use Rattle.learn_solver.specs.Weights.{weight}
-use Rattle.learn_solver.specs.Learners.{seen, guide_of, IsSound, IsNext, IsClosed, Turns, went_back, assumed}
+use Rattle.learn_solver.specs.Learners.{solver_state, guide_of, IsSound, IsNext, IsClosed, Backjumps, backtracked, assumed}
 use Rattle.learn_solver.proofs.TrailLemmas.{true-index, place-take, level-at, level-most, cut-at, places-few, decided-index, place_of-at}
 use Rattle.learn_solver.proofs.Cuts.{false-back, up_to-twice, assumed-past}
-use Rattle.learn_solver.proofs.Guidance.{own-asked, guided-all}
-use Rattle.learn_solver.proofs.Weighing.{weight-turned, weight-longer, weight-one_more}
+use Rattle.learn_solver.proofs.Guidance.{own-assumptions, guided-all}
+use Rattle.learn_solver.proofs.Weighing.{weight-jumped, weight-longer, weight-one_more}
 use Rattle.learn_solver.proofs.Answering.{IsRefutation-closed}
 
 -- a conflict stands at the highest level of its literals
-pub conflict-back : (t : TrailState) (level at : ℕ) → IsTrail t → IsConflict t at → ((lit : ℕ) → Contains (record_at t.records at).lits lit → level_in t.places lit ≤ level) → IsConflict (went_back t level) at
+pub conflict-back : (t : TrailState) (level at : ℕ) → IsTrail t → IsConflict t at → ((lit : ℕ) → Contains (record_at t.records at).lits lit → level_in t.places lit ≤ level) → IsConflict (backtracked t level) at
 conflict-back t level at f c most = record {
   live = c.live;
   all_false = list_all_from (is_false (places_up_to t.places level)) (record_at t.records at).lits 0 (λ k lt.
@@ -34,7 +34,7 @@ conflict-back t level at f c most = record {
 }
 
 -- a false literal keeps its level
-pub level-back : (t : TrailState) (level lit : ℕ) → IsTrail t → IsTrail (went_back t level) → is_false t.places lit ≡ true → level_in t.places lit ≤ level → level_in (places_up_to t.places level) lit ≡ level_in t.places lit
+pub level-back : (t : TrailState) (level lit : ℕ) → IsTrail t → IsTrail (backtracked t level) → is_false t.places lit ≡ true → level_in t.places lit ≤ level → level_in (places_up_to t.places level) lit ≡ level_in t.places lit
 level-back t level lit f g false_there le =
     let found = true-index t.places (negation_of lit) false_there in
     let one : variable_of (place_at t.places found.0).lit ≡ variable_of lit = ap variable_of found.2 ∙ variable_of-negation lit in
@@ -47,11 +47,11 @@ level-back t level lit f g false_there le =
     ] in
     let size : length (places_up_to t.places level) ≡ cut.0 = ap length cut.1.same ∙ (simp length-take (omega arith)) in
     let same : place_at (places_up_to t.places level) found.0 ≡ place_at t.places found.0 = ap (λ (ps : List Place). place_at ps found.0) cut.1.same ∙ place-take t.places cut.0 found.0 early in
-    level-at (went_back t level) found.0 lit g (omega arith) (ap (λ (q : Place). variable_of q.lit) same ∙ one) ∙ ap (λ (q : Place). q.level) same ∙ sym is
+    level-at (backtracked t level) found.0 lit g (omega arith) (ap (λ (q : Place). variable_of q.lit) same ∙ one) ∙ ap (λ (q : Place). q.level) same ∙ sym is
 
 -- where the trail turns there is less to do
-pub Turns-lighter : (t new : TrailState) (level : ℕ) → IsTrail t → level ≤ t.level → Turns (went_back t level) new → weight new.variables new.places < weight t.variables t.places
-Turns-lighter t new level f le turn =
+pub Backjumps-lighter : (t new : TrailState) (level : ℕ) → IsTrail t → level ≤ t.level → Backjumps (backtracked t level) new → weight new.variables new.places < weight t.variables t.places
+Backjumps-lighter t new level f le turn =
     let below = turn.below in
     let cut = cut-at t turn.back f in
     let past = assumed-past t turn.back cut.0 f cut.1 (omega arith) in
@@ -59,7 +59,7 @@ Turns-lighter t new level f le turn =
     let more = past.0 in
     let twice = up_to-twice t turn.back level f (omega arith) in
     let places : new.places ≡ take cut.0 t.places ++ turn.last ∷ [] = turn.places ∙ ap (λ (ps : List Place). ps ++ turn.last ∷ []) (twice ∙ cut.1.same) in
-    let lighter = weight-turned t.variables cut.0 t.places turn.last (omega arith) past.0 past.1 turn.implied in
+    let lighter = weight-jumped t.variables cut.0 t.places turn.last (omega arith) past.0 past.1 turn.implied in
     let is : weight new.variables new.places ≡ weight t.variables (take cut.0 t.places ++ turn.last ∷ []) = ap (λ (n : ℕ). weight n new.places) turn.variables ∙ ap (weight t.variables) places in
     omega arith
 
@@ -80,22 +80,22 @@ assumed-lighter t lit f =
     weight-one_more t.variables t.places new (omega arith)
 
 -- the next assumption is one
-pub next-asked : (l : Learner) (lit : ℕ) → IsNext l lit → Contains l.asked.items lit
-next-asked l lit next = subst (Contains l.asked.items) (sym next.at) (Contains-get_or l.asked.items l.passed 0 next.within)
+pub next-assumptions : (l : Learner) (lit : ℕ) → IsNext l lit → Contains l.assumptions.items lit
+next-assumptions l lit next = subst (Contains l.assumptions.items) (sym next.at) (Contains-get_or l.assumptions.items l.holding 0 next.within)
 
 -- a closed clause refutes, where all levels begin with assumptions
-pub IsRefutation-guided : (l : Learner) (stands : Option ℕ) (id : ℕ) → IsSound l → IsTrail l.trail → l.trail.level ≤ l.guided → ((lit : ℕ) → stands ≡ Some lit → Contains l.asked.items (negation_of lit)) → IsClosed l.trail stands id → IsRefutation (seen l) l.asked.items id
+pub IsRefutation-guided : (l : Learner) (stands : Option ℕ) (id : ℕ) → IsSound l → IsTrail l.trail → l.trail.level ≤ l.guided → ((lit : ℕ) → stands ≡ Some lit → Contains l.assumptions.items (negation_of lit)) → IsClosed l.trail stands id → IsRefutation (solver_state l) l.assumptions.items id
 IsRefutation-guided l stands id s f all standing c =
-    IsRefutation-closed l l.asked.items id c.at s c.within c.named (λ lit has. elim (c.closed lit has) [
+    IsRefutation-closed l l.assumptions.items id c.at s c.within c.named (λ lit has. elim (c.closed lit has) [
       | inl stood ↦ standing lit stood
       | inr decided ↦
           let found = decided-index l.trail.places (negation_of lit) decided in
           let most = level-most l.trail found.0 f found.1 in
-          subst (Contains l.asked.items) found.2 (own-asked l.trail (guide_of l) found.0 f s.guided.marked found.1 found.3 (omega arith))
+          subst (Contains l.assumptions.items) found.2 (own-assumptions l.trail (guide_of l) found.0 f s.guided.marked found.1 found.3 (omega arith))
     ])
 
 -- a false assumption was implied
-pub false-implied : (l : Learner) (lit : ℕ) → IsTrail l.trail → IsSound l → AreConsistent l.asked.items → IsNext l lit → is_false l.trail.places lit ≡ true → reason_of l.trail.places (variable_of lit) ≢ None
+pub false-implied : (l : Learner) (lit : ℕ) → IsTrail l.trail → IsSound l → AreConsistent l.assumptions.items → IsNext l lit → is_false l.trail.places lit ≡ true → reason_of l.trail.places (variable_of lit) ≢ None
 false-implied l lit f s consistent next false_there none =
     let found = true-index l.trail.places (negation_of lit) false_there in
     let one : variable_of (place_at l.trail.places found.0).lit ≡ variable_of lit = ap variable_of found.2 ∙ variable_of-negation lit in
@@ -103,5 +103,5 @@ false-implied l lit f s consistent next false_there none =
     let reason : (place_at l.trail.places found.0).reason ≡ None = sym (ap (λ (o : Option ℕ). option_and_then (λ k. (place_at l.trail.places k).reason) o) place) ∙ none in
     let most = level-most l.trail found.0 f found.1 in
     let guided = guided-all (guide_of l) s.guided next.within in
-    let own = own-asked l.trail (guide_of l) found.0 f s.guided.marked found.1 (ap is_none reason) (omega arith) in
-    consistent lit (next-asked l lit next) (subst (Contains l.asked.items) found.2 own)
+    let own = own-assumptions l.trail (guide_of l) found.0 f s.guided.marked found.1 (ap is_none reason) (omega arith) in
+    consistent lit (next-assumptions l lit next) (subst (Contains l.assumptions.items) found.2 own)

@@ -11,8 +11,8 @@ use Rattle.watch_arena.specs.declared.places.Place.{Place}
 use Rattle.watch_arena.specs.Places.{place_at, no_place, is_true, is_assumed, level_of, places_with}
 use Rattle.watch_arena.specs.Trails.{TrailState, IsTrail, Propagates, places_up_to}
 use Rattle.watch_arena.proofs.Watching.{index_of}
-use Rattle.learn_solver.specs.Guides.{Guide, IsMarked, IsGuided, passed_by, asked_at, lowered, begun}
-use Rattle.learn_solver.specs.Learners.{went_back, assumed}
+use Rattle.learn_solver.specs.Guides.{Guide, IsMarked, IsGuided, holding_by, assumption_at, lowered, begun}
+use Rattle.learn_solver.specs.Learners.{backtracked, assumed}
 use Rattle.learn_solver.proofs.TrailLemmas.{true-index, true-at, place-take, cut-at, level-most, assumed-level, assumed-once}
 use Rattle.learn_solver.proofs.Cuts.{up_to-within, up_to-all, up_to-twice, up_to-true}
 
@@ -50,34 +50,34 @@ front-push : (places : List Place) (new : Place) → take (length places) (place
 front-push places new = take-append-le (length places) places (new ∷ []) (omega arith) ∙ take_all (length places) places (omega arith)
 
 -- a read of the first elements, with a default that is read past them
-read-first : (marks : List ℕ) (level k d : ℕ) → get_or (take level marks) k (get_or marks level d) ≡ get_or marks (min k level) d
-read-first marks zero k d = ap (λ (n : ℕ). get_or marks n d) (let none : 0 ≡ min k 0 = omega arith in none)
+read-first : (holding_before : List ℕ) (level k d : ℕ) → get_or (take level holding_before) k (get_or holding_before level d) ≡ get_or holding_before (min k level) d
+read-first holding_before zero k d = ap (λ (n : ℕ). get_or holding_before n d) (let none : 0 ≡ min k 0 = omega arith in none)
 read-first [] (suc level) k d = refl
-read-first (m ∷ marks) (suc level) zero d = ap (λ (n : ℕ). get_or (m ∷ marks) n d) (let none : 0 ≡ min 0 (suc level) = omega arith in none)
-read-first (m ∷ marks) (suc level) (suc k) d = read-first marks level k d ∙ ap (λ (n : ℕ). get_or (m ∷ marks) n d) (let next : suc (min k level) ≡ min (suc k) (suc level) = omega arith in next)
+read-first (m ∷ holding_before) (suc level) zero d = ap (λ (n : ℕ). get_or (m ∷ holding_before) n d) (let none : 0 ≡ min 0 (suc level) = omega arith in none)
+read-first (m ∷ holding_before) (suc level) (suc k) d = read-first holding_before level k d ∙ ap (λ (n : ℕ). get_or (m ∷ holding_before) n d) (let next : suc (min k level) ≡ min (suc k) (suc level) = omega arith in next)
 
 -- one more element, which is the default
-read-more : (marks : List ℕ) (k d : ℕ) → get_or (marks ++ d ∷ []) k d ≡ get_or marks k d
+read-more : (holding_before : List ℕ) (k d : ℕ) → get_or (holding_before ++ d ∷ []) k d ≡ get_or holding_before k d
 read-more [] zero d = refl
 read-more [] (suc k) d = refl
-read-more (m ∷ marks) zero d = refl
-read-more (m ∷ marks) (suc k) d = read-more marks k d
+read-more (m ∷ holding_before) zero d = refl
+read-more (m ∷ holding_before) (suc k) d = read-more holding_before k d
 
 -- what all levels pass
-passed-all : (g : Guide) (k : ℕ) → IsMarked g → g.guided ≤ k → passed_by g k ≡ g.passed
-passed-all g k m le = let count = m.counted in get_or_past g.marks k g.passed (omega arith)
+holding-all : (g : Guide) (k : ℕ) → IsMarked g → g.guided ≤ k → holding_by g k ≡ g.holding
+holding-all g k m le = let count = m.counted in get_or_past g.holding_before k g.holding (omega arith)
 
 -- at the start
-pub IsGuided-none : (g : Guide) → g.level ≡ 0 → g.guided ≡ 0 → g.passed ≡ 0 → g.marks ≡ [] → IsGuided g
-IsGuided-none g level guided passed marks =
-    let none : (k : ℕ) → passed_by g k ≡ 0 = λ k. ap (λ (ms : List ℕ). get_or ms k g.passed) marks ∙ passed in
+pub IsGuided-none : (g : Guide) → g.level ≡ 0 → g.guided ≡ 0 → g.holding ≡ 0 → g.holding_before ≡ [] → IsGuided g
+IsGuided-none g level guided holding holding_before =
+    let none : (k : ℕ) → holding_by g k ≡ 0 = λ k. ap (λ (ms : List ℕ). get_or ms k g.holding) holding_before ∙ holding in
     record {
       marked = record {
         within = omega arith;
-        counted = ap length marks ∙ sym guided;
+        counted = ap length holding_before ∙ sym guided;
         few = omega arith;
         rising = λ a b le. let low = none a in omega arith;
-        passed = λ k number le lt. let low = none k in absurd (omega arith);
+        holding = λ k number le lt. let low = none k in absurd (omega arith);
         named = λ k lt. absurd (omega arith);
         own = λ p k lt a is below. absurd (omega arith);
       };
@@ -93,9 +93,9 @@ IsMarked-grown g places level m front up new =
       counted = m.counted;
       few = m.few;
       rising = m.rising;
-      passed = λ k number le lt.
-          ap (λ (ps : List Place). is_true (places_up_to ps k) (asked_at g number)) (split-front g.places places front)
-          ∙ up_to-grown g.places (drop (length g.places) places) k (asked_at g number) (m.passed k number le lt);
+      holding = λ k number le lt.
+          ap (λ (ps : List Place). is_true (places_up_to ps k) (assumption_at g number)) (split-front g.places places front)
+          ∙ up_to-grown g.places (drop (length g.places) places) k (assumption_at g number) (m.holding k number le lt);
       named = m.named;
       own = λ p k lt a is below. elim (cases_lt p (length g.places)) [
         | inl early ↦
@@ -106,27 +106,27 @@ IsMarked-grown g places level m front up new =
     }
 
 -- what is known by fewer levels
-pub passed-lowered : (g : Guide) (level k : ℕ) → passed_by (lowered g level) k ≡ passed_by g (min k level)
-passed-lowered g level k = read-first g.marks level k g.passed
+pub holding-lowered : (g : Guide) (level k : ℕ) → holding_by (lowered g level) k ≡ holding_by g (min k level)
+holding-lowered g level k = read-first g.holding_before level k g.holding
 
 pub IsMarked-lowered : (g : Guide) (level : ℕ) → IsMarked g → IsMarked (lowered g level)
 IsMarked-lowered g level m =
     let within = m.within in
     let few = m.few in
     let count = m.counted in
-    let below : (k : ℕ) → k ≤ level → passed_by (lowered g level) k ≡ passed_by g k = λ k le. passed-lowered g level k ∙ (let one : min k level ≡ k = omega arith in ap (passed_by g) one) in
+    let below : (k : ℕ) → k ≤ level → holding_by (lowered g level) k ≡ holding_by g k = λ k le. holding-lowered g level k ∙ (let one : min k level ≡ k = omega arith in ap (holding_by g) one) in
     record {
       within = omega arith;
-      counted = (let size : length (take level g.marks) ≡ _ = length-take level g.marks in omega arith);
-      few = (let most = m.rising level (level + g.guided) (omega arith) in let all = passed-all g (level + g.guided) m (omega arith) in omega arith);
-      rising = λ a b le. let one = passed-lowered g level a in let two = passed-lowered g level b in let up = m.rising (min a level) (min b level) (omega arith) in omega arith;
-      passed = λ k number le lt. let same = below k (omega arith) in m.passed k number (omega arith) (omega arith);
+      counted = (let size : length (take level g.holding_before) ≡ _ = length-take level g.holding_before in omega arith);
+      few = (let most = m.rising level (level + g.guided) (omega arith) in let all = holding-all g (level + g.guided) m (omega arith) in omega arith);
+      rising = λ a b le. let one = holding-lowered g level a in let two = holding-lowered g level b in let up = m.rising (min a level) (min b level) (omega arith) in omega arith;
+      holding = λ k number le lt. let same = below k (omega arith) in m.holding k number (omega arith) (omega arith);
       named = λ k lt. let same = below k (omega arith) in let named = m.named k (omega arith) in omega arith;
-      own = λ p k lt a is up. m.own p k lt a is (omega arith) ∙ ap (asked_at g) (sym (below k (omega arith)));
+      own = λ p k lt a is up. m.own p k lt a is (omega arith) ∙ ap (assumption_at g) (sym (below k (omega arith)));
     }
 
 -- the places past a level that no assumption begins go
-pub IsMarked-back : (t : TrailState) (g : Guide) (level : ℕ) → IsTrail t → g.guided ≤ level → IsMarked (by_trail t g) → IsMarked (by_trail (went_back t level) g)
+pub IsMarked-back : (t : TrailState) (g : Guide) (level : ℕ) → IsTrail t → g.guided ≤ level → IsMarked (by_trail t g) → IsMarked (by_trail (backtracked t level) g)
 IsMarked-back t g level f above m =
     let cut = cut-at t level f in
     let inside = cut.1.within in
@@ -136,9 +136,9 @@ IsMarked-back t g level f above m =
       counted = m.counted;
       few = m.few;
       rising = m.rising;
-      passed = λ k number le lt.
-          ap (λ (ps : List Place). is_true ps (asked_at g number)) (up_to-twice t k level f (omega arith))
-          ∙ m.passed k number le lt;
+      holding = λ k number le lt.
+          ap (λ (ps : List Place). is_true ps (assumption_at g number)) (up_to-twice t k level f (omega arith))
+          ∙ m.holding k number le lt;
       named = m.named;
       own = λ p k lt a is below.
           let same : place_at (places_up_to t.places level) p ≡ place_at t.places p = ap (λ (ps : List Place). place_at ps p) cut.1.same ∙ place-take t.places cut.0 p (omega arith) in
@@ -146,44 +146,44 @@ IsMarked-back t g level f above m =
     }
 
 -- one level more begins with the next assumption
-pub IsMarked-begun : (t : TrailState) (g : Guide) (p : ℕ) → IsTrail t → IsMarked (by_trail t g) → p < length t.places → is_assumed (place_at t.places p) ≡ true → (place_at t.places p).level ≡ g.guided + 1 → (place_at t.places p).lit ≡ asked_at g g.passed → g.passed < length g.asked → IsMarked (by_trail t (begun g))
+pub IsMarked-begun : (t : TrailState) (g : Guide) (p : ℕ) → IsTrail t → IsMarked (by_trail t g) → p < length t.places → is_assumed (place_at t.places p) ≡ true → (place_at t.places p).level ≡ g.guided + 1 → (place_at t.places p).lit ≡ assumption_at g g.holding → g.holding < length g.assumptions → IsMarked (by_trail t (begun g))
 IsMarked-begun t g p f m lt a level lit next =
     let most = level-most t p f lt in
     let count = m.counted in
-    let same : (k : ℕ) → passed_by (begun g) k ≡ passed_by g k = λ k. read-more g.marks k g.passed in
-    let all : (k : ℕ) → g.guided ≤ k → passed_by g k ≡ g.passed = λ k le. passed-all (by_trail t g) k m le in
+    let same : (k : ℕ) → holding_by (begun g) k ≡ holding_by g k = λ k. read-more g.holding_before k g.holding in
+    let all : (k : ℕ) → g.guided ≤ k → holding_by g k ≡ g.holding = λ k le. holding-all (by_trail t g) k m le in
     record {
       within = omega arith;
-      counted = length_push g.marks g.passed ∙ (omega arith);
+      counted = length_push g.holding_before g.holding ∙ (omega arith);
       few = m.few;
       rising = λ x y le. let one = same x in let two = same y in let up = m.rising x y le in omega arith;
-      passed = λ k number le below. let one = same k in elim (cases_lt g.guided k) [
+      holding = λ k number le below. let one = same k in elim (cases_lt g.guided k) [
         | inl more ↦
             let here = all k (omega arith) in
             let there = all g.guided (omega arith) in
-            up_to-within t g.guided k (asked_at g number) f (omega arith) (m.passed g.guided number (omega arith) (omega arith))
-        | inr few ↦ m.passed k number few (omega arith)
+            up_to-within t g.guided k (assumption_at g number) f (omega arith) (m.holding g.guided number (omega arith) (omega arith))
+        | inr few ↦ m.holding k number few (omega arith)
       ];
       named = λ k below. let one = same k in elim (cases_lt k g.guided) [
         | inl few ↦ let named = m.named k few in omega arith
         | inr more ↦ let here = all k more in omega arith
       ];
       own = λ q k within on is below. elim (cases_lt k g.guided) [
-        | inl few ↦ m.own q k within on is few ∙ ap (asked_at g) (sym (same k))
+        | inl few ↦ m.own q k within on is few ∙ ap (assumption_at g) (sym (same k))
         | inr more ↦
             let once = assumed-once t q p f within lt on a (omega arith) in
-            ap (λ (n : ℕ). (place_at t.places n).lit) once ∙ lit ∙ ap (asked_at g) (sym (same k ∙ all k more))
+            ap (λ (n : ℕ). (place_at t.places n).lit) once ∙ lit ∙ ap (assumption_at g) (sym (same k ∙ all k more))
       ];
     }
 
--- one assumption more is passed
-pub IsMarked-passed : (g : Guide) → IsMarked g → g.passed < length g.asked → is_true (places_up_to g.places g.guided) (asked_at g g.passed) ≡ true → IsMarked (record g { passed = g.passed + 1 })
-IsMarked-passed g m next on =
-    let new : Guide = record g { passed = g.passed + 1 } in
+-- one assumption more holds
+pub IsMarked-holding : (g : Guide) → IsMarked g → g.holding < length g.assumptions → is_true (places_up_to g.places g.guided) (assumption_at g g.holding) ≡ true → IsMarked (record g { holding = g.holding + 1 })
+IsMarked-holding g m next on =
+    let new : Guide = record g { holding = g.holding + 1 } in
     let count = m.counted in
-    let below : (k : ℕ) → k < g.guided → passed_by new k ≡ passed_by g k = λ k lt. get_or_default g.marks k (g.passed + 1) g.passed (omega arith) in
-    let above : (k : ℕ) → g.guided ≤ k → passed_by new k ≡ g.passed + 1 = λ k le. get_or_past g.marks k (g.passed + 1) (omega arith) in
-    let all : (k : ℕ) → passed_by g k ≤ g.passed = λ k. let up = m.rising k (k + g.guided) (omega arith) in let most = passed-all g (k + g.guided) m (omega arith) in omega arith in
+    let below : (k : ℕ) → k < g.guided → holding_by new k ≡ holding_by g k = λ k lt. get_or_default g.holding_before k (g.holding + 1) g.holding (omega arith) in
+    let above : (k : ℕ) → g.guided ≤ k → holding_by new k ≡ g.holding + 1 = λ k le. get_or_past g.holding_before k (g.holding + 1) (omega arith) in
+    let all : (k : ℕ) → holding_by g k ≤ g.holding = λ k. let up = m.rising k (k + g.guided) (omega arith) in let most = holding-all g (k + g.guided) m (omega arith) in omega arith in
     record {
       within = m.within;
       counted = m.counted;
@@ -195,31 +195,31 @@ IsMarked-passed g m next on =
           | inr past ↦ let one = above a past in omega arith
         ]
       ];
-      passed = λ k number le lt. elim (cases_lt k g.guided) [
-        | inl low ↦ let one = below k low in m.passed k number le (omega arith)
+      holding = λ k number le lt. elim (cases_lt k g.guided) [
+        | inl low ↦ let one = below k low in m.holding k number le (omega arith)
         | inr high ↦
             let same : k ≡ g.guided = omega arith in
             let one = above k high in
-            let here = passed-all g k m high in
-            elim (cases_lt number g.passed) [
-              | inl early ↦ m.passed k number le (omega arith)
+            let here = holding-all g k m high in
+            elim (cases_lt number g.holding) [
+              | inl early ↦ m.holding k number le (omega arith)
               | inr last ↦
-                  let it : number ≡ g.passed = omega arith in
-                  ap (λ (n : ℕ). is_true (places_up_to g.places n) (asked_at g number)) same ∙ ap (λ (n : ℕ). is_true (places_up_to g.places g.guided) (asked_at g n)) it ∙ on
+                  let it : number ≡ g.holding = omega arith in
+                  ap (λ (n : ℕ). is_true (places_up_to g.places n) (assumption_at g number)) same ∙ ap (λ (n : ℕ). is_true (places_up_to g.places g.guided) (assumption_at g n)) it ∙ on
             ]
       ];
       named = λ k lt. let one = below k lt in let named = m.named k lt in omega arith;
-      own = λ p k lt a is up. m.own p k lt a is up ∙ ap (asked_at g) (sym (below k up));
+      own = λ p k lt a is up. m.own p k lt a is up ∙ ap (assumption_at g) (sym (below k up));
     }
 
 -- other assumptions, of which the first are the same, where all levels begin with one of these
-pub IsMarked-asked : (g : Guide) (asked : List ℕ) (n : ℕ) → IsMarked g → n ≤ length asked → ((k : ℕ) → k < n → get_or asked k 0 ≡ asked_at g k) → ((k : ℕ) → k < g.guided → passed_by g k < n) → IsMarked (record g { asked = asked; passed = min g.passed n })
-IsMarked-asked g asked n m le same first =
-    let new : Guide = record g { asked = asked; passed = min g.passed n } in
+pub IsMarked-assumptions : (g : Guide) (assumptions : List ℕ) (n : ℕ) → IsMarked g → n ≤ length assumptions → ((k : ℕ) → k < n → get_or assumptions k 0 ≡ assumption_at g k) → ((k : ℕ) → k < g.guided → holding_by g k < n) → IsMarked (record g { assumptions = assumptions; holding = min g.holding n })
+IsMarked-assumptions g assumptions n m le same first =
+    let new : Guide = record g { assumptions = assumptions; holding = min g.holding n } in
     let count = m.counted in
-    let below : (k : ℕ) → k < g.guided → passed_by new k ≡ passed_by g k = λ k lt. get_or_default g.marks k (min g.passed n) g.passed (omega arith) in
-    let above : (k : ℕ) → g.guided ≤ k → passed_by new k ≡ min g.passed n = λ k le. get_or_past g.marks k (min g.passed n) (omega arith) in
-    let all : (k : ℕ) → passed_by g k ≤ g.passed = λ k. let up = m.rising k (k + g.guided) (omega arith) in let most = passed-all g (k + g.guided) m (omega arith) in omega arith in
+    let below : (k : ℕ) → k < g.guided → holding_by new k ≡ holding_by g k = λ k lt. get_or_default g.holding_before k (min g.holding n) g.holding (omega arith) in
+    let above : (k : ℕ) → g.guided ≤ k → holding_by new k ≡ min g.holding n = λ k le. get_or_past g.holding_before k (min g.holding n) (omega arith) in
+    let all : (k : ℕ) → holding_by g k ≤ g.holding = λ k. let up = m.rising k (k + g.guided) (omega arith) in let most = holding-all g (k + g.guided) m (omega arith) in omega arith in
     record {
       within = m.within;
       counted = m.counted;
@@ -231,17 +231,17 @@ IsMarked-asked g asked n m le same first =
           | inr past ↦ let one = above a past in omega arith
         ]
       ];
-      passed = λ k number le lt. elim (cases_lt k g.guided) [
+      holding = λ k number le lt. elim (cases_lt k g.guided) [
         | inl low ↦
             let one = below k low in let few = first k low in
-            ap (is_true (places_up_to g.places k)) (same number (omega arith)) ∙ m.passed k number le (omega arith)
+            ap (is_true (places_up_to g.places k)) (same number (omega arith)) ∙ m.holding k number le (omega arith)
         | inr high ↦
-            let one = above k high in let here = passed-all g k m high in
-            ap (is_true (places_up_to g.places k)) (same number (omega arith)) ∙ m.passed k number le (omega arith)
+            let one = above k high in let here = holding-all g k m high in
+            ap (is_true (places_up_to g.places k)) (same number (omega arith)) ∙ m.holding k number le (omega arith)
       ];
       named = λ k lt. let one = below k lt in let few = first k lt in omega arith;
       own = λ p k lt a is up.
-          m.own p k lt a is up ∙ sym (same (passed_by g k) (first k up)) ∙ ap (λ (i : ℕ). get_or asked i 0) (sym (below k up));
+          m.own p k lt a is up ∙ sym (same (holding_by g k) (first k up)) ∙ ap (λ (i : ℕ). get_or assumptions i 0) (sym (below k up));
     }
 
 -- more places, of which none begins a level
@@ -265,14 +265,14 @@ IsGuided-implied g last h implied =
     (λ p le lt a. true≢false (sym a ∙ ap is_assumed (get_or_push g.places last no_place p (omega arith)) ∙ implied))
 
 -- going back keeps what is known up to the level
-pub IsGuided-back : (t : TrailState) (g : Guide) (level : ℕ) → IsTrail t → level ≤ t.level → IsGuided (by_trail t g) → IsGuided (lowered (by_trail (went_back t level) g) level)
+pub IsGuided-back : (t : TrailState) (g : Guide) (level : ℕ) → IsTrail t → level ≤ t.level → IsGuided (by_trail t g) → IsGuided (lowered (by_trail (backtracked t level) g) level)
 IsGuided-back t g level f le h = record {
   marked = IsMarked-back t (lowered g level) level f (omega arith) (IsMarked-lowered (by_trail t g) level h.marked);
-  free = λ lt. passed-all (by_trail t g) level h.marked (omega arith) ∙ h.free (omega arith);
+  free = λ lt. holding-all (by_trail t g) level h.marked (omega arith) ∙ h.free (omega arith);
 }
 
--- also where not all assumptions are passed, by all levels that begin with one
-pub IsGuided-stopped : (t : TrailState) (g : Guide) → IsTrail t → IsMarked (by_trail t g) → IsGuided (lowered (by_trail (went_back t g.guided) g) g.guided)
+-- also where not all assumptions hold, by all levels that begin with one
+pub IsGuided-stopped : (t : TrailState) (g : Guide) → IsTrail t → IsMarked (by_trail t g) → IsGuided (lowered (by_trail (backtracked t g.guided) g) g.guided)
 IsGuided-stopped t g f m = record {
   marked = IsMarked-back t (lowered g g.guided) g.guided f (omega arith) (IsMarked-lowered (by_trail t g) g.guided m);
   free = λ lt. absurd (omega arith);
@@ -292,12 +292,12 @@ IsMarked-assumed t g lit m =
     let level : (place_at (assumed t lit).places p).level ≡ t.level + 1 = ap (λ (q : Place). q.level) (get_or_push t.places new no_place p (omega arith)) in
     omega arith)
 
--- a literal is decided where all assumptions are passed
-pub IsGuided-decided : (t : TrailState) (g : Guide) (lit : ℕ) → IsGuided (by_trail t g) → g.passed ≡ length g.asked → IsGuided (by_trail (assumed t lit) g)
+-- a literal is decided where all assumptions hold
+pub IsGuided-decided : (t : TrailState) (g : Guide) (lit : ℕ) → IsGuided (by_trail t g) → g.holding ≡ length g.assumptions → IsGuided (by_trail (assumed t lit) g)
 IsGuided-decided t g lit h all = record { marked = IsMarked-assumed t g lit h.marked; free = λ lt. all }
 
 -- the next assumption is assumed
-pub IsGuided-assumed : (t : TrailState) (g : Guide) (lit : ℕ) → IsTrail (assumed t lit) → IsGuided (by_trail t g) → g.passed < length g.asked → lit ≡ asked_at g g.passed → IsGuided (by_trail (assumed t lit) (record g { guided = t.level + 1; marks = g.marks ++ g.passed ∷ [] }))
+pub IsGuided-assumed : (t : TrailState) (g : Guide) (lit : ℕ) → IsTrail (assumed t lit) → IsGuided (by_trail t g) → g.holding < length g.assumptions → lit ≡ assumption_at g g.holding → IsGuided (by_trail (assumed t lit) (record g { guided = t.level + 1; holding_before = g.holding_before ++ g.holding ∷ [] }))
 IsGuided-assumed t g lit f h next is =
     let new : Place = record { lit = lit; level = t.level + 1; reason = None } in
     let size : length (t.places ++ new ∷ []) ≡ length t.places + 1 = length_push t.places new in
@@ -309,12 +309,12 @@ IsGuided-assumed t g lit f h next is =
     ] in
     let marked = IsMarked-begun (assumed t lit) g (length t.places) f (IsMarked-assumed t g lit h.marked) (omega arith) (ap is_assumed there) (ap (λ (q : Place). q.level) there ∙ (omega arith)) (ap (λ (q : Place). q.lit) there ∙ is) next in
     record {
-      marked = subst (λ (n : ℕ). IsMarked (by_trail (assumed t lit) (record g { guided = n + 1; marks = g.marks ++ g.passed ∷ [] }))) guided marked;
+      marked = subst (λ (n : ℕ). IsMarked (by_trail (assumed t lit) (record g { guided = n + 1; holding_before = g.holding_before ++ g.holding ∷ [] }))) guided marked;
       free = λ lt. absurd (omega arith);
     }
 
--- the levels that begin with assumptions are all, where not all assumptions are passed
-pub guided-all : (g : Guide) → IsGuided g → g.passed < length g.asked → g.guided ≡ g.level
+-- the levels that begin with assumptions are all, where not all assumptions hold
+pub guided-all : (g : Guide) → IsGuided g → g.holding < length g.assumptions → g.guided ≡ g.level
 guided-all g h next =
     let within = h.marked.within in
     elim (cases_lt g.guided g.level) [
@@ -322,31 +322,31 @@ guided-all g h next =
       | inr all ↦ omega arith
     ]
 
--- one assumption more is true, and passed
-pub IsGuided-passed : (t : TrailState) (g : Guide) → IsTrail t → IsGuided (by_trail t g) → g.passed < length g.asked → is_true t.places (asked_at g g.passed) ≡ true → IsGuided (by_trail t (record g { passed = g.passed + 1 }))
-IsGuided-passed t g f h next on =
+-- one assumption more is true, and counted
+pub IsGuided-holding : (t : TrailState) (g : Guide) → IsTrail t → IsGuided (by_trail t g) → g.holding < length g.assumptions → is_true t.places (assumption_at g g.holding) ≡ true → IsGuided (by_trail t (record g { holding = g.holding + 1 }))
+IsGuided-holding t g f h next on =
     let all = guided-all (by_trail t g) h next in
     record {
-      marked = IsMarked-passed (by_trail t g) h.marked next (ap (λ (ps : List Place). is_true ps (asked_at g g.passed)) (up_to-all t g.guided f (omega arith)) ∙ on);
+      marked = IsMarked-holding (by_trail t g) h.marked next (ap (λ (ps : List Place). is_true ps (assumption_at g g.holding)) (up_to-all t g.guided f (omega arith)) ∙ on);
       free = λ lt. absurd (omega arith);
     }
 
 -- an assumed place of a known level is an assumption's
-pub own-asked : (t : TrailState) (g : Guide) (p : ℕ) → IsTrail t → IsMarked (by_trail t g) → p < length t.places → is_assumed (place_at t.places p) ≡ true → (place_at t.places p).level ≤ g.guided → Contains g.asked (place_at t.places p).lit
-own-asked t g p f m lt a le =
+pub own-assumptions : (t : TrailState) (g : Guide) (p : ℕ) → IsTrail t → IsMarked (by_trail t g) → p < length t.places → is_assumed (place_at t.places p) ≡ true → (place_at t.places p).level ≤ g.guided → Contains g.assumptions (place_at t.places p).lit
+own-assumptions t g p f m lt a le =
     let level = assumed-level t p f lt a in
     let k : ℕ = (place_at t.places p).level - 1 in
     let is : (place_at t.places p).level ≡ k + 1 = omega arith in
     let at = m.own p k lt a is (omega arith) in
-    subst (Contains g.asked) (sym at) (Contains-get_or g.asked (passed_by g k) 0 (m.named k (omega arith)))
+    subst (Contains g.assumptions) (sym at) (Contains-get_or g.assumptions (holding_by g k) 0 (m.named k (omega arith)))
 
--- where all are passed, all are true
-pub passed-true : (t : TrailState) (g : Guide) (lit : ℕ) → IsTrail t → IsMarked (by_trail t g) → g.passed ≡ length g.asked → Contains g.asked lit → is_true t.places lit ≡ true
-passed-true t g lit f m all has =
-    let index = index_of g.asked lit has in
-    let here = passed-all (by_trail t g) g.guided m (omega arith) in
+-- where all are counted, all are true
+pub holding-true : (t : TrailState) (g : Guide) (lit : ℕ) → IsTrail t → IsMarked (by_trail t g) → g.holding ≡ length g.assumptions → Contains g.assumptions lit → is_true t.places lit ≡ true
+holding-true t g lit f m all has =
+    let index = index_of g.assumptions lit has in
+    let here = holding-all (by_trail t g) g.guided m (omega arith) in
     let below = index.1 in
-    up_to-true t g.guided lit f (ap (is_true (places_up_to t.places g.guided)) (sym index.2) ∙ m.passed g.guided index.0 (omega arith) (omega arith))
+    up_to-true t g.guided lit f (ap (is_true (places_up_to t.places g.guided)) (sym index.2) ∙ m.holding g.guided index.0 (omega arith) (omega arith))
 
 -- places whose reasons have other names: the same literals are true
 true-renamed : (name : ℕ → Option ℕ) (places : List Place) (lit : ℕ) → is_true (places_with name places) lit ≡ is_true places lit
@@ -404,11 +404,11 @@ IsGuided-renamed t u g name f other places level h =
         counted = m.counted;
         few = m.few;
         rising = m.rising;
-        passed = λ k number le lt.
-            ap (λ (ps : List Place). is_true (places_up_to ps k) (asked_at g number)) places
-            ∙ ap (λ (ps : List Place). is_true ps (asked_at g number)) (up_to-renamed name t.places k)
-            ∙ true-renamed name (places_up_to t.places k) (asked_at g number)
-            ∙ m.passed k number le lt;
+        holding = λ k number le lt.
+            ap (λ (ps : List Place). is_true (places_up_to ps k) (assumption_at g number)) places
+            ∙ ap (λ (ps : List Place). is_true ps (assumption_at g number)) (up_to-renamed name t.places k)
+            ∙ true-renamed name (places_up_to t.places k) (assumption_at g number)
+            ∙ m.holding k number le lt;
         named = m.named;
         own = λ p k lt a is below.
             let same = at p (omega arith) in

@@ -1,5 +1,5 @@
 -- What a hint's clause does, literal by literal, and what hints come to one after the other.
-use Rattle.std.proofs.Common.{◌≡◌, ◌≢◌, ◌∙◌, ℕ, ◌+◌, ◌<◌, ◌≤◌, Bool, true, false, ◌||◌, eqb, List, [], ◌∷◌, ◌++◌, length, get_or, take, drop, Option, Some, None, inl, inr, refl, sym, ap, subst, arith}
+use Rattle.std.proofs.Common.{◌≡◌, ◌≢◌, ◌∙◌, ℕ, ◌+◌, ◌<◌, ◌≤◌, Bool, true, false, ◌||◌, eqb, List, [], ◌∷◌, ◌++◌, map, length, get_or, take, drop, Option, Some, None, inl, inr, refl, sym, ap, subst, arith}
 use Rattle.std.specs.Prelude.{MatchOption}
 use Rattle.std.proofs.Math.Bool.{or_comm, or-false}
 use Rattle.std.proofs.lemmas.Bool.{cases_lt, eq-eqb, ne_eqb}
@@ -22,7 +22,7 @@ use Rattle.learn_solver.specs.declared.learner.Learner.{Learner}
 use Rattle.learn_solver.specs.Solving.{SolverState}
 use Rattle.learn_solver.specs.Hints.{Suffice, AddsLine}
 use Rattle.learn_solver.specs.States.{state_of, idle_of}
-use Rattle.learn_solver.specs.Learners.{seen, IsSound, AreRecords, IsPut}
+use Rattle.learn_solver.specs.Learners.{solver_state, IsSound, AreRecords, IsPut}
 use Rattle.learn_solver.proofs.SameStates.{SameLits-permuted}
 use Rattle.learn_solver.proofs.RecordLemmas.{live-at, HoldsRecords-state, fresh-free}
 
@@ -235,7 +235,7 @@ end-fault records given lits hints falses place r come le e =
     cc
 
 -- a clause that was put is the live one of its id
-pub live-put : (l : Learner) (lits clause : List ℕ) (at id : ℕ) → IsSound l → IsPut l.trail clause at → clause ≡ lits → id ≡ (record_at l.trail.records at).id → MatchOption (live_clause (seen l).state id) ⊥ (SameLits lits)
+pub live-put : (l : Learner) (lits clause : List ℕ) (at id : ℕ) → IsSound l → IsPut l.trail clause at → clause ≡ lits → id ≡ (record_at l.trail.records at).id → MatchOption (live_clause (solver_state l).state id) ⊥ (SameLits lits)
 live-put l lits clause at id s put same is =
     let found : live_clause (state_of l.trail.records l.given) id ≡ Some (record_at l.trail.records at).lits =
     ap (live_clause (state_of l.trail.records l.given)) is ∙ live-at l.trail.records l.given at s.records put.within in
@@ -250,10 +250,11 @@ seen_by t given waiting = record {
   state = state_of t.records given;
   waiting = waiting;
   idle = idle_of t.places t.records given;
+  assigned = map (λ p. p.lit) t.places;
 }
 
 -- it stays where these stay
-pub seen-held : (old new : Learner) → new.trail ≡ old.trail → new.given ≡ old.given → new.waiting.items ≡ old.waiting.items → seen new ≡ seen old
+pub seen-held : (old new : Learner) → new.trail ≡ old.trail → new.given ≡ old.given → new.waiting.items ≡ old.waiting.items → solver_state new ≡ solver_state old
 unfolding seen_by
 seen-held old new trail given waiting =
     ap (λ (t : TrailState). seen_by t new.given new.waiting.items) trail
@@ -261,7 +262,7 @@ seen-held old new trail given waiting =
     ∙ ap (seen_by old.trail old.given) waiting
 
 -- the line of one derived clause more
-pub AddsLine-noted : (old new : Learner) (lits hints : List ℕ) (at id : ℕ) → IsSound old → Adds old.trail new.trail lits id → at ≡ length old.trail.records → id ≡ old.last + 1 → new.waiting.items ≡ old.waiting.items ++ Derive id lits hints ∷ [] → AddsLine (seen old) (seen new) lits hints (record_at new.trail.records at).id
+pub AddsLine-noted : (old new : Learner) (lits hints : List ℕ) (at id : ℕ) → IsSound old → Adds old.trail new.trail lits id → at ≡ length old.trail.records → id ≡ old.last + 1 → new.waiting.items ≡ old.waiting.items ++ Derive id lits hints ∷ [] → AddsLine (solver_state old) (solver_state new) lits hints (record_at new.trail.records at).id
 AddsLine-noted old new lits hints at id s adds first fresh waiting =
     let there : record_at (old.trail.records ++ new_record id lits ∷ []) at ≡ new_record id lits =
     ap (record_at (old.trail.records ++ new_record id lits ∷ [])) first ∙ record_at-new old.trail.records (new_record id lits) in

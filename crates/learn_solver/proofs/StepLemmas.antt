@@ -1,6 +1,7 @@
 -- Steps of the search, one after another.
 use Rattle.std.proofs.Common.{◌≡◌, ◌∙◌, ℕ, zero, suc, ◌+◌, ◌<◌, ◌≤◌, List, [], ◌∷◌, ◌++◌, length, get_or, None, refl, sym, ap, subst, arith}
-use Rattle.std.proofs.lemmas.List.Elements.{Contains-get_or}
+use Rattle.std.specs.List.{All}
+use Rattle.std.proofs.lemmas.List.Elements.{Contains-get_or, All-append}
 use Rattle.lits_core.specs.Derivation.{State, SameState, live_clause, line_fault, hints_fault, next_state, DerivedFollow}
 use Rattle.lits_core.specs.declared.Line.{Line}
 use Rattle.lits_core.specs.declared.Line.TheVariants.{Derive}
@@ -13,7 +14,7 @@ use Rattle.learn_solver.specs.declared.learner.Learner.{Learner}
 use Rattle.learn_solver.specs.Solving.{FromOne, GoesTo}
 use Rattle.learn_solver.specs.Guides.{Guide, IsGuided}
 use Rattle.learn_solver.specs.States.{state_of}
-use Rattle.learn_solver.specs.Learners.{seen, guide_of, IsSound, AreRecords, Steps, GoesBack}
+use Rattle.learn_solver.specs.Learners.{solver_state, guide_of, IsSound, AreRecords, Steps, Backtracks}
 use Rattle.learn_solver.proofs.SameStates.{SameState-records}
 use Rattle.learn_solver.proofs.RecordLemmas.{AreRecords-same, AreUpTo-same, AreUpTo-more, AreNoted-same, AreRecords-pushed, AreNoted-pushed, HoldsRecords-state, fresh-free, state-pushed, live-within}
 use Rattle.learn_solver.proofs.Goings.{GoesTo-same, GoesTo-trans}
@@ -22,9 +23,9 @@ use Rattle.learn_solver.proofs.Guidance.{IsGuided-back}
 pub Steps-trans : (one two three : Learner) → Steps one two → Steps two three → Steps one three
 Steps-trans one two three h k = record {
   sound = k.sound;
-  goes = GoesTo-trans (seen one) (seen two) (seen three) h.goes k.goes;
+  goes = GoesTo-trans (solver_state one) (solver_state two) (solver_state three) h.goes k.goes;
   variables = k.variables ∙ h.variables;
-  asked = k.asked ∙ h.asked;
+  assumptions = k.assumptions ∙ h.assumptions;
 }
 
 -- clauses, variables and lines stay
@@ -50,6 +51,7 @@ IsSound-moved old new s k g = record {
   order = ap length k.order ∙ s.order ∙ sym k.trail_variables;
   records = rw (k.records, k.given) s.records;
   last = rw (k.records, k.last) s.last;
+  waiting = subst (All FromOne) (sym k.waiting) s.waiting;
   noted = rw (k.records, k.given, k.order) s.noted;
   guided = g;
 }
@@ -57,19 +59,19 @@ IsSound-moved old new s k g = record {
 pub IsSound-kept : (old new : Learner) → IsSound old → Keeps old new → guide_of new ≡ guide_of old → IsSound new
 IsSound-kept old new s k e = IsSound-moved old new s k (subst IsGuided (sym e) s.guided)
 
-pub GoesTo-kept : (old new : Learner) → Keeps old new → GoesTo (seen old) (seen new)
-GoesTo-kept old new k = GoesTo-same (seen old) (seen new) k.trail_variables k.waiting (same_state old.trail.records new.trail.records old.given new.given k.records k.given)
+pub GoesTo-kept : (old new : Learner) → Keeps old new → GoesTo (solver_state old) (solver_state new)
+GoesTo-kept old new k = GoesTo-same (solver_state old) (solver_state new) k.trail_variables k.waiting (same_state old.trail.records new.trail.records old.given new.given k.records k.given)
 
-pub Steps-moved : (old new : Learner) → IsSound old → Keeps old new → new.asked.items ≡ old.asked.items → IsGuided (guide_of new) → Steps old new
-Steps-moved old new s k asked g = record {
+pub Steps-moved : (old new : Learner) → IsSound old → Keeps old new → new.assumptions.items ≡ old.assumptions.items → IsGuided (guide_of new) → Steps old new
+Steps-moved old new s k assumptions g = record {
   sound = IsSound-moved old new s k g;
   goes = GoesTo-kept old new k;
   variables = k.trail_variables;
-  asked = asked;
+  assumptions = assumptions;
 }
 
 pub Steps-kept : (old new : Learner) → IsSound old → Keeps old new → guide_of new ≡ guide_of old → Steps old new
-Steps-kept old new s k e = Steps-moved old new s k (ap (λ (g : Guide). g.asked) e) (subst IsGuided (sym e) s.guided)
+Steps-kept old new s k e = Steps-moved old new s k (ap (λ (g : Guide). g.assumptions) e) (subst IsGuided (sym e) s.guided)
 
 pub Steps-refl : (l : Learner) → IsSound l → Steps l l
 Steps-refl l s = Steps-kept l l s (record { records = refl; trail_variables = refl; variables = refl; analyzer = refl; order = refl; given = refl; last = refl; waiting = refl }) refl
@@ -105,6 +107,7 @@ Steps-noted old new id lits hints s taught fresh last adds variables analyzer or
     let pushed : state_of (old.trail.records ++ new_record id lits ∷ []) old.given ≡ next_state (state_of old.trail.records old.given) (Derive id lits hints) = state-pushed old.trail.records old.given id lits hints enough in
     let follow : DerivedFollow (state_of (old.trail.records ++ new_record id lits ∷ []) old.given) =
     subst (λ (st : State). DerivedFollow st) (sym pushed) (DerivedFollow-next (state_of old.trail.records old.given) (Derive id lits hints) s.records.follow fault) in
+    let one : FromOne (Derive id lits hints) = line-from_one old.trail old.given id lits hints s.records taught (omega arith) in
     let mid = AreRecords-pushed old.trail.records old.given old.last id lits s.records s.last (omega arith) follow in
     let after : SameState (next_state (state_of old.trail.records old.given) (Derive id lits hints)) (state_of new.trail.records old.given) =
     subst (λ (st : State). SameState st (state_of new.trail.records old.given)) pushed (SameState-records (old.trail.records ++ new_record id lits ∷ []) new.trail.records old.given adds.records) in
@@ -115,6 +118,7 @@ Steps-noted old new id lits hints s taught fresh last adds variables analyzer or
         order = ap length order ∙ s.order ∙ sym adds.variables;
         records = rw given (AreRecords-same (old.trail.records ++ new_record id lits ∷ []) new.trail.records old.given mid adds.records);
         last = AreUpTo-same (old.trail.records ++ new_record id lits ∷ []) new.trail.records new.last (AreUpTo-more old.trail.records old.last new.last id lits s.last (omega arith) (omega arith)) adds.records;
+        waiting = subst (All FromOne) (sym waiting) (All-append FromOne old.waiting.items (Derive id lits hints ∷ []) s.waiting (λ k d lt. one_line (Derive id lits hints) k d one lt));
         noted = rw (given, order) (AreNoted-same (old.trail.records ++ new_record id lits ∷ []) new.trail.records old.given old.order (AreNoted-pushed old.trail.records (new_record id lits) old.given old.order enough s.noted) adds.records);
         guided = subst IsGuided (sym guide) s.guided;
       };
@@ -126,14 +130,14 @@ Steps-noted old new id lits hints s taught fresh last adds variables analyzer or
           valid = rw fault refl;
           after = subst (λ (n : ℕ). SameState (next_state (state_of old.trail.records old.given) (Derive id lits hints)) (state_of new.trail.records n)) (sym given) after;
         };
-        from_one = λ k d lt. one_line (Derive id lits hints) k d (line-from_one old.trail old.given id lits hints s.records taught (omega arith)) lt;
+        from_one = λ k d lt. one_line (Derive id lits hints) k d one lt;
       };
       variables = adds.variables;
-      asked = ap (λ (g : Guide). g.asked) guide;
+      assumptions = ap (λ (g : Guide). g.assumptions) guide;
     }
 
 -- the trail goes back to a level
-pub Steps-back : (old new : Learner) (level : ℕ) → IsSound old → IsTrail old.trail → level ≤ old.trail.level → GoesBack old new level → Steps old new
+pub Steps-back : (old new : Learner) (level : ℕ) → IsSound old → IsTrail old.trail → level ≤ old.trail.level → Backtracks old new level → Steps old new
 Steps-back old new level s f le e = Steps-moved old new s (record {
   records = ap (λ (l : Learner). l.trail.records) e.same;
   trail_variables = ap (λ (l : Learner). l.trail.variables) e.same;
@@ -144,7 +148,7 @@ Steps-back old new level s f le e = Steps-moved old new s (record {
   last = ap (λ (l : Learner). l.last) e.same;
   waiting = ap (λ (l : Learner). l.waiting.items) e.same;
 })
-    (ap (λ (l : Learner). l.asked.items) e.same)
+    (ap (λ (l : Learner). l.assumptions.items) e.same)
     (subst IsGuided (sym e.guide) (IsGuided-back old.trail (guide_of old) level f le s.guided))
 
 -- only the trail changes, and of it only places and level
@@ -152,8 +156,8 @@ pub Steps-trail : (old : Learner) (t : TrailState) → IsSound old → t.records
 Steps-trail old t s records variables g = Steps-moved old (record old { trail = t }) s (record { records = records; trail_variables = variables; variables = refl; analyzer = refl; order = refl; given = refl; last = refl; waiting = refl }) refl g
 
 -- only what is known of the assumptions changes
-pub Steps-passed : (old new : Learner) → IsSound old → new ≡ record old { passed = new.passed } → IsGuided (guide_of new) → Steps old new
-Steps-passed old new s e g = Steps-moved old new s (record {
+pub Steps-holding : (old new : Learner) → IsSound old → new ≡ record old { holding = new.holding } → IsGuided (guide_of new) → Steps old new
+Steps-holding old new s e g = Steps-moved old new s (record {
   records = ap (λ (l : Learner). l.trail.records) e;
   trail_variables = ap (λ (l : Learner). l.trail.variables) e;
   variables = ap (λ (l : Learner). l.variables) e;
@@ -162,4 +166,4 @@ Steps-passed old new s e g = Steps-moved old new s (record {
   given = ap (λ (l : Learner). l.given) e;
   last = ap (λ (l : Learner). l.last) e;
   waiting = ap (λ (l : Learner). l.waiting.items) e;
-}) (ap (λ (l : Learner). l.asked.items) e) g
+}) (ap (λ (l : Learner). l.assumptions.items) e) g

@@ -45,13 +45,13 @@ weight-one_more (suc n) [] p lt =
 weight-one_more (suc n) (q ∷ places) p lt = let rest = weight-one_more n places p (omega arith) in omega arith
 
 -- where an assumed place becomes implied, the rest does not matter
-pub weight-turned : (n q : ℕ) (places : List Place) (last : Place) → q < n → q < length places → is_assumed (place_at places q) ≡ true → is_assumed last ≡ false → weight n (take q places ++ last ∷ []) < weight n places
-weight-turned zero q places last lt within on off = absurd (omega arith)
-weight-turned (suc n) q [] last lt within on off = absurd (omega arith)
-weight-turned (suc n) zero (p ∷ places) last lt within on off =
+pub weight-jumped : (n q : ℕ) (places : List Place) (last : Place) → q < n → q < length places → is_assumed (place_at places q) ≡ true → is_assumed last ≡ false → weight n (take q places ++ last ∷ []) < weight n places
+weight-jumped zero q places last lt within on off = absurd (omega arith)
+weight-jumped (suc n) q [] last lt within on off = absurd (omega arith)
+weight-jumped (suc n) zero (p ∷ places) last lt within on off =
     let some = weight-some n places in
     let none = weight-none n in
     let big : cond (is_assumed p) (3 ^ n) 0 ≡ 3 ^ n = ap (λ (b : Bool). cond b (3 ^ n) 0) on in
     let small : cond (is_assumed last) (3 ^ n) 0 ≡ 0 = ap (λ (b : Bool). cond b (3 ^ n) 0) off in
     omega arith
-weight-turned (suc n) (suc q) (p ∷ places) last lt within on off = let rest = weight-turned n q places last (omega arith) (omega arith) on off in omega arith
+weight-jumped (suc n) (suc q) (p ∷ places) last lt within on off = let rest = weight-jumped n q places last (omega arith) (omega arith) on off in omega arith

@@ -1,5 +1,5 @@
 -- The parts of a solver: what is so of them, and what its steps keep.
-use Rattle.std.specs.Prelude.{◌≡◌, ℕ, ◌+◌, ◌*◌, ◌<◌, ◌≤◌, ◌⊎◌, Bool, true, false, List, [], ◌∷◌, ◌++◌, length, min, Option, Some, None, Contains, IsPermutation, slice_index_or}
+use Rattle.std.specs.Prelude.{◌≡◌, ℕ, ◌+◌, ◌*◌, ◌<◌, ◌≤◌, ◌⊎◌, Bool, true, false, List, [], ◌∷◌, ◌++◌, length, map, min, Option, Some, None, All, Contains, IsPermutation, slice_index_or}
 use Rattle.lits_core.specs.Literals.{variable_of, is_negative}
 use Rattle.lits_core.specs.Derivation.{DerivedFollow}
 use Rattle.clause_arena.specs.Records.{Record, record_at, forgotten}
@@ -9,30 +9,31 @@ use Rattle.watch_arena.specs.Trails.{TrailState, places_up_to}
 use Rattle.conflict_clause.specs.Taught.{AreClosed}
 use Rattle.learn_solver.specs.declared.learner.Learner.{Learner}
 use Rattle.learn_solver.specs.declared.solver.Answer.{Answer}
-use Rattle.learn_solver.specs.Solving.{SolverState, GoesTo}
+use Rattle.learn_solver.specs.Solving.{SolverState, FromOne, GoesTo}
 use Rattle.learn_solver.specs.Answers.{IsAnswer}
 use Rattle.learn_solver.specs.States.{state_of, idle_of, is_reason}
 use Rattle.learn_solver.specs.Weights.{weight}
 use Rattle.learn_solver.specs.Guides.{Guide, IsGuided, lowered}
 
--- the public part
-abbrev pub seen : Learner → SolverState
-seen l = record {
+-- what the public sees
+abbrev pub solver_state : Learner → SolverState
+solver_state l = record {
   variables = l.trail.variables;
   state = state_of l.trail.records l.given;
   waiting = l.waiting.items;
   idle = idle_of l.trail.places l.trail.records l.given;
+  assigned = map (λ p. p.lit) l.trail.places;
 }
 
--- what it knows of the assumptions that were asked last
+-- what it knows of the assumptions
 abbrev pub guide_of : Learner → Guide
 guide_of l = record {
   places = l.trail.places;
   level = l.trail.level;
-  asked = l.asked.items;
-  passed = l.passed;
+  assumptions = l.assumptions.items;
+  holding = l.holding;
   guided = l.guided;
-  marks = l.marks.items;
+  holding_before = l.holding_before.items;
 }
 
 -- records, of which the first ones are given clauses: all are live, and their ids ascend; those of the given ones are 1, 2
@@ -68,32 +69,33 @@ pub record IsSound (l : Learner) : Type 0 where
   pub order : length l.order ≡ l.trail.variables
   pub records : AreRecords l.trail.records l.given
   pub last : AreUpTo l.trail.records l.last
+  pub waiting : All FromOne l.waiting.items
   pub noted : AreNoted l.trail.records l.given l.order
   pub guided : IsGuided (guide_of l)
 
 -- what each step keeps
 pub record Steps (old new : Learner) : Type 0 where
   pub sound : IsSound new
-  pub goes : GoesTo (seen old) (seen new)
+  pub goes : GoesTo (solver_state old) (solver_state new)
   pub variables : new.trail.variables ≡ old.trail.variables
-  pub asked : new.asked.items ≡ old.asked.items
+  pub assumptions : new.assumptions.items ≡ old.assumptions.items
 
 -- the trail after going back to a level
-abbrev pub went_back : TrailState → ℕ → TrailState
-went_back t level = record t { places = places_up_to t.places level; level = level }
+abbrev pub backtracked : TrailState → ℕ → TrailState
+backtracked t level = record t { places = places_up_to t.places level; level = level }
 
 -- only what is known of the assumptions changes: it is that up to a level
 pub record Lowers (old new : Learner) (level : ℕ) : Type 0 where
-  pub same : new ≡ record old { passed = new.passed; guided = min old.guided level; marks = new.marks }
+  pub same : new ≡ record old { holding = new.holding; guided = min old.guided level; holding_before = new.holding_before }
   pub guide : guide_of new ≡ lowered (guide_of old) level
 
 -- the trail goes back to a level, and what is known of the assumptions up to it stays known
-pub record GoesBack (old new : Learner) (level : ℕ) : Type 0 where
-  pub same : new ≡ record old { trail = went_back old.trail level; passed = new.passed; guided = min old.guided level; marks = new.marks }
-  pub guide : guide_of new ≡ lowered (guide_of (record old { trail = went_back old.trail level })) level
+pub record Backtracks (old new : Learner) (level : ℕ) : Type 0 where
+  pub same : new ≡ record old { trail = backtracked old.trail level; holding = new.holding; guided = min old.guided level; holding_before = new.holding_before }
+  pub guide : guide_of new ≡ lowered (guide_of (record old { trail = backtracked old.trail level })) level
 
 -- the places up to a level below stay, and one more is implied
-pub record Turns (old new : TrailState) : Type 0 where
+pub record Backjumps (old new : TrailState) : Type 0 where
   pub back : ℕ
   pub last : Place
   pub below : back < old.level
@@ -127,12 +129,12 @@ KeepsRest old new = new ≡ record old { trail = new.trail; waiting = new.waitin
 -- a step of the search has an answer, or goes on with less to do
 abbrev pub Serves : Learner → Learner → Option Answer → Type 0
 Serves old new None = weight new.trail.variables new.trail.places < weight old.trail.variables old.trail.places
-Serves old new (Some answer) = IsAnswer (seen new) old.asked.items answer
+Serves old new (Some answer) = IsAnswer (solver_state new) old.assumptions.items answer
 
--- a literal is the first assumption that is not passed
+-- a literal is the first assumption that is not known to hold
 pub record IsNext (l : Learner) (lit : ℕ) : Type 0 where
-  pub within : l.passed < length l.asked.items
-  pub at : lit ≡ slice_index_or l.asked.items l.passed 0
+  pub within : l.holding < length l.assumptions.items
+  pub at : lit ≡ slice_index_or l.assumptions.items l.holding 0
 
 -- a literal is assumed on a new level
 abbrev pub assumed : TrailState → ℕ → TrailState
@@ -144,6 +146,6 @@ pub record AreBits (t : TrailState) (bits : List Bool) : Type 0 where
   pub each : (variable : ℕ) → slice_index_or bits variable false ≡ is_true t.places (2 * variable)
 
 -- the trail stays or goes back, and what is known of the assumptions was found anew
-pub record Passes (old new : Learner) : Type 0 where
-  pub same : new ≡ record old { trail = record old.trail { places = new.trail.places; level = new.trail.level }; passed = new.passed; guided = new.guided; marks = new.marks }
+pub record Reuses (old new : Learner) : Type 0 where
+  pub same : new ≡ record old { trail = record old.trail { places = new.trail.places; level = new.trail.level }; holding = new.holding; guided = new.guided; holding_before = new.holding_before }
   pub guided : IsGuided (guide_of new)

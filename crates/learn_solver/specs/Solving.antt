@@ -7,13 +7,15 @@ use Rattle.lits_core.specs.Literals.{negation_of, lit_true, meets_all}
 pub use Rattle.lits_core.specs.Derivation.{FromOne}
 use Rattle.lits_core.specs.Derivation.{State, live_clause, derived_clause, state_after, is_valid_derivation, has_distinct_ids, DerivedFollow, SameState}
 
--- the number of variables, the given clauses and the derived ones with their ids, the lines that wait to be taken, and the
--- ids of the idle clauses: the derived ones that are the reason of no literal
+-- the number of variables, the given clauses and the derived ones with their ids, the lines that wait to be taken, the ids
+-- of the idle clauses (the derived ones that are the reason of no literal), and the literals that are held true, in the
+-- order in which they became so
 pub record SolverState : Type 0 where
   pub variables : ℕ
   pub state : State
   pub waiting : List Line
   pub idle : List ℕ
+  pub assigned : List ℕ
 
 -- lines lead from one state to another: they are valid in turn, and the last state has the same clauses, as sets
 pub record Leads (one : State) (lines : List Line) (other : State) : Type 0 where
@@ -28,12 +30,13 @@ pub record GoesTo (old new : SolverState) : Type 0 where
   pub leads : Leads old.state added new.state
   pub from_one : All FromOne added
 
--- what is so of a solver at any time: its derived clauses follow from the given ones, ids are distinct and at least 1, and
--- each idle id is that of a derived clause, none twice
+-- what is so of a solver at any time: its derived clauses follow from the given ones, ids are distinct, they are at least 1
+-- in the lines that wait too, and each idle id is that of a derived clause, none twice
 pub record IsSolver (s : SolverState) : Type 0 where
   pub follow : DerivedFollow s.state
   pub distinct : IsTrue (has_distinct_ids s.state)
   pub from_one : All (λ entry. 1 ≤ entry.0) s.state.derived
+  pub waiting_from_one : All FromOne s.waiting
   pub idle_derived : (id : ℕ) → Contains s.idle id → MatchOption (derived_clause s.state.derived id) ⊥ (λ c. Unit {0})
   pub idle_once : AllPairs (λ a b. a ≢ b) s.idle
 
@@ -49,12 +52,13 @@ abbrev pub forgetting : List ℕ → List Line
 forgetting [] = []
 forgetting (id ∷ ids) = Forget (id ∷ ids) ∷ []
 
--- the idle clauses are forgotten, and the line that says so waits last
+-- the idle clauses are forgotten, the line that says so waits last, and what is held true stays so
 pub record IsTidied (old new : SolverState) : Type 0 where
   pub variables : new.variables ≡ old.variables
   pub idle : new.idle ≡ []
   pub waiting : new.waiting ≡ old.waiting ++ forgetting old.idle
   pub state : SameState (state_after old.state (forgetting old.idle)) new.state
+  pub assigned : new.assigned ≡ old.assigned
 
 -- no literal stands beside its negation
 abbrev pub AreConsistent : List ℕ → Type 0

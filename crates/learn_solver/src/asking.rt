@@ -11,64 +11,64 @@ use std::alloc::AllocError;
 
 impl Learner {
     ghost use Rattle.learn_solver.specs.Solving.{GoesTo};
-    ghost use Rattle.learn_solver.specs.Guides.{IsMarked, passed_by, begun};
-    ghost use Rattle.learn_solver.specs.Learners.{seen, guide_of, IsSound, IsNext, Passes};
+    ghost use Rattle.learn_solver.specs.Guides.{IsMarked, holding_by, begun};
+    ghost use Rattle.learn_solver.specs.Learners.{solver_state, guide_of, IsSound, IsNext, Reuses};
 
-    // How many of the first assumptions are those that were asked last.
+    // How many of the first assumptions are those of the last call.
     fn agreed(&self, assumptions: &[Lit], more: &[Lit]) -> usize
-        ensures asked { result ≤ length self.now.asked.items }
+        ensures assumptions { result ≤ length self.now.assumptions.items }
         ensures within { result ≤ length (assumptions.now ++ more.now) }
-        ensures same { take result self.now.asked.items ≡ take result (assumptions.now ++ more.now) }
+        ensures same { take result self.now.assumptions.items ≡ take result (assumptions.now ++ more.now) }
     {
-        let first = common_len(&self.asked, assumptions);
+        let first = common_len(&self.assumptions, assumptions);
         if first < assumptions.len() {
             return first;
         }
-        first + common_len(&self.asked[first..], more)
+        first + common_len(&self.assumptions[first..], more)
     }
 
     // How many of the first levels begin with one of the first assumptions.
     fn level_of_first(&self, agreed: usize) -> u32
         requires { IsMarked (guide_of self.now) }
         ensures within { result ≤ self.now.guided }
-        ensures first { (level : ℕ) → level < result → passed_by (guide_of self.now) level < agreed }
+        ensures first { (level : ℕ) → level < result → holding_by (guide_of self.now) level < agreed }
     {
         let mut level = self.guided;
-        while level > 0 && self.marks[(level - 1) as usize] >= agreed {
+        while level > 0 && self.holding_before[(level - 1) as usize] >= agreed {
             level -= 1;
         }
         level
     }
 
-    // The assumptions that were asked last are these now, of which the first agree.
-    fn note_asked(
+    // These are the assumptions now, of which the first agree with those of the last call.
+    fn note_assumptions(
         &mut self,
         assumptions: &[Lit],
         more: &[Lit],
         agreed: usize,
     ) -> Result<(), AllocError>
-        requires asked { agreed ≤ length self.old.asked.items }
+        requires assumptions { agreed ≤ length self.old.assumptions.items }
         requires within { agreed ≤ length (assumptions.now ++ more.now) }
-        requires same { take agreed self.old.asked.items ≡ take agreed (assumptions.now ++ more.now) }
-        ensures same { self.new ≡ record self.old { asked = self.new.asked; passed = min self.old.passed agreed } }
-        ensures agreed { (n : ℕ) × (agreed ≤ n) × (n ≤ length (assumptions.now ++ more.now)) × (self.new.asked.items ≡ take n (assumptions.now ++ more.now)) }
-        ensures ok { OnOk result (self.new.asked.items ≡ assumptions.now ++ more.now) }
+        requires same { take agreed self.old.assumptions.items ≡ take agreed (assumptions.now ++ more.now) }
+        ensures same { self.new ≡ record self.old { assumptions = self.new.assumptions; holding = min self.old.holding agreed } }
+        ensures agreed { (n : ℕ) × (agreed ≤ n) × (n ≤ length (assumptions.now ++ more.now)) × (self.new.assumptions.items ≡ take n (assumptions.now ++ more.now)) }
+        ensures ok { OnOk result (self.new.assumptions.items ≡ assumptions.now ++ more.now) }
     {
         let first = agreed.min(assumptions.len());
-        self.passed = self.passed.min(agreed);
-        self.asked.truncate(agreed);
-        self.asked.extend_from_slice(&assumptions[first..])?;
-        self.asked.extend_from_slice(&more[agreed - first..])
+        self.holding = self.holding.min(agreed);
+        self.assumptions.truncate(agreed);
+        self.assumptions.extend_from_slice(&assumptions[first..])?;
+        self.assumptions.extend_from_slice(&more[agreed - first..])
     }
 
     // Notes that the next level begins with the next assumption. False where memory is wanting.
     fn begin(&mut self, level: u32) -> bool
         requires { level ≡ self.old.guided + 1 }
-        ensures same { self.new ≡ record self.old { guided = self.new.guided; marks = self.new.marks } }
+        ensures same { self.new ≡ record self.old { guided = self.new.guided; holding_before = self.new.holding_before } }
         ensures begun { IsTrue result → guide_of self.new ≡ begun (guide_of self.old) }
         ensures stopped { result ≡ false → guide_of self.new ≡ guide_of self.old }
     {
-        if self.marks.push(self.passed).is_err() {
+        if self.holding_before.push(self.holding).is_err() {
             return false;
         }
         self.guided = level;
@@ -80,7 +80,7 @@ impl Learner {
         requires range { variable_of lit < self.old.trail.variables }
         requires next { IsNext self.old lit }
         requires marked { IsMarked (guide_of self.old) }
-        ensures same { self.new ≡ record self.old { guided = self.new.guided; marks = self.new.marks } }
+        ensures same { self.new ≡ record self.old { guided = self.new.guided; holding_before = self.new.holding_before } }
         ensures marked { IsMarked (guide_of self.new) }
         ensures followed { IsTrue result → is_true (places_up_to self.new.trail.places self.new.guided) lit ≡ true }
     {
@@ -102,21 +102,21 @@ impl Learner {
         false
     }
 
-    // Passes the assumptions that the trail follows, and goes back to the first that it does not.
-    fn pass(&mut self)
-        requires range { AreInRange self.old.asked.items self.old.trail.variables }
+    // Keeps the trail as far as it follows the assumptions, and goes back to the first that it does not.
+    fn reuse_trail(&mut self)
+        requires range { AreInRange self.old.assumptions.items self.old.trail.variables }
         requires marked { IsMarked (guide_of self.old) }
-        ensures { Passes self.old self.new }
+        ensures { Reuses self.old self.new }
     {
         self.facts();
-        while self.passed < self.asked.len() {
-            let lit = self.asked[self.passed];
+        while self.holding < self.assumptions.len() {
+            let lit = self.assumptions[self.holding];
             if !self.follows(lit) {
                 let level = self.guided;
-                self.drop_above(level);
+                self.cancel_until(level);
                 return;
             }
-            self.passed += 1;
+            self.holding += 1;
         }
     }
 
@@ -125,14 +125,14 @@ impl Learner {
         requires sound { IsSound self.old }
         requires range { AreInRange (assumptions.now ++ more.now) self.old.trail.variables }
         ensures sound { IsSound self.new }
-        ensures goes { GoesTo (seen self.old) (seen self.new) }
-        ensures ok { OnOk result (self.new.asked.items ≡ assumptions.now ++ more.now) }
+        ensures goes { GoesTo (solver_state self.old) (solver_state self.new) }
+        ensures ok { OnOk result (self.new.assumptions.items ≡ assumptions.now ++ more.now) }
     {
         let agreed = self.agreed(assumptions, more);
         let level = self.level_of_first(agreed);
         self.lower(level);
-        let noted = self.note_asked(assumptions, more, agreed);
-        self.pass();
+        let noted = self.note_assumptions(assumptions, more, agreed);
+        self.reuse_trail();
         noted
     }
 }

@@ -24,12 +24,12 @@ pub(crate) struct Learner {
     // The largest id that was ever given.
     pub(crate) last: u64,
     pub(crate) waiting: Vec<Line>,
-    // The assumptions that were asked last, and how many of the first are known to be true.
-    pub(crate) asked: Vec<Lit>,
-    pub(crate) passed: usize,
-    // How many of the first levels begin with an assumption, and the number of the one that begins each.
+    // The assumptions of the last call, and how many of the first are known to hold.
+    pub(crate) assumptions: Vec<Lit>,
+    pub(crate) holding: usize,
+    // How many of the first levels begin with an assumption, and for each of these how many assumptions hold before it.
     pub(crate) guided: u32,
-    pub(crate) marks: Vec<usize>,
+    pub(crate) holding_before: Vec<usize>,
     pub(crate) alloc: Global,
 }
 
@@ -44,10 +44,10 @@ impl Drop for Learner {
             given: _,
             last: _,
             waiting: _,
-            asked: _,
-            passed: _,
+            assumptions: _,
+            holding: _,
             guided: _,
-            marks: _,
+            holding_before: _,
             alloc: _,
         } = self;
     }
@@ -56,11 +56,11 @@ impl Drop for Learner {
 impl Learner {
     ghost use Rattle.learn_solver.specs.Solving.{AddsGiven};
     ghost use Rattle.learn_solver.specs.Hints.{AddsLine};
-    ghost use Rattle.learn_solver.specs.Learners.{seen, IsSound, Steps, Lowers, GoesBack, IsPut, KeepsPlaces, KeepsRest};
+    ghost use Rattle.learn_solver.specs.Learners.{solver_state, IsSound, Steps, Lowers, Backtracks, IsPut, KeepsPlaces, KeepsRest};
 
     pub(crate) fn new(alloc: Global, variables: u32) -> Result<Learner, AllocError>
         ensures sound { IfOk result (λ l. IsSound l) }
-        ensures empty { IfOk result (λ l. seen l ≡ record { variables = variables; state = first_state []; waiting = []; idle = [] }) }
+        ensures empty { IfOk result (λ l. solver_state l ≡ record { variables = variables; state = first_state []; waiting = []; idle = []; assigned = [] }) }
     {
         Ok(Learner {
             trail: Trail::new(alloc, variables)?,
@@ -70,10 +70,10 @@ impl Learner {
             given: 0,
             last: 0,
             waiting: Vec::new(alloc),
-            asked: Vec::new(alloc),
-            passed: 0,
+            assumptions: Vec::new(alloc),
+            holding: 0,
             guided: 0,
-            marks: Vec::new(alloc),
+            holding_before: Vec::new(alloc),
             alloc,
         })
     }
@@ -85,22 +85,22 @@ impl Learner {
         self.trail.facts();
     }
 
-    // Adds a given clause and answers its id.
+    // Adds a given clause and answers its id. All memory is taken before anything changes.
     pub(crate) fn add(&mut self, lits: &[Lit]) -> Result<u64, AllocError>
         requires sound { IsSound self.old }
         requires range { AreInRange lits.now self.old.trail.variables }
-        requires first { (seen self.old).state.derived ≡ [] }
+        requires first { (solver_state self.old).state.derived ≡ [] }
         ensures sound { IsSound self.new }
-        ensures id { IfOk result (λ id. id ≡ length (seen self.old).state.given + 1) }
-        ensures ok { OnOk result (AddsGiven (seen self.old) (seen self.new) lits.now) }
-        ensures err { OnErr result (seen self.new ≡ seen self.old) }
+        ensures id { IfOk result (λ id. id ≡ length (solver_state self.old).state.given + 1) }
+        ensures ok { OnOk result (AddsGiven (solver_state self.old) (solver_state self.new) lits.now) }
+        ensures err { OnErr result (solver_state self.new ≡ solver_state self.old) }
     {
-        self.go_back(0);
         let id = next_id(self.given as u64)?;
         self.trail.add(lits, id)?;
         self.given = self.trail.arena().count();
         self.last = self.last.max(id);
         self.note_variables(lits);
+        self.backtrack(0);
         Ok(id)
     }
 
@@ -120,48 +120,48 @@ impl Learner {
     }
 
     // The trail goes back to a level.
-    pub(crate) fn go_back(&mut self, level: u32)
+    pub(crate) fn backtrack(&mut self, level: u32)
         requires sound { IsSound self.old }
         requires level { level ≤ self.old.trail.level }
         ensures steps { Steps self.old self.new }
-        ensures back { GoesBack self.old self.new level }
+        ensures back { Backtracks self.old self.new level }
     {
         self.facts();
-        self.drop_above(level);
+        self.cancel_until(level);
     }
 
     // The places above a level go, and what is known of the assumptions by them.
-    pub(crate) fn drop_above(&mut self, level: u32)
+    pub(crate) fn cancel_until(&mut self, level: u32)
         requires level { level ≤ self.old.trail.level }
-        requires counted { length self.old.marks.items ≡ self.old.guided }
-        ensures { GoesBack self.old self.new level }
+        requires counted { length self.old.holding_before.items ≡ self.old.guided }
+        ensures { Backtracks self.old self.new level }
     {
-        self.free_above(level);
+        self.unassign_above(level);
         self.trail.undo_to(level);
         self.lower(level);
     }
 
     // Of the assumptions only that stays known which is so by the levels up to this one.
     pub(crate) fn lower(&mut self, level: u32)
-        requires { length self.old.marks.items ≡ self.old.guided }
+        requires { length self.old.holding_before.items ≡ self.old.guided }
         ensures { Lowers self.old self.new level }
     {
         if level < self.guided {
-            self.passed = self.marks[level as usize];
-            self.marks.truncate(level as usize);
+            self.holding = self.holding_before[level as usize];
+            self.holding_before.truncate(level as usize);
             self.guided = level;
         }
     }
 
     // The variables above a level may be decided again.
-    fn free_above(&mut self, level: u32)
+    fn unassign_above(&mut self, level: u32)
         ensures { self.new ≡ self.old }
     {
         for place in (0..self.trail.place_count()).rev() {
             if self.trail.level_on(place) <= level {
                 return;
             }
-            self.order.free(self.trail.lit_on(place));
+            self.order.unassign(self.trail.lit_on(place));
         }
     }
 
@@ -173,8 +173,8 @@ impl Learner {
         ensures kept { KeepsPlaces self.old.trail self.new.trail }
         ensures same { KeepsRest self.old self.new }
         ensures put { IfOk result (λ at. IsPut self.new.trail lits at) }
-        ensures line { IfOk result (λ at. AddsLine (seen self.old) (seen self.new) lits hints (record_at self.new.trail.records at).id) }
-        ensures err { OnErr result (seen self.new ≡ seen self.old) }
+        ensures line { IfOk result (λ at. AddsLine (solver_state self.old) (solver_state self.new) lits hints (record_at self.new.trail.records at).id) }
+        ensures err { OnErr result (solver_state self.new ≡ solver_state self.old) }
     {
         let at = self.keep(lits.lits())?;
         self.waiting.push_reserved(Line::Derive {

@@ -18,7 +18,7 @@ const LITERALS: u32 = 1 << 31;
 #[derive(Drop)]
 pub(crate) struct Order {
     noted: Vec<bool>,
-    values: Vec<bool>,
+    phases: Vec<bool>,
     heap: Heap,
     // Noted variables are below it. They are few beside all: of the others no value is ever looked for.
     end: usize,
@@ -44,7 +44,7 @@ impl Order {
         let room = variables as usize;
         Ok(Order {
             noted: vec![in alloc; false; room]?,
-            values: vec![in alloc; false; room]?,
+            phases: vec![in alloc; false; room]?,
             heap: Heap::new(alloc, variables)?,
             end: 0,
         })
@@ -62,19 +62,19 @@ impl Order {
     }
 
     // The variables of a conflict become more active, and later ones count more.
-    pub(crate) fn met(&mut self, variables: &[u32])
+    pub(crate) fn bump(&mut self, variables: &[u32])
         ensures { self.new ≡ self.old }
     {
         self.heap.bump_all(variables);
     }
 
     // A literal is true no more.
-    pub(crate) fn free(&mut self, lit: Lit)
+    pub(crate) fn unassign(&mut self, lit: Lit)
         ensures { self.new ≡ self.old }
     {
         let index = lit.variable() as usize;
-        if index < self.values.len() {
-            self.values[index] = !lit.is_negative();
+        if index < self.phases.len() {
+            self.phases[index] = !lit.is_negative();
         }
         if index < self.noted.len() && self.noted[index] {
             self.heap.push(lit.variable());
@@ -91,16 +91,16 @@ impl Order {
             Some(variable) => variable,
             None => unassigned(&self.noted, self.end, trail)?,
         };
-        Some(literal(variable, &self.values))
+        Some(literal(variable, &self.phases))
     }
 }
 
 // The literal of a variable with the value that it had last.
-fn literal(variable: u32, values: &[bool]) -> Lit
+fn literal(variable: u32, phases: &[bool]) -> Lit
     requires { variable < 2 ^ 31 }
     ensures { variable_of result ≡ variable }
 {
-    let positive = values.get(variable as usize).copied().unwrap_or(false);
+    let positive = phases.get(variable as usize).copied().unwrap_or(false);
     Lit::new(variable, !positive)
 }
 

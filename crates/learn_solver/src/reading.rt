@@ -13,7 +13,7 @@ use lits_core::Lit;
 
 impl Learner {
     ghost use Rattle.learn_solver.specs.States.{is_reason};
-    ghost use Rattle.learn_solver.specs.Learners.{seen, IsSound};
+    ghost use Rattle.learn_solver.specs.Learners.{solver_state, IsSound};
 
     // The number of the place of a literal's variable; none where it is unassigned.
     pub(crate) fn place_of(&self, lit: Lit) -> Option<usize>
@@ -145,7 +145,7 @@ impl Learner {
     // The record of the live clause with an id.
     pub(crate) fn find(&self, id: u64) -> Option<Ref>
         requires { IsSound self.now }
-        ensures clause { MatchOption result (live_clause (seen self.now).state id ≡ None) (λ at. (at < length self.now.trail.records) × (live_clause (seen self.now).state id ≡ Some (record_at self.now.trail.records at).lits)) }
+        ensures clause { MatchOption result (live_clause (solver_state self.now).state id ≡ None) (λ at. (at < length self.now.trail.records) × (live_clause (solver_state self.now).state id ≡ Some (record_at self.now.trail.records at).lits)) }
         ensures named { IfSome result (λ at. (record_at self.now.trail.records at).id ≡ id) }
     {
         let at = self.trail.arena().nth(self.first_from(id))?;
@@ -193,7 +193,7 @@ impl Learner {
     // How many derived clauses are the reason of no literal.
     pub(crate) fn idle(&self) -> u64
         requires { IsSound self.now }
-        ensures { result ≡ length (seen self.now).idle }
+        ensures { result ≡ length (solver_state self.now).idle }
     {
         let arena = self.trail.arena();
         let mut count = 0;
@@ -210,7 +210,7 @@ impl Learner {
     // Whether more derived clauses than so many are the reason of no literal. Where no more are there, none is looked at.
     pub(crate) fn has_more_idle(&self, most: u64) -> bool
         requires { IsSound self.now }
-        ensures { result ≡ nat_lt most (length (seen self.now).idle) }
+        ensures { result ≡ nat_lt most (length (solver_state self.now).idle) }
     {
         self.facts();
         let derived = (self.trail.arena().count() - self.given) as u64;

@@ -15,7 +15,7 @@ use std::alloc::AllocError;
 impl Learner {
     ghost use Rattle.learn_solver.specs.Solving.{GoesTo, AreConsistent};
     ghost use Rattle.learn_solver.specs.Answers.{IsAnswer};
-    ghost use Rattle.learn_solver.specs.Learners.{seen, IsSound, Steps, Turns, IsClosed, KeepsPlaces, KeepsRest, Serves, IsNext, AreBits};
+    ghost use Rattle.learn_solver.specs.Learners.{solver_state, IsSound, Steps, Backjumps, IsClosed, KeepsPlaces, KeepsRest, Serves, IsNext, AreBits};
 
     // Learns from a conflict at a level, and goes back to where the learnt clause implies its first literal.
     fn learn(&mut self, at: Ref) -> Result<(), AllocError>
@@ -24,21 +24,21 @@ impl Learner {
         requires at_the_level { (lit : ℕ) × Contains (record_at self.old.trail.records at).lits lit × (level_in self.old.trail.places lit ≡ self.old.trail.level) }
         requires level { 0 < self.old.trail.level }
         ensures steps { Steps self.old self.new }
-        ensures turned { OnOk result (Turns self.old.trail self.new.trail) }
+        ensures jumped { OnOk result (Backjumps self.old.trail self.new.trail) }
     {
         self.facts();
-        let learnt = self.analyzer.learn(&self.trail, at)?;
-        self.order.met(self.analyzer.met());
+        let learnt = self.analyzer.analyze(&self.trail, at)?;
+        self.order.bump(self.analyzer.seen());
         let first = learnt.lits.lits()[0];
         let back = learnt.back;
         let at = self.note(learnt.lits, learnt.hints)?;
-        self.go_back(back);
+        self.backtrack(back);
         self.trail.imply(first, at);
         Ok(())
     }
 
     // The id of a clause that assumed literals make false, which a conflict shows.
-    fn close(&mut self, at: Ref) -> Result<u64, AllocError>
+    fn analyze_final(&mut self, at: Ref) -> Result<u64, AllocError>
         requires sound { IsSound self.old }
         requires conflict { IsConflict self.old.trail at }
         ensures steps { Steps self.old self.new }
@@ -49,14 +49,14 @@ impl Learner {
         if self.is_closed(at, &None) {
             return Ok(self.trail.arena().id_of(at));
         }
-        let closing = self.analyzer.close(&self.trail, at)?;
-        self.order.met(self.analyzer.met());
+        let closing = self.analyzer.analyze_final(&self.trail, at)?;
+        self.order.bump(self.analyzer.seen());
         let noted = self.note(closing.lits, closing.hints)?;
         Ok(self.trail.arena().id_of(noted))
     }
 
     // The id of a clause that assumed literals and this one, which is false, make false.
-    fn close_false(&mut self, lit: Lit) -> Result<u64, AllocError>
+    fn analyze_final_lit(&mut self, lit: Lit) -> Result<u64, AllocError>
         requires sound { IsSound self.old }
         requires false_there { IsTrue (is_false self.old.trail.places lit) }
         requires implied { reason_of self.old.trail.places (variable_of lit) ≢ None }
@@ -72,14 +72,14 @@ impl Learner {
                 return Ok(self.trail.arena().id_of(at));
             }
         }
-        let closing = self.analyzer.close_false(&self.trail, lit)?;
-        self.order.met(self.analyzer.met());
+        let closing = self.analyzer.analyze_final_lit(&self.trail, lit)?;
+        self.order.bump(self.analyzer.seen());
         let noted = self.note(closing.lits, closing.hints)?;
         Ok(self.trail.arena().id_of(noted))
     }
 
     // Looks into a conflict: learns from it, or answers where it rests on assumptions alone.
-    fn turn(&mut self, at: Ref) -> Result<Option<Answer>, AllocError>
+    fn resolve_conflict(&mut self, at: Ref) -> Result<Option<Answer>, AllocError>
         requires sound { IsSound self.old }
         requires conflict { IsConflict self.old.trail at }
         ensures steps { Steps self.old self.new }
@@ -87,13 +87,13 @@ impl Learner {
     {
         self.facts();
         let level = self.top_level(at);
-        self.go_back(level);
+        self.backtrack(level);
         self.facts();
         if self.guided < level {
             self.learn(at)?;
             return Ok(None);
         }
-        let id = self.close(at)?;
+        let id = self.analyze_final(at)?;
         self.facts();
         Ok(Some(Answer::Refuted(id)))
     }
@@ -108,21 +108,21 @@ impl Learner {
         self.trail.propagate()
     }
 
-    // Passes the assumptions that are true, up to the first that is not, which it answers.
+    // Counts the assumptions that hold, up to the first that does not, which it answers.
     fn next_open(&mut self) -> Option<Lit>
         requires sound { IsSound self.old }
-        requires range { AreInRange self.old.asked.items self.old.trail.variables }
+        requires range { AreInRange self.old.assumptions.items self.old.trail.variables }
         ensures steps { Steps self.old self.new }
-        ensures same { self.new ≡ record self.old { passed = self.new.passed } }
-        ensures open { MatchOption result (self.new.passed ≡ length self.new.asked.items) (λ lit. IsNext self.new lit × (is_true self.new.trail.places lit ≡ false)) }
+        ensures same { self.new ≡ record self.old { holding = self.new.holding } }
+        ensures open { MatchOption result (self.new.holding ≡ length self.new.assumptions.items) (λ lit. IsNext self.new lit × (is_true self.new.trail.places lit ≡ false)) }
     {
         self.facts();
-        while self.passed < self.asked.len() {
-            let lit = self.asked[self.passed];
+        while self.holding < self.assumptions.len() {
+            let lit = self.assumptions[self.holding];
             if !self.is_true(lit) {
                 return Some(lit);
             }
-            self.passed += 1;
+            self.holding += 1;
         }
         None
     }
@@ -137,7 +137,7 @@ impl Learner {
         ensures lighter { OnOk result (Serves self.old self.new None) }
     {
         self.facts();
-        self.marks.push(self.passed)?;
+        self.holding_before.push(self.holding)?;
         self.trail.assume(lit);
         self.guided = self.trail.level();
         self.facts();
@@ -164,7 +164,7 @@ impl Learner {
     fn decide(&mut self) -> Result<Option<Answer>, AllocError>
         requires sound { IsSound self.old }
         requires propagated { IsPropagated self.old.trail }
-        requires passed { self.old.passed ≡ length self.old.asked.items }
+        requires holding { self.old.holding ≡ length self.old.assumptions.items }
         ensures steps { Steps self.old self.new }
         ensures served { IfOk result (Serves self.old self.new) }
     {
@@ -183,18 +183,18 @@ impl Learner {
     }
 
     // Makes the next assumption true, or answers where it is false.
-    fn take(&mut self, lit: Lit) -> Result<Option<Answer>, AllocError>
+    fn assume_next(&mut self, lit: Lit) -> Result<Option<Answer>, AllocError>
         requires sound { IsSound self.old }
         requires range { variable_of lit < self.old.trail.variables }
         requires next { IsNext self.old lit }
         requires open { is_true self.old.trail.places lit ≡ false }
-        requires consistent { AreConsistent self.old.asked.items }
+        requires consistent { AreConsistent self.old.assumptions.items }
         ensures steps { Steps self.old self.new }
         ensures served { IfOk result (Serves self.old self.new) }
     {
         self.facts();
         if self.trail.value(lit.variable()).is_some() {
-            let id = self.close_false(lit)?;
+            let id = self.analyze_final_lit(lit)?;
             self.facts();
             return Ok(Some(Answer::Refuted(id)));
         }
@@ -205,14 +205,14 @@ impl Learner {
     // One step where no clause is false or unit: an assumption or a decision, or an answer.
     fn extend(&mut self) -> Result<Option<Answer>, AllocError>
         requires sound { IsSound self.old }
-        requires range { AreInRange self.old.asked.items self.old.trail.variables }
-        requires consistent { AreConsistent self.old.asked.items }
+        requires range { AreInRange self.old.assumptions.items self.old.trail.variables }
+        requires consistent { AreConsistent self.old.assumptions.items }
         requires propagated { IsPropagated self.old.trail }
         ensures steps { Steps self.old self.new }
         ensures served { IfOk result (Serves self.old self.new) }
     {
         match self.next_open() {
-            Some(lit) => self.take(lit),
+            Some(lit) => self.assume_next(lit),
             None => self.decide(),
         }
     }
@@ -220,13 +220,13 @@ impl Learner {
     // One step of the search, which goes on after None.
     fn step(&mut self) -> Result<Option<Answer>, AllocError>
         requires sound { IsSound self.old }
-        requires range { AreInRange self.old.asked.items self.old.trail.variables }
-        requires consistent { AreConsistent self.old.asked.items }
+        requires range { AreInRange self.old.assumptions.items self.old.trail.variables }
+        requires consistent { AreConsistent self.old.assumptions.items }
         ensures steps { Steps self.old self.new }
         ensures served { IfOk result (Serves self.old self.new) }
     {
         match self.propagate() {
-            Some(at) => self.turn(at),
+            Some(at) => self.resolve_conflict(at),
             None => self.extend(),
         }
     }
@@ -237,8 +237,8 @@ impl Learner {
         requires range { AreInRange (assumptions.now ++ more.now) self.old.trail.variables }
         requires consistent { AreConsistent (assumptions.now ++ more.now) }
         ensures sound { IsSound self.new }
-        ensures goes { GoesTo (seen self.old) (seen self.new) }
-        ensures answer { IfOk result (IsAnswer (seen self.new) (assumptions.now ++ more.now)) }
+        ensures goes { GoesTo (solver_state self.old) (solver_state self.new) }
+        ensures answer { IfOk result (IsAnswer (solver_state self.new) (assumptions.now ++ more.now)) }
     {
         self.ask(assumptions, more)?;
         loop {

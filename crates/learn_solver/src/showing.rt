@@ -11,7 +11,7 @@ use lits_core::{Clause, Hint, Ids, Lit};
 use std::alloc::AllocError;
 
 impl Learner {
-    ghost use Rattle.learn_solver.specs.Learners.{seen, IsSound, Steps};
+    ghost use Rattle.learn_solver.specs.Learners.{solver_state, IsSound, Steps};
     ghost use Rattle.learn_solver.specs.Hints.{Suffice, AddsLine, Derives};
 
     // Adds a clause that hints show, with its line, and answers its id; none where they do not show it.
@@ -19,12 +19,12 @@ impl Learner {
         requires sound { IsSound self.old }
         requires range { AreInRange lits.now self.old.trail.variables }
         ensures steps { Steps self.old self.new }
-        ensures derived { IfOk result (λ o. IfSome o (λ id. MatchOption (live_clause (seen self.new).state id) ⊥ (SameLits lits.now))) }
-        ensures shown { IfOk result (λ o. IfSome o (λ _. hints_fault (seen self.old).state hints.now lits.now ≡ None)) }
-        ensures fault { IfOk result (λ o. IfNone o (hints_fault (seen self.old).state hints.now lits.now ≢ None)) }
+        ensures derived { IfOk result (λ o. IfSome o (λ id. MatchOption (live_clause (solver_state self.new).state id) ⊥ (SameLits lits.now))) }
+        ensures shown { IfOk result (λ o. IfSome o (λ _. hints_fault (solver_state self.old).state hints.now lits.now ≡ None)) }
+        ensures fault { IfOk result (λ o. IfNone o (hints_fault (solver_state self.old).state hints.now lits.now ≢ None)) }
         ensures same { IfOk result (λ o. IfNone o (self.new ≡ self.old)) }
-        ensures line { IfOk result (λ o. IfSome o (Derives (seen self.old) (seen self.new) lits.now hints.now)) }
-        ensures err { OnErr result (seen self.new ≡ seen self.old) }
+        ensures line { IfOk result (λ o. IfSome o (Derives (solver_state self.old) (solver_state self.new) lits.now hints.now)) }
+        ensures err { OnErr result (solver_state self.new ≡ solver_state self.old) }
     {
         match self.shown_by(lits, hints)? {
             Some(count) => {
@@ -40,9 +40,9 @@ impl Learner {
         requires sound { IsSound self.old }
         requires taught { IsTaught self.old.trail lits.now hints.now }
         ensures steps { Steps self.old self.new }
-        ensures put { IfOk result (λ id. MatchOption (live_clause (seen self.new).state id) ⊥ (SameLits lits.now)) }
-        ensures line { IfOk result (AddsLine (seen self.old) (seen self.new) lits.now hints.now) }
-        ensures err { OnErr result (seen self.new ≡ seen self.old) }
+        ensures put { IfOk result (λ id. MatchOption (live_clause (solver_state self.new).state id) ⊥ (SameLits lits.now)) }
+        ensures line { IfOk result (AddsLine (solver_state self.old) (solver_state self.new) lits.now hints.now) }
+        ensures err { OnErr result (solver_state self.new ≡ solver_state self.old) }
     {
         let ids = Ids::new(Vec::from_slice(self.alloc, hints)?);
         let clause = Clause::from_lits(self.alloc, lits)?;
@@ -55,10 +55,10 @@ impl Learner {
         requires sound { IsSound self.now }
         requires range { AreInRange lits.now self.now.trail.variables }
         ensures within { IfOk result (λ o. IfSome o (λ count. count ≤ length hints.now)) }
-        ensures enough { IfOk result (λ o. IfSome o (Suffice (seen self.now).state lits.now hints.now)) }
+        ensures enough { IfOk result (λ o. IfSome o (Suffice (solver_state self.now).state lits.now hints.now)) }
         ensures taught { IfOk result (λ o. IfSome o (λ count. IsTaught self.now.trail lits.now (take count hints.now))) }
-        ensures shown { IfOk result (λ o. IfSome o (λ _. hints_fault (seen self.now).state hints.now lits.now ≡ None)) }
-        ensures fault { IfOk result (λ o. IfNone o (hints_fault (seen self.now).state hints.now lits.now ≢ None)) }
+        ensures shown { IfOk result (λ o. IfSome o (λ _. hints_fault (solver_state self.now).state hints.now lits.now ≡ None)) }
+        ensures fault { IfOk result (λ o. IfNone o (hints_fault (solver_state self.now).state hints.now lits.now ≢ None)) }
     {
         let mut falses = Vec::from_slice(self.alloc, lits)?;
         for place in 0..hints.len() {

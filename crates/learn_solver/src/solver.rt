@@ -35,9 +35,9 @@ impl Model for Solver {
 
     ghost Value = { SolverState };
 
-    ghost use Rattle.learn_solver.specs.Learners.{seen, IsSound};
+    ghost use Rattle.learn_solver.specs.Learners.{solver_state, IsSound};
 
-    ghost view = { λ s. seen s.learner };
+    ghost view = { λ s. solver_state s.learner };
 
     ghost invariant = { λ s. IsSound s.learner };
 }
@@ -45,7 +45,7 @@ impl Model for Solver {
 impl Solver {
     /// No clauses yet. Variables are the numbers below `variables`.
     pub fn new(alloc: Global, variables: u32) -> Result<Solver, AllocError>
-        ensures { IfOk result (λ s. s ≡ record { variables = variables; state = first_state []; waiting = []; idle = [] }) }
+        ensures { IfOk result (λ s. s ≡ record { variables = variables; state = first_state []; waiting = []; idle = []; assigned = [] }) }
     {
         let learner = Learner::new(alloc, variables)?;
         Ok(Solver { learner })

@@ -7,12 +7,12 @@ use std::alloc::AllocError;
 
 impl Learner {
     ghost use Rattle.learn_solver.specs.Solving.{GoesTo, IsTidied};
-    ghost use Rattle.learn_solver.specs.Learners.{seen, IsSound, Forgets};
+    ghost use Rattle.learn_solver.specs.Learners.{solver_state, IsSound, Forgets};
 
     // The ids of the derived clauses that are the reason of no literal.
     fn idle_ids(&self) -> Result<Ids, AllocError>
         requires { IsSound self.now }
-        ensures { IfOk result (λ ids. ids ≡ (seen self.now).idle) }
+        ensures { IfOk result (λ ids. ids ≡ (solver_state self.now).idle) }
     {
         let mut ids = Vec::new(self.alloc);
         for number in self.given..self.trail.arena().count() {
@@ -45,9 +45,9 @@ impl Learner {
     pub(crate) fn tidy(&mut self) -> Result<(), AllocError>
         requires { IsSound self.old }
         ensures sound { IsSound self.new }
-        ensures kept { GoesTo (seen self.old) (seen self.new) }
-        ensures ok { OnOk result (IsTidied (seen self.old) (seen self.new)) }
-        ensures err { OnErr result (seen self.new ≡ seen self.old) }
+        ensures kept { GoesTo (solver_state self.old) (solver_state self.new) }
+        ensures ok { OnOk result (IsTidied (solver_state self.old) (solver_state self.new)) }
+        ensures err { OnErr result (solver_state self.new ≡ solver_state self.old) }
     {
         self.facts();
         let ids = self.idle_ids()?;

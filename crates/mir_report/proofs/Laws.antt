@@ -1,5 +1,5 @@
 -- Possible relations, and families that show them.
-use Rattle.std.proofs.Common.{◌≡◌, ℕ, ◌<◌, ◌↔◌, false, true, not, length, Some, List, refl, sym, ap, ◌∙◌, arith, IsTrue, slice_get, filter, option_map}
+use Rattle.std.proofs.Common.{◌≡◌, ℕ, ◌<◌, ◌↔◌, Bool, false, true, not, length, Some, None, List, [], ◌∷◌, refl, sym, ap, ◌∙◌, arith, IsTrue, slice_get, filter, option_map}
 use Rattle.std.proofs.lemmas.Bool.{true≢false, not-true}
 use Rattle.std.proofs.lemmas.Option.{slice_get-map, slice_get-get_or, slice_get_within}
 use Rattle.std.proofs.lemmas.List.{length-append}
@@ -16,7 +16,9 @@ use Rattle.world_model.proofs.PointRules.{met_parts}
 use Rattle.world_model.proofs.PointAlive.{related}
 use Rattle.world_model.proofs.PointPositions.{relation_in}
 use Rattle.cert_rules.proofs.Narrowing.{shown_is_met, met_is_shown}
-use Rattle.mir_report.specs.Possible.{ArePossibleSets}
+use Rattle.cert_text.specs.declared.line.Subject.TheVariants.{Kept}
+use Rattle.claim_blocks.specs.Blocks.{claimed}
+use Rattle.mir_report.specs.Possible.{ArePossibleSets, whole_claim}
 
 -- the relation of a pair in the table of a family
 pub table_at : (p : Problem) (f : Family) (pair : ℕ) → pair < pair_count p → slice_get (table_of p f) pair ≡ Some (relation_in f (pair_at p pair))
@@ -72,3 +74,12 @@ first_set_tells p sets set are got = (
       let within : 0 < length (cross_pairs p) = omega (arith, room, counted) in
       ap not (has_some set rel ((are.each 0 set got rel).1 (possible_by p 0 rel met.0 (cross_within p 0 within) met.1 refl))),
 )
+
+-- where there is a pair across taxonomies, nothing is claimed of the problem as it is; and where there is none, that is
+pub no_whole_claim : (p : Problem) (sets : List RelSet) (set : RelSet) (some : Bool) → slice_get sets 0 ≡ Some set → [] ≡ whole_claim p sets some
+no_whole_claim p [] set some first = absurd (cc)
+no_whole_claim p (one ∷ sets) set some first = refl
+
+pub whole_claim_made : (p : Problem) (sets : List RelSet) (some : Bool) → slice_get sets 0 ≡ None → claimed (Kept p.kept) some ≡ whole_claim p sets some
+whole_claim_made p [] some none = refl
+whole_claim_made p (set ∷ sets) some none = absurd (cc)

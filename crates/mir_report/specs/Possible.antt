@@ -1,5 +1,5 @@
 -- The relations that remain possible, and what is claimed of them.
-use Rattle.std.specs.Prelude.{◌≡◌, ℕ, ◌+◌, ◌↔◌, List, [], ◌∷◌, ◌++◌, length, map, filter, Some, slice_get, IsTrue}
+use Rattle.std.specs.Prelude.{◌≡◌, ℕ, ◌+◌, ◌↔◌, Bool, List, [], ◌∷◌, ◌++◌, length, map, filter, Some, slice_get, IsTrue}
 use Rattle.rcc5_core.specs.declared.Rel.{Rel}
 use Rattle.rcc5_core.specs.declared.RelSet.{RelSet}
 use Rattle.rcc5_core.specs.Relation.{all_rels}
@@ -8,8 +8,9 @@ use Rattle.world_model.specs.Problem.{Problem, cross_pairs}
 use Rattle.world_model.specs.Alive.{allowed}
 use Rattle.world_model.specs.Node.{pair_at}
 use Rattle.world_model.specs.Questions.{IsPossibleRelation}
-use Rattle.cert_text.specs.declared.line.Subject.TheVariants.{Narrowed}
+use Rattle.cert_text.specs.declared.line.Subject.TheVariants.{Narrowed, Kept}
 use Rattle.cert_rules.specs.ClaimLists.{Claim}
+use Rattle.claim_blocks.specs.Blocks.{claimed}
 
 -- a set has just the relations that some possible world has at a pair
 abbrev pub IsPossibleSet : Problem → ℕ → RelSet → Type 0
@@ -28,3 +29,12 @@ pair_claims p pair set = map (λ rel. record { subject = Narrowed pair rel; hold
 abbrev pub claims_from : Problem → ℕ → List RelSet → List Claim
 claims_from p pair [] = []
 claims_from p pair (set ∷ sets) = pair_claims p pair set ++ claims_from p (pair + 1) sets
+
+-- the claim of the problem as it is, where no pair goes across taxonomies: whether a family meets it
+abbrev pub whole_claim : Problem → List RelSet → Bool → List Claim
+whole_claim p [] some = claimed (Kept p.kept) some
+whole_claim p (set ∷ sets) some = []
+
+-- all claims: those for the pairs, or that of the problem as it is
+abbrev pub mir_claims : Problem → List RelSet → Bool → List Claim
+mir_claims p sets some = claims_from p 0 sets ++ whole_claim p sets some

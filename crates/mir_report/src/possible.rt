@@ -1,13 +1,14 @@
 //! The possible relations of the pairs across taxonomies.
-ghost use Rattle.std.specs.Prelude.{◌≡◌, ◌<◌, ◌↔◌, All, IfOk, OnOk, IsTrue, ⊤};
+ghost use Rattle.std.specs.Prelude.{◌≡◌, ◌<◌, ◌↔◌, All, IfOk, OnOk, IsTrue};
 ghost use Rattle.world_model.specs.Problem.{pair_count};
 ghost use Rattle.world_model.specs.Questions.{IsMet, IsPossibleRelation};
 ghost use Rattle.constraint_set.specs.Shape.{shape_of};
-ghost use Rattle.cert_text.specs.declared.line.Subject.TheVariants.{Narrowed};
+ghost use Rattle.cert_text.specs.declared.line.Subject.TheVariants.{Kept, Narrowed};
+ghost use Rattle.search_log.specs.Leading.{KeepsLeading};
 ghost use Rattle.search_log.specs.Logging.{LogGoes};
 ghost use Rattle.split_search.specs.Choosing.{IsMetBy};
 ghost use Rattle.claim_blocks.specs.Blocks.{claimed, KeepsClaims};
-ghost use Rattle.mir_report.specs.Possible.{IsPossibleSet, ArePossibleSets, pair_claims, claims_from};
+ghost use Rattle.mir_report.specs.Possible.{IsPossibleSet, ArePossibleSets, pair_claims, claims_from, whole_claim};
 ghost use Rattle.mir_report.specs.Steps.{claim_if_allowed, claim_if_refuted};
 
 use crate::bare::bare_sets;
@@ -54,6 +55,7 @@ fn refute_rel<L: TreeLog>(
     ensures shape { asker.new.shape ≡ asker.old.shape }
     ensures answer { IfOk result (λ done. IsTrue done → IsPossibleRelation problem.now pair rel → ⊥) }
     ensures keeps { KeepsClaims problem.now result (λ done more. more ≡ claim_if_refuted pair rel done) (L.lines log.old) (L.lines log.new) asker.old asker.new }
+    ensures leads { KeepsLeading (L.lines log.old) (L.lines log.new) asker.old asker.new }
     ensures log { LogGoes L.drops L.lines L.faults L.steady L.quiet result log.old log.new }
 {
     let Some(closing) = why_dead(problem, asker, hints, Lone { pair, rel })? else {
@@ -81,6 +83,7 @@ fn search_rel<L: TreeLog>(
     ensures families { OnOk result (All (IsMetBy problem.now) families.new.items) }
     ensures answer { IfOk result (λ some. IsTrue some ↔ IsPossibleRelation problem.now pair rel) }
     ensures keeps { KeepsClaims problem.now result (λ some more. more ≡ claimed (Narrowed pair rel) some) (L.lines log.old) (L.lines log.new) asker.old asker.new }
+    ensures leads { KeepsLeading (L.lines log.old) (L.lines log.new) asker.old asker.new }
     ensures log { LogGoes L.drops L.lines L.faults L.steady L.quiet result log.old log.new }
 {
     let subject = Subject::Narrowed { pair, rel };
@@ -114,6 +117,7 @@ fn settle_rel<L: TreeLog>(
     ensures families { OnOk result (All (IsMetBy problem.now) families.new.items) }
     ensures answer { IfOk result (λ some. IsTrue some ↔ IsPossibleRelation problem.now pair rel) }
     ensures keeps { KeepsClaims problem.now result (λ some more. more ≡ claimed (Narrowed pair rel) some) (L.lines log.old) (L.lines log.new) asker.old asker.new }
+    ensures leads { KeepsLeading (L.lines log.old) (L.lines log.new) asker.old asker.new }
     ensures log { LogGoes L.drops L.lines L.faults L.steady L.quiet result log.old log.new }
 {
     problem.facts();
@@ -146,6 +150,7 @@ fn settle_if_allowed<L: TreeLog>(
     ensures families { OnOk result (All (IsMetBy problem.now) families.new.items) }
     ensures answer { IfOk result (λ some. IsTrue some ↔ IsPossibleRelation problem.now pair rel) }
     ensures keeps { KeepsClaims problem.now result (λ some more. more ≡ claim_if_allowed problem.now pair rel some) (L.lines log.old) (L.lines log.new) asker.old asker.new }
+    ensures leads { KeepsLeading (L.lines log.old) (L.lines log.new) asker.old asker.new }
     ensures log { LogGoes L.drops L.lines L.faults L.steady L.quiet result log.old log.new }
 {
     if !problem.allowed(pair).has(rel) {
@@ -171,6 +176,7 @@ fn settle_pair<L: TreeLog>(
     ensures families { OnOk result (All (IsMetBy problem.now) families.new.items) }
     ensures answer { IfOk result (IsPossibleSet problem.now pair) }
     ensures keeps { KeepsClaims problem.now result (λ set more. more ≡ pair_claims problem.now pair set) (L.lines log.old) (L.lines log.new) asker.old asker.new }
+    ensures leads { KeepsLeading (L.lines log.old) (L.lines log.new) asker.old asker.new }
     ensures log { LogGoes L.drops L.lines L.faults L.steady L.quiet result log.old log.new }
 {
     let mut set = RelSet::none();
@@ -196,6 +202,7 @@ pub fn mir<L: TreeLog>(
     ensures shape { asker.new.shape ≡ asker.old.shape }
     ensures sets { IfOk result (λ mir. ArePossibleSets problem.now mir.sets.items) }
     ensures keeps { KeepsClaims problem.now result (λ mir more. more ≡ claims_from problem.now 0 mir.sets.items) (L.lines log.old) (L.lines log.new) asker.old asker.new }
+    ensures leads { KeepsLeading (L.lines log.old) (L.lines log.new) asker.old asker.new }
     ensures log { LogGoes L.drops L.lines L.faults L.steady L.quiet result log.old log.new }
 {
     if log.is_dropping() {
@@ -223,7 +230,8 @@ pub fn has_world<L: TreeLog>(
     requires sets { ArePossibleSets problem.now mir.now.sets.items }
     ensures shape { asker.new.shape ≡ asker.old.shape }
     ensures answer { IfOk result (λ some. IsTrue some ↔ IsMet problem.now) }
-    ensures keeps { KeepsClaims problem.now result (λ _ _. ⊤) (L.lines log.old) (L.lines log.new) asker.old asker.new }
+    ensures keeps { KeepsClaims problem.now result (λ some more. more ≡ whole_claim problem.now mir.now.sets.items some) (L.lines log.old) (L.lines log.new) asker.old asker.new }
+    ensures leads { KeepsLeading (L.lines log.old) (L.lines log.new) asker.old asker.new }
     ensures log { LogGoes L.drops L.lines L.faults L.steady L.quiet result log.old log.new }
 {
     // A world has some relation at each pair, so the sets are all empty or none is.
@@ -243,13 +251,16 @@ fn is_met<L: TreeLog>(
     requires shape { asker.old.shape ≡ shape_of problem.now }
     ensures shape { asker.new.shape ≡ asker.old.shape }
     ensures answer { IfOk result (λ some. IsTrue some ↔ IsMet problem.now) }
-    ensures keeps { KeepsClaims problem.now result (λ _ _. ⊤) (L.lines log.old) (L.lines log.new) asker.old asker.new }
+    ensures keeps { KeepsClaims problem.now result (λ some more. more ≡ claimed (Kept problem.now.kept) some) (L.lines log.old) (L.lines log.new) asker.old asker.new }
+    ensures leads { KeepsLeading (L.lines log.old) (L.lines log.new) asker.old asker.new }
     ensures log { LogGoes L.drops L.lines L.faults L.steady L.quiet result log.old log.new }
 {
     problem.facts();
     let subject = Subject::Kept(Flags::new(kept_flags(alloc, problem)?));
-    let choice = settle(alloc, &subject, problem, asker, log)?;
-    Ok(matches!(choice, Choice::Met(_)))
+    match settle(alloc, &subject, problem, asker, log)? {
+        Choice::Met(_) => Ok(true),
+        Choice::Refuted => Ok(false),
+    }
 }
 
 // For each articulation whether it is kept.

@@ -4,6 +4,7 @@ pub mod Contents
 pub mod Plan
 pub mod Memory
 pub mod Entries
+pub mod States
 pub mod Reader
 pub mod ReaderParts
 pub mod Sent

@@ -12,6 +12,7 @@ mod sink;
 mod source;
 mod store;
 mod sure;
+mod used;
 
 pub use fault::StoreFault;
 pub use memory::{MemorySink, MemoryStore};

@@ -76,11 +76,7 @@ impl MemoryStore {
 }
 
 impl Store for MemoryStore {
-    ghost held = { λ s. told s.files };
-
-    ghost read_faults = { λ s _. s.plan.faults };
-
-    ghost write_faults = { λ s _. s.plan.faults };
+    ghost state = { λ s. record { held = told s.files; reads = λ _. s.plan.faults; writes = λ _. s.plan.faults } };
 
     fn read(&mut self, name: &str, at: u64, into: &mut [u8]) -> Result<usize, StoreFault>
         ensures value { result ≡ read_answer self.old name.now at (length into.old) }
@@ -169,9 +165,7 @@ impl MemorySink {
 impl Sink for MemorySink {
     ghost use Rattle.std.specs.Prelude.{Some};
 
-    ghost received = { λ s. Some s.bytes };
-
-    ghost faults = { λ s. s.plan.faults };
+    ghost state = { λ s. record { bytes = Some s.bytes; faults = s.plan.faults } };
 
     fn put(&mut self, bytes: &[u8]) -> Result<(), StoreFault>
         ensures failed { IsErrOf result StoreFault.Failed ↔ IsTrue (fails_next self.old.plan) }

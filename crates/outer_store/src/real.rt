@@ -5,9 +5,10 @@ ghost use Rattle.std.specs.Io.KnownBytes.{Appends};
 ghost use Rattle.outer_store.specs.Faults.{Rose, IfFailed, next};
 ghost use Rattle.outer_store.specs.Sent.{SentInPart};
 
+use crate::used::{Use, UsedFiles, is_same};
 use crate::{Sink, Store, StoreFault};
 use std::alloc::Global;
-use std::fs::{self, OpenOptions};
+use std::fs::{self, OpenFile, OpenOptions};
 use std::io::{self, Read, Seek, SeekFrom, Write};
 use std::marker::Model;
 use std::rt::Files;
@@ -77,6 +78,7 @@ pub struct FileStore<'r, R: Files> {
     alloc: Global,
     reading: Option<Reading<R::File>>,
     appending: Option<Appending<R::File>>,
+    used: UsedFiles,
     faults: u64,
 }
 
@@ -98,29 +100,25 @@ impl<'r, R: Files> FileStore<'r, R> {
             alloc,
             reading: None,
             appending: None,
+            used: UsedFiles::new(alloc),
             faults: 0,
         }
     }
-}
 
-// Whether two names are the same. One is compared for each piece that is added, and names are short: a plain loop is quicker there
-// than a comparison by words.
-fn is_same(one: &str, other: &str) -> bool {
-    let (one, other) = (one.as_bytes(), other.as_bytes());
-    if one.len() != other.len() {
-        return false;
-    }
-    for place in 0..one.len() {
-        if one[place] != other[place] {
-            return false;
+    /// The name by which this store has read or made a file, where `name` leads to that file too and `create` of it is refused
+    /// for that.
+    pub fn kept_as(&self, name: &str) -> Option<&str> {
+        match fs::metadata(self.files, name) {
+            Ok(found) => self.used.kept_as(name, &found),
+            Err(_) => None,
         }
     }
-    true
 }
 
 fn open_to_read<R: Files>(
     files: &R,
     alloc: Global,
+    used: &mut UsedFiles,
     kept: Option<Reading<R::File>>,
     name: &str,
 ) -> Result<Reading<R::File>, StoreFault> {
@@ -131,6 +129,8 @@ fn open_to_read<R: Files>(
     }
     let name = String::from_str(alloc, name)?;
     let file = fs::open(files, name.as_str()).map_err(|_| StoreFault::Failed)?;
+    let found = file.metadata().map_err(|_| StoreFault::Failed)?;
+    used.note(alloc, name.as_str(), &found, Use::Read)?;
     Ok(Reading {
         name,
         file,
@@ -161,6 +161,7 @@ fn open_to_append<R: Files>(
 fn read_kept<R: Files>(
     files: &R,
     alloc: Global,
+    used: &mut UsedFiles,
     kept: &mut Option<Reading<R::File>>,
     name: &str,
     at: u64,
@@ -168,7 +169,7 @@ fn read_kept<R: Files>(
 ) -> Result<usize, StoreFault>
     ensures { ReadsAtMost result into.new }
 {
-    let mut open = open_to_read(files, alloc, kept.take(), name)?;
+    let mut open = open_to_read(files, alloc, used, kept.take(), name)?;
     let count = open.read_at(at, into)?;
     *kept = Some(open);
     Ok(count)
@@ -187,29 +188,45 @@ fn append_kept<R: Files>(
     Ok(())
 }
 
-fn create_file<R: Files>(files: &R, name: &str) -> Result<(), StoreFault> {
-    let _file = fs::create(files, name).map_err(|_| StoreFault::Failed)?;
-    Ok(())
+// Makes a file empty. It is opened with what it holds, and looked at first: one that this run has used by another name is refused,
+// and keeps what it holds.
+fn create_file<R: Files>(
+    files: &R,
+    alloc: Global,
+    used: &mut UsedFiles,
+    name: &str,
+) -> Result<(), StoreFault> {
+    let file = OpenOptions::new()
+        .write(true)
+        .create(true)
+        .open(files, name)
+        .map_err(|_| StoreFault::Failed)?;
+    let found = file.metadata().map_err(|_| StoreFault::Failed)?;
+    if !found.is_file() {
+        return Ok(());
+    }
+    if used.kept_as(name, &found).is_some() {
+        return Err(StoreFault::Failed);
+    }
+    used.note(alloc, name, &found, Use::Made)?;
+    file.set_len(0).map_err(|_| StoreFault::Failed)
 }
 
 impl<'r, R: Files> Store for FileStore<'r, R> {
     ghost use Rattle.std.specs.Prelude.{None};
 
-    ghost held = { λ _ _. None };
-
-    ghost read_faults = { λ count _. count };
-
-    ghost write_faults = { λ count _. count };
+    ghost state = { λ count. record { held = λ _. None; reads = λ _. count; writes = λ _. count } };
 
     fn read(&mut self, name: &str, at: u64, into: &mut [u8]) -> Result<usize, StoreFault> {
-        let answer = read_kept(self.files, self.alloc, &mut self.reading, name, at, into);
+        let (used, reading) = (&mut self.used, &mut self.reading);
+        let answer = read_kept(self.files, self.alloc, used, reading, name, at, into);
         counted(&mut self.faults, answer)
     }
 
     fn create(&mut self, name: &str) -> Result<(), StoreFault> {
         self.reading = None;
         self.appending = None;
-        let answer = create_file(self.files, name);
+        let answer = create_file(self.files, self.alloc, &mut self.used, name);
         counted(&mut self.faults, answer)
     }
 
@@ -246,9 +263,7 @@ impl<'r, P: Print> StdoutSink<'r, P> {
 impl<'r, P: Print> Sink for StdoutSink<'r, P> {
     ghost use Rattle.std.specs.Prelude.{None};
 
-    ghost received = { λ _. None };
-
-    ghost faults = { λ count. count };
+    ghost state = { λ count. record { bytes = None; faults = count } };
 
     fn put(&mut self, bytes: &[u8]) -> Result<(), StoreFault> {
         let answer = write_whole(&mut io::writer(self.to), bytes);

@@ -47,11 +47,7 @@ impl SureStore {
 }
 
 impl Store for SureStore {
-    ghost held = { told };
-
-    ghost read_faults = { λ _ _. 0 };
-
-    ghost write_faults = { λ _ _. 0 };
+    ghost state = { λ s. record { held = told s; reads = λ _. 0; writes = λ _. 0 } };
 
     fn read(&mut self, name: &str, at: u64, into: &mut [u8]) -> Result<usize, StoreFault>
         ensures value { result ≡ Ok (copy_count (bytes_of self.old name.now) at (length into.old) usize.MAX) }
@@ -122,9 +118,7 @@ impl SureSink {
 impl Sink for SureSink {
     ghost use Rattle.std.specs.Prelude.{Some};
 
-    ghost received = { Some };
-
-    ghost faults = { λ _. 0 };
+    ghost state = { λ bytes. record { bytes = Some bytes; faults = 0 } };
 
     fn put(&mut self, bytes: &[u8]) -> Result<(), StoreFault>
         ensures answer { IsOkUnless result StoreFault.NoMemory }

@@ -13,7 +13,7 @@ use Rattle.lits_core.specs.Derivation.{State, first_state, live_clause, line_fau
 use Rattle.lits_core.proofs.LiteralSets.{same-self}
 use Rattle.watch_arena.specs.Trails.{AreInRange}
 use Rattle.learn_solver.proofs.Answering.{closed-hopeless}
-use Rattle.learn_solver.specs.Solving.{SolverState, IsSolver, AddsGiven, FromOne, GoesTo, AreConsistent, IsModel, IsClosedBy, IsRefutation}
+use Rattle.learn_solver.specs.Solving.{SolverState, IsSolver, AddsGiven, FromOne, Leads, GoesTo, AreConsistent, IsModel, IsClosedBy, IsRefutation}
 use Rattle.world_model.specs.Problem.{Problem, concept_count}
 use Rattle.world_model.specs.Alive.{Need, is_point, is_in_need, problem_at}
 use Rattle.world_model.proofs.Members.{all_at, all_from, in_from_contains, contains_from_in}
@@ -167,21 +167,25 @@ run_more s (line ∷ lines) more =
     and_assoc true b c = refl
     and_assoc false b c = refl
 
+-- lines that lead from a state to another, and more that lead on
+pub leads_chain : LiteralsAreSets → (a b c : State) (lines more : List Line) → Leads a lines b → Leads b more c → Leads a (lines ++ more) c
+leads_chain law a b c lines more g h =
+    let same = same_run law (state_after a lines) b more g.after in
+    let all = run_more a lines more in
+    record {
+      valid = all.0 ∙ and_from _ _ g.valid (same.0 ∙ h.valid);
+      after = subst (λ s. SameState s c) (sym all.1) (state_chain _ _ _ same.1 h.after);
+    }
+
 -- two calls, one after the other
 pub goes_chain : LiteralsAreSets → (a b c : SolverState) → GoesTo a b → GoesTo b c → GoesTo a c
-goes_chain law a b c g h =
-    let same = same_run law (state_after a.state g.added) b.state h.added g.leads.after in
-    let more = run_more a.state g.added h.added in
-    record {
-      variables = h.variables ∙ g.variables;
-      added = g.added ++ h.added;
-      waits = h.waits ∙ ap (λ ls. ls ++ h.added) g.waits ∙ append_assoc a.waiting g.added h.added;
-      leads = record {
-        valid = more.0 ∙ and_from _ _ g.leads.valid (same.0 ∙ h.leads.valid);
-        after = subst (λ s. SameState s c.state) (sym more.1) (state_chain _ _ _ same.1 h.leads.after);
-      };
-      from_one = All-append FromOne g.added h.added g.from_one h.from_one;
-    }
+goes_chain law a b c g h = record {
+  variables = h.variables ∙ g.variables;
+  added = g.added ++ h.added;
+  waits = h.waits ∙ ap (λ ls. ls ++ h.added) g.waits ∙ append_assoc a.waiting g.added h.added;
+  leads = leads_chain law a.state b.state c.state g.added h.added g.leads h.leads;
+  from_one = All-append FromOne g.added h.added g.from_one h.from_one;
+}
 
 -- a solver of a problem that did nothing is still one, and so is one that went on
 pub keeps_still : (p : Problem) (s : SolverState) → IsSolverOf p s → KeepsSolver p s s

@@ -4,3 +4,4 @@ pub mod Queries
 pub mod Leading
 pub mod Closing
 pub mod Remembered
+pub mod Deriving

@@ -1,11 +1,12 @@
 //! The asker, as its users see it.
 ghost use Rattle.constraint_set.specs.Shape.{shape_of};
 ghost use Rattle.learn_solver.specs.Solving.{IsTidied};
-ghost use Rattle.lits_core.specs.Derivation.{SameLits, live_clause};
+ghost use Rattle.lits_core.specs.Derivation.{live_clause};
 ghost use Rattle.point_encode.specs.Needs.{IsInRange, need_seen};
 ghost use Rattle.point_pool.specs.Pools.{IsPoolAt};
 ghost use Rattle.point_query.specs.Answers.{IsAliveAnswer, IsFound, IsProbeAnswer, IsServedByFew};
 ghost use Rattle.point_query.specs.Asking.{AskerGoes, IsAsker, IsNewAsker};
+ghost use Rattle.point_query.specs.Deriving.{IsDerived, IsShown};
 ghost use Rattle.rcc5_core.specs.RelationSet.{has};
 ghost use Rattle.rcc5_core.specs.declared.Rel.{Rel};
 ghost use Rattle.std.specs.Prelude.{IfNone, IfOk, IfSome, IsTrue, MatchOption, OnErr, OnOk, [], length, nat_lt, ◌++◌, ◌+◌, ◌<◌, ◌↔◌, ◌∷◌, ◌≡◌, ◌≤◌};
@@ -199,13 +200,6 @@ impl Asker {
         self.solver.clear_lines();
     }
 
-    /// How many clauses are idle.
-    pub fn idle(&self) -> u64
-        ensures { result ≡ length self.now.solver.idle }
-    {
-        self.solver.idle()
-    }
-
     /// Whether more clauses than so many are idle. Where no more are derived, none is looked at.
     pub fn has_more_idle(&self, most: u64) -> bool
         ensures { result ≡ nat_lt most (length self.now.solver.idle) }
@@ -230,20 +224,17 @@ impl Asker {
         self.solver.solver.clause(id)
     }
 
-    /// Adds a clause that live clauses show, with its line, and answers its id; none where the hints do not show it.
+    /// Adds a clause that live clauses show, with its line, and answers its id; none exactly where the hints do not show it.
     pub fn derive(&mut self, lits: &[Lit], hints: &[u64]) -> Result<Option<u64>, AllocError>
         requires range { AreInRange lits.now self.old.solver.variables }
         ensures kept { AskerGoes self.old self.new }
-        ensures derived { IfOk result (λ o. IfSome o (λ id. MatchOption (live_clause self.new.solver.state id) ⊥ (SameLits lits.now))) }
+        ensures derived { IfOk result (λ o. IfSome o (IsDerived self.old.solver self.new.solver lits.now hints.now)) }
+        ensures none { IfOk result (λ o. IfNone o (IsShown self.old.solver lits.now hints.now → ⊥)) }
         ensures same { IfOk result (λ o. IfNone o (self.new ≡ self.old)) }
+        ensures err { OnErr result (self.new ≡ self.old) }
     {
         law_derived_clauses_follow();
         self.solver.derive(lits, hints)
-    }
-
-    /// How many questions went to the solver.
-    pub fn questions(&self) -> u64 {
-        self.solver.questions()
     }
 
     /// What is so of an asker at any time, for a proof.

@@ -1,10 +1,11 @@
 //! The solver of an asker, with the clauses that closed needs before.
 ghost use Rattle.cert_model.specs.Forced.{IsClosedAt};
 ghost use Rattle.learn_solver.specs.Solving.{GoesTo, IsSolver, IsTidied};
-ghost use Rattle.lits_core.specs.Derivation.{SameLits, live_clause};
+ghost use Rattle.lits_core.specs.Derivation.{live_clause};
 ghost use Rattle.point_encode.specs.Needs.{IsInRange, need_seen};
 ghost use Rattle.point_encode.specs.Numbers.{need_at, need_count};
 ghost use Rattle.point_query.specs.Answers.{IsClosed, IsFound};
+ghost use Rattle.point_query.specs.Deriving.{IsDerived, IsShown};
 ghost use Rattle.point_query.specs.Queries.{IsSolverOf, KeepsSolver, asker_with};
 ghost use Rattle.std.specs.Prelude.{IfNone, IfOk, IfSome, MatchOption, OnErr, OnOk, [], length, nat_lt, ◌<◌, ◌≡◌, ◌≤◌};
 ghost use Rattle.watch_arena.specs.Trails.{AreInRange};
@@ -30,7 +31,6 @@ use std::marker::Model;
 pub(crate) struct Closer {
     pub(crate) solver: Solver,
     closings: Closings,
-    questions: u64,
     alloc: Global,
 }
 
@@ -40,7 +40,6 @@ impl Drop for Closer {
         let Closer {
             solver: _,
             closings: _,
-            questions: _,
             alloc: _,
         } = self;
     }
@@ -67,7 +66,6 @@ impl Closer {
         Ok(Closer {
             solver,
             closings,
-            questions: 0,
             alloc,
         })
     }
@@ -139,7 +137,6 @@ impl Closer {
         ensures found { IfOk result (IsFound (asker_with cursor.now.problem self.new) cursor.now.problem cursor.now.path (need_at cursor.now.problem number)) }
     {
         let need = need_at(cursor.problem(), number);
-        self.questions = self.questions.saturating_add(1);
         query(
             self.alloc,
             &mut self.solver,
@@ -164,7 +161,6 @@ impl Closer {
         ensures found { IfOk result (IsFound (asker_with problem.now self.new) problem.now prefix.now (need_seen problem.now need)) }
     {
         let selectors = selectors_of(self.alloc, problem, prefix)?;
-        self.questions = self.questions.saturating_add(1);
         query(
             self.alloc,
             &mut self.solver,
@@ -213,11 +209,6 @@ impl Closer {
         None
     }
 
-    // How many questions went to the solver.
-    pub(crate) fn questions(&self) -> u64 {
-        self.questions
-    }
-
     // The lines that wait.
     pub(crate) fn lines(&self) -> &[Line]
         ensures { result.now ≡ self.now.waiting }
@@ -232,13 +223,6 @@ impl Closer {
         self.solver.clear_lines();
     }
 
-    // How many clauses are idle.
-    pub(crate) fn idle(&self) -> u64
-        ensures { result ≡ length self.now.idle }
-    {
-        self.solver.idle()
-    }
-
     // Whether more clauses than so many are idle.
     pub(crate) fn has_more_idle(&self, most: u64) -> bool
         ensures { result ≡ nat_lt most (length self.now.idle) }
@@ -250,8 +234,10 @@ impl Closer {
     pub(crate) fn derive(&mut self, lits: &[Lit], hints: &[u64]) -> Result<Option<u64>, AllocError>
         requires range { AreInRange lits.now self.old.variables }
         ensures kept { GoesTo self.old self.new }
-        ensures derived { IfOk result (λ o. IfSome o (λ id. MatchOption (live_clause self.new.state id) ⊥ (SameLits lits.now))) }
+        ensures derived { IfOk result (λ o. IfSome o (IsDerived self.old self.new lits.now hints.now)) }
+        ensures none { IfOk result (λ o. IfNone o (IsShown self.old lits.now hints.now → ⊥)) }
         ensures same { IfOk result (λ o. IfNone o (self.new ≡ self.old)) }
+        ensures err { OnErr result (self.new ≡ self.old) }
     {
         self.solver.derive(lits, hints)
     }

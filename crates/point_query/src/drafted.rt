@@ -1,7 +1,8 @@
 //! Adding clauses that were drafted: each is shown by its hints, or it is not added.
 ghost use Rattle.cert_model.specs.Clauses.{variable_count};
+ghost use Rattle.point_query.specs.Deriving.{IsDerived, IsShown};
 ghost use Rattle.point_query.specs.Queries.{IsSolverOf, KeepsSolver};
-ghost use Rattle.std.specs.Prelude.{IsTrue};
+ghost use Rattle.std.specs.Prelude.{IfNone, IfOk, IfSome, IsTrue, OnErr, ◌↔◌, ◌≡◌};
 ghost use Rattle.watch_arena.specs.Trails.{AreInRange};
 
 use constraint_set::Problem;
@@ -66,7 +67,7 @@ fn id_of(hint: Hint, ids: &[u64]) -> u64 {
     }
 }
 
-// Adds a clause of a problem's variables, and answers its id; none where these hints do not show it.
+// Adds a clause, and answers its id; none exactly where it is not of the problem's variables or these hints do not show it.
 pub(crate) fn derived(
     problem: &Problem,
     solver: &mut Solver,
@@ -75,6 +76,10 @@ pub(crate) fn derived(
 ) -> Result<Option<u64>, AllocError>
     requires solver { IsSolverOf problem.now solver.old }
     ensures solver { KeepsSolver problem.now solver.old solver.new }
+    ensures derived { IfOk result (λ o. IfSome o (IsDerived solver.old solver.new lits.now hints.now)) }
+    ensures none { IfOk result (λ o. IfNone o (IsShown solver.old lits.now hints.now → ⊥)) }
+    ensures same { IfOk result (λ o. IfNone o (solver.new ≡ solver.old)) }
+    ensures err { OnErr result (solver.new ≡ solver.old) }
 {
     law_derived_clauses_follow();
     if !are_in_range(problem, lits) {
@@ -83,9 +88,9 @@ pub(crate) fn derived(
     solver.derive(lits, hints)
 }
 
-// Whether literals are of a problem's variables.
-fn are_in_range(problem: &Problem, lits: &[Lit]) -> bool
-    ensures { IsTrue result → AreInRange lits.now (variable_count problem.now) }
+/// Whether literals are of a problem's variables.
+pub fn are_in_range(problem: &Problem, lits: &[Lit]) -> bool
+    ensures { IsTrue result ↔ AreInRange lits.now (variable_count problem.now) }
 {
     let count = variable_count(problem);
     lits.iter().all(|lit| lit.variable() < count)

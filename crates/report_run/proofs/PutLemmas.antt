@@ -8,7 +8,8 @@ use Rattle.world_watch.specs.Steps.{Texts}
 use Rattle.run_ends.specs.Ends.{line_of, in_lines, complete_line}
 use Rattle.outer_store.specs.declared.fault.StoreFault.{StoreFault}
 use Rattle.outer_store.proofs.BytesLemmas.{GrownInPart-kept}
-use Rattle.run_ends.specs.Runs.{SinkState, LeavesPiece}
+use Rattle.outer_store.specs.States.{SinkState}
+use Rattle.run_ends.specs.Runs.{LeavesPiece}
 use Rattle.report_run.specs.Reporting.{watched, report_of}
 use Rattle.report_run.proofs.AskLemmas.{seen_as}
 use Rattle.run_ends.proofs.PieceLemmas.{piece_after, part_of_more, line_put, line_refused}

@@ -17,7 +17,8 @@ use Rattle.run_ends.specs.declared.Status.{Status}
 use Rattle.run_ends.specs.declared.Status.TheVariants as status
 use Rattle.run_ends.specs.Ends.{line_of, in_lines, complete_line, end_line}
 use Rattle.run_ends.specs.Reads.{problem_in, ComesOf, IsWithout}
-use Rattle.run_ends.specs.Runs.{StoreState, SinkState, LeavesPiece, IsQuiet, Answered, ending_of, IsEarlyEnd, IsCarriedOut}
+use Rattle.outer_store.specs.States.{StoreState, SinkState, IsQuiet}
+use Rattle.run_ends.specs.Runs.{LeavesPiece, Answered, ending_of, IsEarlyEnd, IsCarriedOut}
 use Rattle.run_ends.proofs.TextLemmas.{says_problem, without_text}
 use Rattle.run_ends.proofs.EndLemmas.{all_kept, none_written}
 use Rattle.report_run.specs.Reporting.{Watched, watched, asked, AreKinds, report_of, report_text, report_status, IsAnswerBy, IsReportAnswer, report_names}

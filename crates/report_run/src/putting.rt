@@ -2,7 +2,7 @@
 ghost use Rattle.std.specs.Prelude.{◌≡◌, ◌++◌, [], codes, flat_map, map, string_bytes, IfOk};
 ghost use Rattle.merge_print.specs.Json.{HasUtf8Names};
 ghost use Rattle.run_ends.specs.Ends.{line_of, in_lines, complete_line};
-ghost use Rattle.run_ends.specs.Runs.{sink_state, LeavesPiece};
+ghost use Rattle.run_ends.specs.Runs.{LeavesPiece};
 ghost use Rattle.report_run.specs.Reporting.{watched, report_of};
 
 use command_line::Word;
@@ -22,7 +22,7 @@ fn heading(alloc: Global, kind: &Word) -> Result<Vec<u8>, AllocError>
 }
 
 fn put_heading<W: Sink>(alloc: Global, out: &mut W, kind: &Word) -> Result<(), StoreFault>
-    ensures { LeavesPiece result (line_of (codes "report " ++ kind.now)) (sink_state (W.received out.old) (W.faults out.old)) (sink_state (W.received out.new) (W.faults out.new)) }
+    ensures { LeavesPiece result (line_of (codes "report " ++ kind.now)) (W.state out.old) (W.state out.new) }
 {
     let words = heading(alloc, kind)?;
     put_line(alloc, out, &words)
@@ -36,7 +36,7 @@ fn put_told<W: Sink>(
     watcher: &Box<dyn WorldWatcher>,
 ) -> Result<(), StoreFault>
     requires { HasUtf8Names problem.now }
-    ensures { LeavesPiece result (in_lines (text watcher.now problem.now [])) (sink_state (W.received out.old) (W.faults out.old)) (sink_state (W.received out.new) (W.faults out.new)) }
+    ensures { LeavesPiece result (in_lines (text watcher.now problem.now [])) (W.state out.old) (W.state out.new) }
 {
     let report = watcher.report(alloc, problem)?;
     put_lines(alloc, out, &report)
@@ -51,7 +51,7 @@ fn put_report<W: Sink>(
     watcher: &Box<dyn WorldWatcher>,
 ) -> Result<(), StoreFault>
     requires { HasUtf8Names problem.now }
-    ensures { LeavesPiece result (line_of (codes "report " ++ kind.now) ++ in_lines (text watcher.now problem.now [])) (sink_state (W.received out.old) (W.faults out.old)) (sink_state (W.received out.new) (W.faults out.new)) }
+    ensures { LeavesPiece result (line_of (codes "report " ++ kind.now) ++ in_lines (text watcher.now problem.now [])) (W.state out.old) (W.state out.new) }
 {
     put_heading(alloc, out, kind)?;
     put_told(alloc, out, problem, watcher)
@@ -67,7 +67,7 @@ pub(crate) fn put_reports<W: Sink>(
 ) -> Result<(), StoreFault>
     requires utf8 { HasUtf8Names problem.now }
     requires named { map name watchers.now ≡ kinds.now }
-    ensures { LeavesPiece result (flat_map (report_of problem.now []) (watched name text watchers.now)) (sink_state (W.received out.old) (W.faults out.old)) (sink_state (W.received out.new) (W.faults out.new)) }
+    ensures { LeavesPiece result (flat_map (report_of problem.now []) (watched name text watchers.now)) (W.state out.old) (W.state out.new) }
 {
     for place in 0..watchers.len() {
         put_report(alloc, out, problem, &kinds[place], &watchers[place])?;
@@ -87,7 +87,7 @@ pub(crate) fn put_complete<W: Sink>(
     out: &mut W,
     count: u64,
 ) -> Result<(), StoreFault>
-    ensures { LeavesPiece result (complete_line count) (sink_state (W.received out.old) (W.faults out.old)) (sink_state (W.received out.new) (W.faults out.new)) }
+    ensures { LeavesPiece result (complete_line count) (W.state out.old) (W.state out.new) }
 {
     let line = complete_line(alloc, count)?;
     out.put(line.as_bytes())

@@ -2,7 +2,7 @@
 ghost use Rattle.std.specs.Prelude.{◌≡◌, ◌++◌, [], map, flat_map, IfOk};
 ghost use Rattle.merge_print.specs.Json.{HasUtf8Names};
 ghost use Rattle.run_ends.specs.Ends.{complete_line};
-ghost use Rattle.run_ends.specs.Runs.{store_state, sink_state, LeavesPiece, IsRunOf};
+ghost use Rattle.run_ends.specs.Runs.{LeavesPiece, IsRunOf};
 ghost use Rattle.report_run.specs.Reporting.{watched, asked, AreKinds, report_of, report_text, report_status, IsReportAnswer, report_names};
 ghost use Rattle.report_run.specs.Steps.{all_worlds, status_at};
 
@@ -40,7 +40,7 @@ fn put_answer<W: Sink>(
 ) -> Result<(), StoreFault>
     requires utf8 { HasUtf8Names problem.now }
     requires named { map name watchers.items ≡ kinds.now }
-    ensures { LeavesPiece result (flat_map (report_of problem.now []) (watched name text watchers.items) ++ complete_line count) (sink_state (W.received out.old) (W.faults out.old)) (sink_state (W.received out.new) (W.faults out.new)) }
+    ensures { LeavesPiece result (flat_map (report_of problem.now []) (watched name text watchers.items) ++ complete_line count) (W.state out.old) (W.state out.new) }
 {
     put_reports(alloc, out, problem, kinds, &watchers)?;
     drop(watchers);
@@ -58,7 +58,7 @@ fn report<W: Sink>(
     requires utf8 { HasUtf8Names problem.now }
     requires kinds { AreKinds (watched name text watchers.items) kinds.now }
     ensures status { IfOk result (λ status. status ≡ report_status (all_worlds problem.now)) }
-    ensures put { LeavesPiece result (report_text problem.now (all_worlds problem.now) (asked (watched name text watchers.items) kinds.now)) (sink_state (W.received out.old) (W.faults out.old)) (sink_state (W.received out.new) (W.faults out.new)) }
+    ensures put { LeavesPiece result (report_text problem.now (all_worlds problem.now) (asked (watched name text watchers.items) kinds.now)) (W.state out.old) (W.state out.new) }
 {
     let mut asked = asked_for(alloc, kinds, watchers)?;
     let count = show_all(alloc, problem, &mut asked)?;
@@ -78,7 +78,7 @@ pub fn run_report<S: Store, W: Sink>(
     watchers: Vec<Box<dyn WorldWatcher>>,
 ) -> Status
     requires { AreKinds (watched name text watchers.items) kinds.now }
-    ensures { IsRunOf (report_names input.now) (IsReportAnswer input.now kinds.now switches (watched name text watchers.items)) result (store_state (S.held store.old) (S.read_faults store.old) (S.write_faults store.old)) (store_state (S.held store.new) (S.read_faults store.new) (S.write_faults store.new)) (sink_state (W.received out.old) (W.faults out.old)) (sink_state (W.received out.new) (W.faults out.new)) }
+    ensures { IsRunOf (report_names input.now) (IsReportAnswer input.now kinds.now switches (watched name text watchers.items)) result (S.state store.old) (S.state store.new) (W.state out.old) (W.state out.new) }
 {
     read_names_are_utf8();
     let problem = match problem_under(alloc, store, input, switches) {

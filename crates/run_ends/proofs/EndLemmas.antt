@@ -10,7 +10,8 @@ use Rattle.outer_store.proofs.BytesLemmas.{GrownInPart-kept, GrownInPart-whole}
 use Rattle.run_ends.specs.declared.Status.{Status}
 use Rattle.run_ends.specs.declared.Status.TheVariants as status
 use Rattle.run_ends.specs.Ends.{end_line, IsLastPut}
-use Rattle.run_ends.specs.Runs.{StoreState, SinkState, File, Answers, Names, IsHeld, AreWritten, AreKeptBut, IsAskedText, IsPutInPart, IsInterrupted, IsRunBy, IsRunOf, IsEarlyEnd, IsPutPart, IsCarriedOut}
+use Rattle.outer_store.specs.States.{StoreState, SinkState}
+use Rattle.run_ends.specs.Runs.{File, Answers, Names, IsHeld, AreWritten, AreKeptBut, IsAskedText, IsPutInPart, IsInterrupted, IsRunBy, IsRunOf, IsEarlyEnd, IsPutPart, IsCarriedOut}
 
 pub GrownInPart-all : (old new : Option (List ℕ)) (piece : List ℕ) → new ≡ added old piece → GrownInPart old new piece
 GrownInPart-all old new piece e = subst (GrownInPart old new) (append-nil piece) (GrownInPart-whole old new piece [] e)
@@ -41,7 +42,7 @@ nothing_put answers held old new part = record {
 
 -- the last line of a status that has this one, put whole, refused or starved: each way has its end
 ends : (names : Names) (answers : Answers) (s r : Status) (one other : StoreState) (old new : SinkState)
-    → IsLastPut s r (end_line s) old.bytes new.bytes old.faults new.faults
+    → IsLastPut s r (end_line s) old new
     → (new.bytes ≡ added old.bytes (end_line s) → new.faults ≡ old.faults → IsRunOf names answers s one other old new)
     → (GrownInPart old.bytes new.bytes (end_line s) → IsInterrupted names answers one other old new) → other.held ≡ one.held
     → IsRunOf names answers r one other old new
@@ -62,7 +63,7 @@ ends names answers s r one other old new last whole part kept = ⊎_elim
 
 -- a run that ends before anything is put
 pub run_early : (names : Names) (answers : Answers) (s r : Status) (one other : StoreState) (old new : SinkState) → IsEarlyEnd names answers s one other → other.held ≡ one.held
-    → IsLastPut s r (end_line s) old.bytes new.bytes old.faults new.faults → IsRunOf names answers r one other old new
+    → IsLastPut s r (end_line s) old new → IsRunOf names answers r one other old new
 run_early names answers s r one other old new early kept last = ⊎_elim
     (λ refused. ends names answers s r one other old new last
     (λ put same. subst (λ ending. IsRunBy ending names answers s one other old new) (sym refused.1) (record {
@@ -81,12 +82,12 @@ run_early names answers s r one other old new early kept last = ⊎_elim
     ))
     kept)
     (λ rest. ⊎_elim
-    (λ failed. let last' = subst (λ x. IsLastPut x r (end_line x) old.bytes new.bytes old.faults new.faults) failed.0 last in
+    (λ failed. let last' = subst (λ x. IsLastPut x r (end_line x) old new) failed.0 last in
     ends names answers status.ReadFault r one other old new last'
     (λ put same. record { failed = failed.1; said = put; kept = kept; no_put_failed = same })
     (λ part. inl (failed.1, part))
     kept)
-    (λ starved. let last' = subst (λ x. IsLastPut x r (end_line x) old.bytes new.bytes old.faults new.faults) starved.0 last in
+    (λ starved. let last' = subst (λ x. IsLastPut x r (end_line x) old new) starved.0 last in
     ends names answers status.NoMemory r one other old new last'
     (λ put same. record {
       no_put_failed = same;
@@ -133,7 +134,7 @@ run_refused names answers one other old new carried =
 -- and one that finds no memory
 pub run_starved : (names : Names) (answers : Answers) (r : Status) (one other : StoreState) (old mid new : SinkState)
     → IsCarriedOut answers (Err fault.NoMemory) names.written one other old mid
-    → IsLastPut status.NoMemory r (end_line status.NoMemory) mid.bytes new.bytes mid.faults new.faults → IsRunOf names answers r one other old new
+    → IsLastPut status.NoMemory r (end_line status.NoMemory) mid new → IsRunOf names answers r one other old new
 run_starved names answers r one other old mid new carried last =
     let put = partly answers one old mid new.bytes carried.refused in
     let quiet = carried.by_cause.cause.0 in

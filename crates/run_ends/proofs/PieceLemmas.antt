@@ -12,7 +12,8 @@ use Rattle.outer_store.specs.declared.fault.StoreFault.{StoreFault}
 use Rattle.outer_store.specs.declared.fault.StoreFault.TheVariants as fault
 use Rattle.outer_store.proofs.BytesLemmas.{added-added, GrownInPart-longer, GrownInPart-after, GrownInPart-whole}
 use Rattle.run_ends.specs.Ends.{line_of, in_lines, IsLineEnd}
-use Rattle.run_ends.specs.Runs.{SinkState, LeavesPiece}
+use Rattle.outer_store.specs.States.{SinkState}
+use Rattle.run_ends.specs.Runs.{LeavesPiece}
 
 -- a piece behind one that is put whole
 pub piece_after : {T : Type 0} (r : Result T StoreFault) (piece more : List ℕ) (old mid new : SinkState) → mid.bytes ≡ added old.bytes piece → mid.faults ≡ old.faults

@@ -11,7 +11,7 @@ use Rattle.outer_store.specs.Contents.{Contents}
 use Rattle.outer_store.specs.Faults.{Counts}
 use Rattle.run_ends.specs.declared.Status.{Status}
 use Rattle.run_ends.specs.declared.Status.TheVariants as status
-use Rattle.run_ends.specs.Runs.{StoreState, store_state, IsQuiet}
+use Rattle.outer_store.specs.States.{StoreState, IsQuiet}
 use Rattle.run_ends.specs.Reads.{AreFront, problem_by, problem_in, IsRefused, ComesOf, IsWithout}
 
 -- bytes that are cut behind the longest text are too long still
@@ -58,6 +58,8 @@ without one other name items bytes judge s front same quiet refused = ⊎_elim
 pub ruleset file_rules = (comes_of, without)
 
 -- what a store tells is what it told, where it holds the same and no call failed
-pub one_state : (held held' : Contents) (reads reads' writes writes' : Counts) → held' ≡ held → reads' ≡ reads → writes' ≡ writes
-    → store_state held' reads' writes' ≡ store_state held reads writes
-one_state held held' reads reads' writes writes' a b c = rw (a, b, c) refl
+pub one_state : (one other : StoreState) → other.held ≡ one.held → IsQuiet one other → other ≡ one
+one_state one other same quiet =
+    ap (λ (held : Contents). record other { held = held }) same
+    ∙ ap (λ (reads : Counts). record one { reads = reads; writes = other.writes }) quiet.0
+    ∙ ap (λ (writes : Counts). record one { writes = writes }) quiet.1

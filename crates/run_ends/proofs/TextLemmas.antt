@@ -10,7 +10,8 @@ use Rattle.run_ends.specs.declared.Status.{Status}
 use Rattle.run_ends.specs.declared.Status.TheVariants as status
 use Rattle.run_ends.specs.Ends.{end_line}
 use Rattle.run_ends.specs.Reads.{problem_by, problem_in, ComesOf, IsWithout}
-use Rattle.run_ends.specs.Runs.{StoreState, Answers, Names, ending_of, IsEarlyEnd}
+use Rattle.outer_store.specs.States.{StoreState}
+use Rattle.run_ends.specs.Runs.{Answers, Names, ending_of, IsEarlyEnd}
 use Rattle.run_ends.proofs.ReadLemmas.{text_cut}
 
 -- bytes that agree with what is told of a name, and what they say

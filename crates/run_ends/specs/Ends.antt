@@ -4,6 +4,7 @@ use Rattle.rcc5_core.specs.declared.Rel.{Rel}
 use Rattle.rcc5_core.specs.Relation.{letter_of}
 use Rattle.outer_store.specs.Bytes.{GrownInPart, added}
 use Rattle.outer_store.specs.Faults.{Rose}
+use Rattle.outer_store.specs.States.{SinkState}
 use Rattle.cleantax_text.specs.declared.TextKind.{TextKind}
 use Rattle.cleantax_text.specs.declared.TextKind.TheVariants as text
 use Rattle.resume_token.specs.declared.TokenKind.{TokenKind}
@@ -132,11 +133,11 @@ end_line NoMemory = line_of (codes "no memory")
 end_line Consistent = []
 
 -- the last line is put and the status answered; or its put was refused; or memory was wanting
-abbrev pub IsLastPut : Status → Status → List ℕ → Option (List ℕ) → Option (List ℕ) → ℕ → ℕ → Type 0
-IsLastPut status result line old new before now =
-    ((result ≡ status) × (new ≡ added old line) × (now ≡ before))
-    ⊎ (((result ≡ WriteFault) × GrownInPart old new line × Rose before now)
-    ⊎ ((result ≡ NoMemory) × GrownInPart old new line × (now ≡ before)))
+abbrev pub IsLastPut : Status → Status → List ℕ → SinkState → SinkState → Type 0
+IsLastPut status result line old new =
+    ((result ≡ status) × (new.bytes ≡ added old.bytes line) × (new.faults ≡ old.faults))
+    ⊎ (((result ≡ WriteFault) × GrownInPart old.bytes new.bytes line × Rose old.faults new.faults)
+    ⊎ ((result ≡ NoMemory) × GrownInPart old.bytes new.bytes line × (new.faults ≡ old.faults)))
 
 -- where a line of a text ends that begins at a place: behind the first line feed from there on, or at the text's end
 pub record IsLineEnd (text : List ℕ) (from to : ℕ) : Type 0 where

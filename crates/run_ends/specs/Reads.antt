@@ -8,7 +8,7 @@ use Rattle.cleantax_text.specs.declared.TextKind.{TextKind}
 use Rattle.cleantax_text.specs.Reading.{text_result}
 use Rattle.run_ends.specs.declared.Status.{Status}
 use Rattle.run_ends.specs.declared.Status.TheVariants.{RefusedText, ReadFault, NoMemory}
-use Rattle.run_ends.specs.Runs.{StoreState, IsQuiet}
+use Rattle.outer_store.specs.States.{StoreState, IsQuiet}
 
 -- names hold these bytes, by all that the store tells
 abbrev pub AreHeld : (List ℕ → List ℕ) → Contents → Type 0

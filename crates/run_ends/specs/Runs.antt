@@ -1,8 +1,9 @@
 -- How a run ends: its status beside what it put on the sink and what failed in it, for a command with any answers.
-use Rattle.std.specs.Prelude.{◌≡◌, ◌≤◌, ℕ, List, [], map, Option, is_some, IfSome, IsTrue, IfOk, OnErr, Result, Contains, All, ◌⊎◌}
+use Rattle.std.specs.Prelude.{◌≡◌, ◌≤◌, ℕ, List, [], ◌∷◌, map, Option, None, Some, is_some, IfSome, IsTrue, IfOk, OnErr, Result, Contains, All, ◌⊎◌}
 use Rattle.outer_store.specs.Bytes.{GrownInPart, added}
 use Rattle.outer_store.specs.Contents.{Contents}
 use Rattle.outer_store.specs.Faults.{Counts, Rose, IfFailed}
+use Rattle.outer_store.specs.States.{StoreState, SinkState, IsQuiet}
 use Rattle.outer_store.specs.declared.fault.StoreFault.{StoreFault}
 use Rattle.run_ends.specs.declared.Status.{Status}
 use Rattle.run_ends.specs.declared.Status.TheVariants.{Done, RefusedText, Usage, ReadFault, WriteFault, Cut, NoWorld, RefusedToken, RefusedCert, Rejected, NoMemory, Consistent}
@@ -30,23 +31,6 @@ ending_of (Rejected line kind) = Answered
 ending_of NoMemory = Starved
 ending_of Consistent = Answered
 
--- what is told of a store at one moment: what it holds, and how many reads and writes failed under each name
-pub record StoreState : Type 0 where
-  pub held : Contents
-  pub reads : Counts
-  pub writes : Counts
-
--- what is told of a sink at one moment: the bytes that it received, and how many puts failed
-pub record SinkState : Type 0 where
-  pub bytes : Option (List ℕ)
-  pub faults : ℕ
-
-abbrev pub store_state : Contents → Counts → Counts → StoreState
-store_state held reads writes = record { held = held; reads = reads; writes = writes }
-
-abbrev pub sink_state : Option (List ℕ) → ℕ → SinkState
-sink_state bytes faults = record { bytes = bytes; faults = faults }
-
 -- what a call leaves on a sink: what is so after Ok, and after a fault; and a failed put has its cause
 pub record Leaves {T : Type 0} (result : Result T StoreFault) (done : T → Type 0) (refused : Type 0) (old new : SinkState) : Type 0 where
   pub ok : IfOk result done
@@ -58,14 +42,15 @@ pub record Leaves {T : Type 0} (result : Result T StoreFault) (done : T → Type
 abbrev pub LeavesPiece : {T : Type 0} → Result T StoreFault → List ℕ → SinkState → SinkState → Type 0
 LeavesPiece result piece old new = Leaves result (λ _. new.bytes ≡ added old.bytes piece) (GrownInPart old.bytes new.bytes piece) old new
 
--- no call of the store failed
-abbrev pub IsQuiet : StoreState → StoreState → Type 0
-IsQuiet old new = (new.reads ≡ old.reads) × (new.writes ≡ old.writes)
-
 -- a file that is written: its name, and its bytes where they are told
 pub record File : Type 0 where
   pub name : List ℕ
   pub bytes : Option (List ℕ)
+
+-- a file under a name, where there is one
+abbrev pub file_under : Option (List ℕ) → Option (List ℕ) → List File
+file_under None bytes = []
+file_under (Some name) bytes = record { name = name; bytes = bytes } ∷ []
 
 -- the answers of a command: the status, the text that is put and the files that are written, by what is told of what names hold
 abbrev pub Answers : Type 1

@@ -1,7 +1,7 @@
 //! Texts of several lines.
 ghost use Rattle.std.specs.Prelude.{◌<◌, length};
 ghost use Rattle.run_ends.specs.Ends.{in_lines, IsLineEnd};
-ghost use Rattle.run_ends.specs.Runs.{sink_state, LeavesPiece};
+ghost use Rattle.run_ends.specs.Runs.{LeavesPiece};
 
 use crate::put_line;
 use outer_store::{Sink, StoreFault};
@@ -23,7 +23,7 @@ fn line_end(text: &[u8], from: usize) -> usize
 // Puts a piece of a text that has no line feed but at its end, as a line.
 fn put_piece<W: Sink>(alloc: Global, out: &mut W, piece: &[u8]) -> Result<(), StoreFault>
     requires { 0 < length piece.now }
-    ensures { LeavesPiece result (in_lines piece.now) (sink_state (W.received out.old) (W.faults out.old)) (sink_state (W.received out.new) (W.faults out.new)) }
+    ensures { LeavesPiece result (in_lines piece.now) (W.state out.old) (W.state out.new) }
 {
     if piece[piece.len() - 1] == b'\n' {
         out.put(piece)
@@ -34,7 +34,7 @@ fn put_piece<W: Sink>(alloc: Global, out: &mut W, piece: &[u8]) -> Result<(), St
 
 /// Puts a text, a line in each put. Where its last byte is no line feed, one is put behind it.
 pub fn put_lines<W: Sink>(alloc: Global, out: &mut W, text: &[u8]) -> Result<(), StoreFault>
-    ensures { LeavesPiece result (in_lines text.now) (sink_state (W.received out.old) (W.faults out.old)) (sink_state (W.received out.new) (W.faults out.new)) }
+    ensures { LeavesPiece result (in_lines text.now) (W.state out.old) (W.state out.new) }
 {
     let mut from = 0;
     'lines: while from < text.len() {

@@ -3,7 +3,7 @@ ghost use Rattle.std.specs.Prelude.{◌≡◌, ◌≤◌, string_bytes, IfOk, On
 ghost use Rattle.outer_store.specs.Bytes.{GrownInPart, added};
 ghost use Rattle.outer_store.specs.Faults.{Rose, IfFailed};
 ghost use Rattle.run_ends.specs.Ends.{line_of, refused_words, usage_words, token_words, cert_words, rejected_words, end_line, IsLastPut};
-ghost use Rattle.run_ends.specs.Runs.{sink_state, LeavesPiece};
+ghost use Rattle.run_ends.specs.Runs.{LeavesPiece};
 
 use crate::{Status, cert_name, reject_name, text_name, token_name};
 use cert_reader::CertTextKind;
@@ -16,7 +16,7 @@ use std::alloc::{AllocError, Global};
 
 /// Puts a line, its words and its end, in one put.
 pub fn put_line<W: Sink>(alloc: Global, out: &mut W, words: &[u8]) -> Result<(), StoreFault>
-    ensures { LeavesPiece result (line_of words.now) (sink_state (W.received out.old) (W.faults out.old)) (sink_state (W.received out.new) (W.faults out.new)) }
+    ensures { LeavesPiece result (line_of words.now) (W.state out.old) (W.state out.new) }
 {
     let line = whole_line(alloc, words)?;
     out.put(&line)
@@ -36,14 +36,14 @@ fn put_refused<W: Sink>(
     line: u32,
     kind: TextKind,
 ) -> Result<(), StoreFault>
-    ensures { LeavesPiece result (line_of (refused_words line kind)) (sink_state (W.received out.old) (W.faults out.old)) (sink_state (W.received out.new) (W.faults out.new)) }
+    ensures { LeavesPiece result (line_of (refused_words line kind)) (W.state out.old) (W.state out.new) }
 {
     let words = refused_words(alloc, line, kind)?;
     put_line(alloc, out, words.as_bytes())
 }
 
 fn put_usage<W: Sink>(alloc: Global, out: &mut W, kind: UsageKind) -> Result<(), StoreFault>
-    ensures { LeavesPiece result (line_of (usage_words kind)) (sink_state (W.received out.old) (W.faults out.old)) (sink_state (W.received out.new) (W.faults out.new)) }
+    ensures { LeavesPiece result (line_of (usage_words kind)) (W.state out.old) (W.state out.new) }
 {
     let words = usage_words(alloc, kind)?;
     put_line(alloc, out, words.as_bytes())
@@ -64,7 +64,7 @@ fn usage_words(alloc: Global, kind: UsageKind) -> Result<String, AllocError>
 }
 
 fn put_token_fault<W: Sink>(alloc: Global, out: &mut W, kind: TokenKind) -> Result<(), StoreFault>
-    ensures { LeavesPiece result (line_of (token_words kind)) (sink_state (W.received out.old) (W.faults out.old)) (sink_state (W.received out.new) (W.faults out.new)) }
+    ensures { LeavesPiece result (line_of (token_words kind)) (W.state out.old) (W.state out.new) }
 {
     let words = token_words(alloc, kind)?;
     put_line(alloc, out, words.as_bytes())
@@ -83,7 +83,7 @@ fn put_cert_fault<W: Sink>(
     line: u64,
     kind: CertTextKind,
 ) -> Result<(), StoreFault>
-    ensures { LeavesPiece result (line_of (cert_words line kind)) (sink_state (W.received out.old) (W.faults out.old)) (sink_state (W.received out.new) (W.faults out.new)) }
+    ensures { LeavesPiece result (line_of (cert_words line kind)) (W.state out.old) (W.state out.new) }
 {
     let words = cert_words(alloc, line, kind)?;
     put_line(alloc, out, words.as_bytes())
@@ -102,7 +102,7 @@ fn put_rejected<W: Sink>(
     line: u64,
     kind: RejectKind,
 ) -> Result<(), StoreFault>
-    ensures { LeavesPiece result (line_of (rejected_words line kind)) (sink_state (W.received out.old) (W.faults out.old)) (sink_state (W.received out.new) (W.faults out.new)) }
+    ensures { LeavesPiece result (line_of (rejected_words line kind)) (W.state out.old) (W.state out.new) }
 {
     let words = rejected_words(alloc, line, kind)?;
     put_line(alloc, out, words.as_bytes())
@@ -117,7 +117,7 @@ fn rejected_words(alloc: Global, line: u64, kind: RejectKind) -> Result<String, 
 
 // A line that is known beforehand takes no memory.
 fn put_end_line<W: Sink>(alloc: Global, out: &mut W, status: &Status) -> Result<(), StoreFault>
-    ensures { LeavesPiece result (end_line status.now) (sink_state (W.received out.old) (W.faults out.old)) (sink_state (W.received out.new) (W.faults out.new)) }
+    ensures { LeavesPiece result (end_line status.now) (W.state out.old) (W.state out.new) }
 {
     match status {
         Status::Done | Status::NoWorld | Status::WriteFault | Status::Cut(_) | Status::Consistent =>
@@ -135,8 +135,8 @@ fn put_end_line<W: Sink>(alloc: Global, out: &mut W, status: &Status) -> Result<
 /// Puts the last line of a status, and answers how the run ends. After `Done`, `NoWorld`,
 /// `Cut` and `Consistent` the command has put its last line itself, and after `WriteFault` nothing further is put.
 pub fn put_end<W: Sink>(alloc: Global, out: &mut W, status: Status) -> Status
-    ensures put { IsLastPut status result (end_line status) (W.received out.old) (W.received out.new) (W.faults out.old) (W.faults out.new) }
-    ensures later { W.faults out.old ≤ W.faults out.new }
+    ensures put { IsLastPut status result (end_line status) (W.state out.old) (W.state out.new) }
+    ensures later { (W.state out.old).faults ≤ (W.state out.new).faults }
 {
     match put_end_line(alloc, out, &status) {
         Ok(()) => status,

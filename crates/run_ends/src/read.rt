@@ -1,6 +1,7 @@
 //! What a store holds under a name, read in pieces.
 ghost use Rattle.std.specs.Prelude.{◌≡◌, ◌<◌, [], length, take, IfOk, IfSome};
-ghost use Rattle.outer_store.specs.Faults.{Rose, NoneFell, IfFailed};
+ghost use Rattle.outer_store.specs.Faults.{Rose, IfFailed};
+ghost use Rattle.outer_store.specs.States.{IsQuiet, OnlyRead};
 
 use outer_store::{Store, StoreFault};
 use std::alloc::Global;
@@ -21,12 +22,9 @@ fn read_pieces<S: Store>(
 ) -> Result<(), StoreFault>
     requires room { 0 < length piece.old }
     requires empty { bytes.old.items ≡ [] }
-    ensures front { IfSome (S.held store.old name.now) (λ held. IfOk result (λ _. bytes.new.items ≡ take limit held)) }
-    ensures contents { S.held store.new ≡ S.held store.old }
-    ensures cause { IfFailed result (Rose (S.read_faults store.old name.now) (S.read_faults store.new name.now))
-        ((S.read_faults store.new ≡ S.read_faults store.old) × (S.write_faults store.new ≡ S.write_faults store.old)) }
-    ensures reads_later { NoneFell (S.read_faults store.old) (S.read_faults store.new) }
-    ensures writes_later { NoneFell (S.write_faults store.old) (S.write_faults store.new) }
+    ensures front { IfSome ((S.state store.old).held name.now) (λ held. IfOk result (λ _. bytes.new.items ≡ take limit held)) }
+    ensures only_read { OnlyRead (S.state store.old) (S.state store.new) }
+    ensures cause { IfFailed result (Rose ((S.state store.old).reads name.now) ((S.state store.new).reads name.now)) (IsQuiet (S.state store.old) (S.state store.new)) }
 {
     'pieces: while bytes.len() < limit {
         let count = store.read(name, bytes.len() as u64, piece)?;
@@ -46,12 +44,9 @@ pub fn read_front<S: Store>(
     name: &str,
     limit: usize,
 ) -> Result<Vec<u8>, StoreFault>
-    ensures front { IfSome (S.held store.old name.now) (λ held. IfOk result (λ bytes. bytes.items ≡ take limit held)) }
-    ensures contents { S.held store.new ≡ S.held store.old }
-    ensures cause { IfFailed result (Rose (S.read_faults store.old name.now) (S.read_faults store.new name.now))
-        ((S.read_faults store.new ≡ S.read_faults store.old) × (S.write_faults store.new ≡ S.write_faults store.old)) }
-    ensures reads_later { NoneFell (S.read_faults store.old) (S.read_faults store.new) }
-    ensures writes_later { NoneFell (S.write_faults store.old) (S.write_faults store.new) }
+    ensures front { IfSome ((S.state store.old).held name.now) (λ held. IfOk result (λ bytes. bytes.items ≡ take limit held)) }
+    ensures only_read { OnlyRead (S.state store.old) (S.state store.new) }
+    ensures cause { IfFailed result (Rose ((S.state store.old).reads name.now) ((S.state store.new).reads name.now)) (IsQuiet (S.state store.old) (S.state store.new)) }
 {
     let mut piece = [0; PIECE];
     let mut bytes = Vec::new(alloc);

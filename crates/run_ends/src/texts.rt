@@ -3,7 +3,7 @@ ghost use Rattle.std.specs.Prelude.{◌≡◌, ◌≢◌, ◌⊎◌, Ok, IfOk, I
 ghost use Rattle.cleantax_text.specs.declared.TextKind.TheVariants as text;
 ghost use Rattle.constraint_set.specs.Facts.{IsAsRead};
 ghost use Rattle.run_ends.specs.declared.Status.TheVariants as status;
-ghost use Rattle.run_ends.specs.Runs.{store_state, IsQuiet};
+ghost use Rattle.outer_store.specs.States.{IsQuiet};
 ghost use Rattle.run_ends.specs.Reads.{AreFront, problem_in, IsRefused, ComesOf, IsUnread, IsWithout};
 
 use crate::{Status, TEXT_LIMIT, read_front};
@@ -15,10 +15,10 @@ use world_model::Switches;
 
 /// The bytes under a name: as many as a text or a token may have, and one more.
 pub fn bytes_under<S: Store>(alloc: Global, store: &mut S, name: &str) -> Result<Vec<u8>, Status>
-    ensures front { IfOk result (λ bytes. AreFront (S.held store.old) name.now bytes.items) }
-    ensures quiet { OnOk result (IsQuiet (store_state (S.held store.old) (S.read_faults store.old) (S.write_faults store.old)) (store_state (S.held store.new) (S.read_faults store.new) (S.write_faults store.new))) }
-    ensures ended { IfErr result (λ status. IsUnread name.now status (store_state (S.held store.old) (S.read_faults store.old) (S.write_faults store.old)) (store_state (S.held store.new) (S.read_faults store.new) (S.write_faults store.new))) }
-    ensures kept { S.held store.new ≡ S.held store.old }
+    ensures front { IfOk result (λ bytes. AreFront (S.state store.old).held name.now bytes.items) }
+    ensures quiet { OnOk result (IsQuiet (S.state store.old) (S.state store.new)) }
+    ensures ended { IfErr result (λ status. IsUnread name.now status (S.state store.old) (S.state store.new)) }
+    ensures kept { (S.state store.new).held ≡ (S.state store.old).held }
 {
     match read_front(alloc, store, name, TEXT_LIMIT) {
         Ok(bytes) => Ok(bytes),
@@ -61,11 +61,11 @@ pub fn problem_under<S: Store>(
     name: &str,
     switches: Switches,
 ) -> Result<Problem, Status>
-    ensures problem { IfOk result (λ p. ComesOf (S.held store.old) name.now (problem_in switches) (Ok p)) }
+    ensures problem { IfOk result (λ p. ComesOf (S.state store.old).held name.now (problem_in switches) (Ok p)) }
     ensures as_read { IfOk result (λ p. IsAsRead p) }
-    ensures quiet { OnOk result (IsQuiet (store_state (S.held store.old) (S.read_faults store.old) (S.write_faults store.old)) (store_state (S.held store.new) (S.read_faults store.new) (S.write_faults store.new))) }
-    ensures ended { IfErr result (λ status. IsWithout name.now (problem_in switches) status (store_state (S.held store.old) (S.read_faults store.old) (S.write_faults store.old)) (store_state (S.held store.new) (S.read_faults store.new) (S.write_faults store.new))) }
-    ensures kept { S.held store.new ≡ S.held store.old }
+    ensures quiet { OnOk result (IsQuiet (S.state store.old) (S.state store.new)) }
+    ensures ended { IfErr result (λ status. IsWithout name.now (problem_in switches) status (S.state store.old) (S.state store.new)) }
+    ensures kept { (S.state store.new).held ≡ (S.state store.old).held }
 {
     let bytes = bytes_under(alloc, store, name)?;
     match problem_of_text(alloc, &bytes, switches) {

@@ -1,25 +1,16 @@
 //! Adding a clause to an asker by what shows it.
-ghost use Rattle.std.specs.Prelude.{◌≡◌, IfOk, IfNone, IsTrue};
+ghost use Rattle.std.specs.Prelude.{◌≡◌, IfOk, IfSome, IfNone, OnErr};
 ghost use Rattle.constraint_set.specs.Shape.{shape_of};
-ghost use Rattle.cert_model.specs.Clauses.{variable_count};
 ghost use Rattle.point_query.specs.Asking.{AskerGoes};
-ghost use Rattle.watch_arena.specs.Trails.{AreInRange};
+ghost use Rattle.point_query.specs.Deriving.{IsDerived, IsShown};
 
 use constraint_set::Problem;
 use lits_core::Lit;
-use point_encode::variable_count;
-use point_query::Asker;
+use point_query::{Asker, are_in_range};
 use std::alloc::AllocError;
 
-// Whether literals are of a problem's variables.
-fn are_in_range(problem: &Problem, lits: &[Lit]) -> bool
-    ensures { IsTrue result → AreInRange lits.now (variable_count problem.now) }
-{
-    let count = variable_count(problem);
-    lits.iter().all(|lit| lit.variable() < count)
-}
-
-/// Adds a clause, and answers its id; none where these hints do not show it, and then nothing has changed.
+/// Adds a clause, and answers its id; none exactly where it is not of the problem's variables or these hints do not show it, and
+/// then nothing has changed.
 #[tactic(auto, using(crate::proofs::Logs::asker_stays))]
 pub fn derived(
     problem: &Problem,
@@ -29,11 +20,14 @@ pub fn derived(
 ) -> Result<Option<u64>, AllocError>
     requires { asker.old.shape ≡ shape_of problem.now }
     ensures kept { AskerGoes asker.old asker.new }
+    ensures derived { IfOk result (λ o. IfSome o (IsDerived asker.old.solver asker.new.solver lits.now hints.now)) }
+    ensures none { IfOk result (λ o. IfNone o (IsShown asker.old.solver lits.now hints.now → ⊥)) }
     ensures same { IfOk result (λ o. IfNone o (asker.new ≡ asker.old)) }
+    ensures err { OnErr result (asker.new ≡ asker.old) }
 {
+    asker.facts();
     if !are_in_range(problem, lits) {
         return Ok(None);
     }
-    asker.facts();
     asker.derive(lits, hints)
 }

@@ -17,7 +17,7 @@ use Rattle.point_encode.specs.Needs.{need_seen, number_of, IsInRange}
 use Rattle.point_query.specs.Asking.{AskerState}
 use Rattle.point_query.specs.Answers.{IsFirstClosed, IsFirstEmpty}
 use Rattle.cert_text.specs.declared.line.CertLine.TheVariants.{NoPoint, NoRelation}
-use Rattle.cert_rules.specs.Trees.{Tree, node_problem, last_of}
+use Rattle.cert_rules.specs.Trees.{Branching, node_problem, last_of}
 use Rattle.cert_rules.specs.ClaimWriting.{TellsWithin}
 use Rattle.cert_rules.specs.Writing.{IsClosedNeed}
 use Rattle.cert_rules.proofs.NodeLines.{named}
@@ -45,25 +45,25 @@ closed_need asker p m need id number is range closed = record {
 }
 
 -- what an asker says of the root of a node's problem
-abbrev pub here_is : Tree → List Rel → Problem → List Rel → Type 0
+abbrev pub here_is : Branching → List Rel → Problem → List Rel → Type 0
 here_is tree m node prefix = (node ≡ node_problem tree m) × (prefix ≡ [])
 
-root_problem : (tree : Tree) (m : List Rel) (node : Problem) (prefix : List Rel) → here_is tree m node prefix → problem_at node prefix ≡ node_problem tree m
+root_problem : (tree : Branching) (m : List Rel) (node : Problem) (prefix : List Rel) → here_is tree m node prefix → problem_at node prefix ≡ node_problem tree m
 root_problem tree m node prefix here = ap (problem_at node) here.1 ∙ at_empty node ∙ here.0
 
-pub alive_here : (tree : Tree) (m : List Rel) (node : Problem) (prefix : List Rel) → here_is tree m node prefix → IsAlive (problem_at node prefix) → IsAlive (node_problem tree m)
+pub alive_here : (tree : Branching) (m : List Rel) (node : Problem) (prefix : List Rel) → here_is tree m node prefix → IsAlive (problem_at node prefix) → IsAlive (node_problem tree m)
 alive_here tree m node prefix here alive = subst IsAlive (root_problem tree m node prefix here) alive
 
-pub dead_here : (tree : Tree) (m : List Rel) (node : Problem) (prefix : List Rel) → here_is tree m node prefix → (IsAlive (problem_at node prefix) → ⊥) → IsAlive (node_problem tree m) → ⊥
+pub dead_here : (tree : Branching) (m : List Rel) (node : Problem) (prefix : List Rel) → here_is tree m node prefix → (IsAlive (problem_at node prefix) → ⊥) → IsAlive (node_problem tree m) → ⊥
 dead_here tree m node prefix here dead alive = dead (subst IsAlive (sym (root_problem tree m node prefix here)) alive)
 
-pub tells_pair : (tree : Tree) (m : List Rel) (node : Problem) (prefix : List Rel) (state : State) (depth : ℕ) (last : Option Rel) (pair : ℕ) → here_is tree m node prefix → depth ≡ length m → last ≡ last_of m →
+pub tells_pair : (tree : Branching) (m : List Rel) (node : Problem) (prefix : List Rel) (state : State) (depth : ℕ) (last : Option Rel) (pair : ℕ) → here_is tree m node prefix → depth ≡ length m → last ≡ last_of m →
     IsFirstEmpty (problem_at node prefix) pair → TellsWithin tree state m (NoRelation depth last pair)
 tells_pair tree m node prefix state depth last pair here is_depth is_last first =
     let at : IsFirstEmpty (node_problem tree m) pair = subst (λ q. IsFirstEmpty q pair) (root_problem tree m node prefix here) first in
     (named m depth last is_depth is_last, (at.within, at.empty))
 
-pub tells_need : (tree : Tree) (m : List Rel) (node : Problem) (prefix : List Rel) (asker : AskerState) (depth : ℕ) (last : Option Rel) (need : Need) (id number : ℕ) → here_is tree m node prefix →
+pub tells_need : (tree : Branching) (m : List Rel) (node : Problem) (prefix : List Rel) (asker : AskerState) (depth : ℕ) (last : Option Rel) (need : Need) (id number : ℕ) → here_is tree m node prefix →
     depth ≡ length m → last ≡ last_of m → number ≡ number_of node need → IsInRange node need → IsFirstClosed asker node prefix (need_seen node need) id →
     TellsWithin tree asker.solver.state m (NoPoint depth last number id)
 tells_need tree m node prefix asker depth last need id number here is_depth is_last is range closed = (

@@ -13,7 +13,7 @@ use Rattle.world_model.specs.Problem.{Problem, pairs, pair_count, narrowed}
 use Rattle.world_model.specs.Alive.{allowed}
 use Rattle.world_model.specs.Node.{pair_at}
 use Rattle.cert_rules.specs.Order.{onward, or_later, least_from}
-use Rattle.cert_rules.specs.Trees.{Tree, node_problem, sets_of}
+use Rattle.cert_rules.specs.Trees.{Branching, node_problem, sets_of}
 use Rattle.cert_rules.specs.FromTheEnd.{from_after, found_or, set_at}
 use Rattle.cert_rules.specs.NodeProblems.{level_at}
 use Rattle.cert_rules.specs.ClaimLists.{split_pairs}
@@ -23,17 +23,17 @@ use Rattle.split_search.specs.Walking.{split_tree, next_node, problems_from}
 use Rattle.world_model.proofs.FewPoints.{filter_within}
 
 -- there is a problem for each node on the way
-pub problems_counted : (tree : Tree) (m rest : List Rel) → length (problems_from tree m rest) ≡ length rest + 1
+pub problems_counted : (tree : Branching) (m rest : List Rel) → length (problems_from tree m rest) ≡ length rest + 1
 problems_counted tree m [] = refl
 problems_counted tree m (rel ∷ rest) = let more = problems_counted tree (m ++ rel ∷ []) rest in omega (arith, more)
 
 -- the last is that of the node itself
-pub problems_last : (tree : Tree) (m rest : List Rel) → slice_get (problems_from tree m rest) (length rest) ≡ Some (node_problem tree (m ++ rest))
+pub problems_last : (tree : Branching) (m rest : List Rel) → slice_get (problems_from tree m rest) (length rest) ≡ Some (node_problem tree (m ++ rest))
 problems_last tree m [] = ap (λ m. Some (node_problem tree m)) (sym (append-nil m))
 problems_last tree m (rel ∷ rest) = problems_last tree (m ++ rel ∷ []) rest ∙ ap (λ m. Some (node_problem tree m)) (append_assoc m (rel ∷ []) rest)
 
 -- one relation further there is one more
-pub problems_more : (tree : Tree) (m rest : List Rel) (rel : Rel) →
+pub problems_more : (tree : Branching) (m rest : List Rel) (rel : Rel) →
     problems_from tree m (rest ++ rel ∷ []) ≡ problems_from tree m rest ++ node_problem tree (m ++ (rest ++ rel ∷ [])) ∷ []
 problems_more tree m [] rel = refl
 problems_more tree m (r ∷ rest) rel =
@@ -49,7 +49,7 @@ take_front [] x = refl
 take_front (y ∷ xs) x = ap (λ ys. y ∷ ys) (take_front xs x)
 
 -- and one relation back one less
-pub problems_less : (tree : Tree) (path m : List Rel) (rel : Rel) (problems fewer : List Problem) → path ≡ m ++ rel ∷ [] → problems ≡ problems_from tree [] path →
+pub problems_less : (tree : Branching) (path m : List Rel) (rel : Rel) (problems fewer : List Problem) → path ≡ m ++ rel ∷ [] → problems ≡ problems_from tree [] path →
     fewer ≡ take (length problems - 1) problems → fewer ≡ problems_from tree [] m
 problems_less tree path m rel problems fewer is are cut =
     let all : problems ≡ problems_from tree [] m ++ node_problem tree (m ++ rel ∷ []) ∷ [] = are ∙ ap (problems_from tree []) is ∙ problems_more tree [] m rel in

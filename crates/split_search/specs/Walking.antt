@@ -9,7 +9,7 @@ use Rattle.point_query.specs.Asking.{AskerState}
 use Rattle.cert_text.specs.declared.line.Subject.{Subject}
 use Rattle.cert_text.specs.declared.line.CertLine.{CertLine}
 use Rattle.cert_text.specs.Logs.{Told}
-use Rattle.cert_rules.specs.Trees.{Tree, node_problem, sets_of, is_branch}
+use Rattle.cert_rules.specs.Trees.{Branching, node_problem, sets_of, is_branch}
 use Rattle.cert_rules.specs.Order.{onward}
 use Rattle.cert_rules.specs.ClaimLists.{subject_problem, split_pairs, Claim}
 use Rattle.cert_rules.specs.ClaimWriting.{TellsWithin}
@@ -24,7 +24,7 @@ use Rattle.split_search.specs.Choosing.{IsMetBy}
 use Rattle.split_search.specs.Claiming.{KeepsOpen}
 
 -- the tree over the split pairs of a problem
-abbrev pub split_tree : Problem → Tree
+abbrev pub split_tree : Problem → Branching
 split_tree q = record { subject = q; levels = split_pairs q; from = [] }
 
 -- the node that comes next
@@ -32,7 +32,7 @@ abbrev pub next_node : Problem → Bool → List Rel → Option (List Rel)
 next_node q branches m = onward (sets_of (split_tree q)) [] branches m
 
 -- the problems at a node and on the way from it along more relations
-abbrev pub problems_from : Tree → List Rel → List Rel → List Problem
+abbrev pub problems_from : Branching → List Rel → List Rel → List Problem
 problems_from tree m [] = node_problem tree m ∷ []
 problems_from tree m (rel ∷ rest) = node_problem tree m ∷ problems_from tree (m ++ rel ∷ []) rest
 
@@ -78,7 +78,7 @@ IsTurn q m new turn.On = IsPast q m (Some new)
 IsTurn q m new turn.Done = IsPast q m None
 
 -- a line tells of a node of a tree, and of a branch that it is alive
-pub record TellsAlive (tree : Tree) (state : State) (m : List Rel) (line : CertLine) : Type 0 where
+pub record TellsAlive (tree : Branching) (state : State) (m : List Rel) (line : CertLine) : Type 0 where
   pub tells : TellsWithin tree state m line
   pub alive : IsTrue (is_branch line) → IsAlive (node_problem tree m)
 

@@ -1,11 +1,12 @@
 //! Why a node is dead.
-ghost use Rattle.std.specs.Prelude.{◌≡◌, false, IfOk};
+ghost use Rattle.std.specs.Prelude.{◌≡◌, false, [], IfOk};
 ghost use Rattle.world_model.specs.Alive.{IsAlive};
 ghost use Rattle.constraint_set.specs.Shape.{shape_of};
 ghost use Rattle.point_query.specs.Asking.{AskerGoes};
 ghost use Rattle.cert_text.specs.Lines.{IdsFromOne};
 ghost use Rattle.cert_rules.specs.Trees.{node_problem, is_branch};
 ghost use Rattle.cert_rules.specs.ClaimWriting.{TellsWithin};
+ghost use Rattle.search_log.specs.Leading.{derivation_of};
 ghost use Rattle.split_search.specs.Walking.{IsWalk, split_tree};
 
 use crate::walk::Walk;
@@ -27,6 +28,7 @@ pub(crate) fn reason_line(
     ensures kept { AskerGoes asker.old asker.new }
     ensures tells { IfOk result (TellsWithin (split_tree walk.now.subject) asker.new.solver.state walk.now.path) }
     ensures leaf { IfOk result (λ line. is_branch line ≡ false) }
+    ensures no_derivation { IfOk result (λ line. derivation_of line ≡ []) }
     ensures ids { IfOk result IdsFromOne }
 {
     let depth = walk.depth();

@@ -4,6 +4,7 @@ ghost use Rattle.world_model.specs.Problem.{Problem};
 ghost use Rattle.constraint_set.specs.Shape.{shape_of};
 ghost use Rattle.cert_text.specs.declared.line.Subject.{Subject};
 ghost use Rattle.cert_rules.specs.ClaimLists.{subject_problem, Claim};
+ghost use Rattle.search_log.specs.Leading.{KeepsLeading};
 ghost use Rattle.search_log.specs.Logging.{LogGoes};
 ghost use Rattle.split_search.specs.Choosing.{IsChoice, IsTidy};
 ghost use Rattle.split_search.specs.Claiming.{KeepsWithin};
@@ -29,6 +30,7 @@ fn search<L: TreeLog>(
     ensures answer { IfOk result (IsChoice problem.now) }
     ensures keeps { (p : Problem) (subject : Subject) (claims : List Claim) → subject_problem p subject ≡ problem.now →
         KeepsWithin p subject claims result (L.lines log.old) (L.lines log.new) asker.old asker.new }
+    ensures leads { KeepsLeading (L.lines log.old) (L.lines log.new) asker.old asker.new }
     ensures log { LogGoes L.drops L.lines L.faults L.steady L.quiet result log.old log.new }
 {
     problem.facts();
@@ -59,6 +61,7 @@ pub fn choose<L: TreeLog>(
     ensures ready { OnOk result (IsTidy asker.new) }
     ensures keeps { (p : Problem) (subject : Subject) (claims : List Claim) → subject_problem p subject ≡ problem.now →
         KeepsWithin p subject claims result (L.lines log.old) (L.lines log.new) asker.old asker.new }
+    ensures leads { KeepsLeading (L.lines log.old) (L.lines log.new) asker.old asker.new }
     ensures log { LogGoes L.drops L.lines L.faults L.steady L.quiet result log.old log.new }
 {
     let choice = search(alloc, problem, asker, log)?;

@@ -2,6 +2,7 @@
 ghost use Rattle.std.specs.Prelude.{◌≡◌, ◌<◌, Some, length, IfOk, OnOk, OnErr};
 ghost use Rattle.constraint_set.specs.Shape.{shape_of};
 ghost use Rattle.cert_rules.specs.ClaimLists.{split_pairs};
+ghost use Rattle.search_log.specs.Leading.{KeepsLeading};
 ghost use Rattle.search_log.specs.Logging.{LogGoes};
 ghost use Rattle.split_search.specs.Walking.{IsWalk, IsVisit, IsTurn, next_node, visit_next, turn_next, KeepsTree, KeepsAnywhere};
 ghost use Rattle.split_search.specs.declared.visit.Visit.TheVariants.{Past};
@@ -49,6 +50,7 @@ fn visit_full<L: TreeLog>(
     ensures found { IfOk result (IsVisit walk.now.subject walk.now.path) }
     ensures shape { asker.new.shape ≡ asker.old.shape }
     ensures keeps { KeepsTree walk.now.subject (L.lines log.old) (L.lines log.new) asker.old asker.new (Some walk.now.path) (visit_next walk.now.subject walk.now.path result) }
+    ensures leads { KeepsLeading (L.lines log.old) (L.lines log.new) asker.old asker.new }
     ensures log { LogGoes L.drops L.lines L.faults L.steady L.quiet result log.old log.new }
 {
     match family_at(alloc, walk, asker)? {
@@ -73,6 +75,7 @@ fn visit_inner<L: TreeLog>(
     ensures found { IfOk result (IsVisit walk.now.subject walk.now.path) }
     ensures shape { asker.new.shape ≡ asker.old.shape }
     ensures keeps { KeepsTree walk.now.subject (L.lines log.old) (L.lines log.new) asker.old asker.new (Some walk.now.path) (visit_next walk.now.subject walk.now.path result) }
+    ensures leads { KeepsLeading (L.lines log.old) (L.lines log.new) asker.old asker.new }
     ensures log { LogGoes L.drops L.lines L.faults L.steady L.quiet result log.old log.new }
 {
     if asker.is_alive(walk.node(), &Position::new(alloc))? {
@@ -95,6 +98,7 @@ fn visit_node<L: TreeLog>(
     ensures found { IfOk result (IsVisit walk.now.subject walk.now.path) }
     ensures shape { asker.new.shape ≡ asker.old.shape }
     ensures keeps { KeepsTree walk.now.subject (L.lines log.old) (L.lines log.new) asker.old asker.new (Some walk.now.path) (visit_next walk.now.subject walk.now.path result) }
+    ensures leads { KeepsLeading (L.lines log.old) (L.lines log.new) asker.old asker.new }
     ensures log { LogGoes L.drops L.lines L.faults L.steady L.quiet result log.old log.new }
 {
     if walk.is_full() {
@@ -133,6 +137,7 @@ pub(crate) fn take_turn<L: TreeLog>(
     ensures shape { asker.new.shape ≡ asker.old.shape }
     ensures keeps { IfOk result (λ turn. KeepsTree walk.old.subject (L.lines log.old) (L.lines log.new) asker.old asker.new (Some walk.old.path) (turn_next walk.old.path walk.new.path turn)) }
     ensures err { OnErr result (KeepsAnywhere walk.old.subject (L.lines log.old) (L.lines log.new) asker.old asker.new walk.old.path) }
+    ensures leads { KeepsLeading (L.lines log.old) (L.lines log.new) asker.old asker.new }
     ensures log { LogGoes L.drops L.lines L.faults L.steady L.quiet result log.old log.new }
 {
     match visit_node(alloc, walk, asker, log)? {

@@ -2,11 +2,11 @@
 use Rattle.std.proofs.Common.{◌≡◌, ℕ, List, [], refl, inl, inr}
 use Rattle.outer_store.specs.Bytes.{GrownInPart, added}
 use Rattle.outer_store.specs.Faults.{Rose}
-use Rattle.outer_store.specs.declared.fault.StoreFault.TheVariants as fault
 use Rattle.run_ends.specs.declared.Status.{Status}
 use Rattle.run_ends.specs.declared.Status.TheVariants as status
 use Rattle.run_ends.specs.Ends.{end_line, IsLastPut}
-use Rattle.run_ends.specs.Runs.{StoreState, SinkState, IsRunOf}
+use Rattle.outer_store.specs.States.{StoreState, SinkState}
+use Rattle.run_ends.specs.Runs.{IsRunOf}
 use Rattle.run_ends.proofs.EndLemmas.{all_kept, none_written, run_early, run_done, run_refused, run_starved}
 use Rattle.trial_run.specs.Trials.{IsSummary, IsTrialAnswer, trial_names}
 
@@ -32,7 +32,7 @@ module _ (seed size : ℕ) (text : List ℕ) (is : IsSummary seed size text) (on
 
   -- it finds no memory
   pub trial_starved : (r : Status) (last : SinkState) → GrownInPart old.bytes new.bytes text → new.faults ≡ old.faults
-      → IsLastPut status.NoMemory r (end_line status.NoMemory) new.bytes last.bytes new.faults last.faults → IsRunOf trial_names (IsTrialAnswer seed size) r one one old last
+      → IsLastPut status.NoMemory r (end_line status.NoMemory) new last → IsRunOf trial_names (IsTrialAnswer seed size) r one one old last
   trial_starved r last part same put = run_starved trial_names (IsTrialAnswer seed size) r one one old new last (record {
     done = tt;
     refused = record { text = text; of_answer = inl (status.Done, [], answer); part = part };
@@ -41,5 +41,5 @@ module _ (seed size : ℕ) (text : List ℕ) (is : IsSummary seed size text) (on
 
 -- there is no text
 pub trial_early : (seed size : ℕ) (r : Status) (one : StoreState) (old new : SinkState)
-    → IsLastPut status.NoMemory r (end_line status.NoMemory) old.bytes new.bytes old.faults new.faults → IsRunOf trial_names (IsTrialAnswer seed size) r one one old new
+    → IsLastPut status.NoMemory r (end_line status.NoMemory) old new → IsRunOf trial_names (IsTrialAnswer seed size) r one one old new
 trial_early seed size r one old new put = run_early trial_names (IsTrialAnswer seed size) status.NoMemory r one one old new (inr (inr (refl, (refl, refl)))) refl put

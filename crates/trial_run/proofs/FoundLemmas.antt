@@ -1,18 +1,14 @@
 -- How many worlds a search without an end has found.
-use Rattle.std.proofs.Common.{◌≡◌, ℕ, ◌+◌, ◌-◌, ◌^◌, ◌<◌, min, false, List, [], ◌∷◌, ◌++◌, Option, None, Some, length, refl, sym, ap, subst, ◌∙◌, arith, IsTrue, length-append}
+use Rattle.std.proofs.Common.{◌≡◌, ℕ, ◌+◌, ◌-◌, ◌^◌, ◌<◌, min, not, false, List, [], ◌∷◌, ◌++◌, Option, None, Some, length, refl, sym, ap, subst, ◌∙◌, arith, IsTrue, length-append}
 use Rattle.std.proofs.lemmas.Bool.{true≢false, not_from_false}
 use Rattle.rcc5_core.specs.declared.Rel.{Rel}
 use Rattle.world_model.specs.Problem.{Problem, is_problem}
 use Rattle.world_model.specs.Family.{Family, IsPossibleWorld}
-use Rattle.world_model.specs.Listing.{is_below, is_between, IsListing}
-use Rattle.world_model.specs.Laws.{is_not_above_end}
-use Rattle.world_model.specs.Trial.{worlds_between}
-use Rattle.world_model.proofs.OrderPositions.{below_itself}
-use Rattle.world_model.proofs.OrderLists.{IsExactly, Between, between_parts}
-use Rattle.world_model.proofs.OrderListings.{listing, listings_join_law, one_listing_law}
-use Rattle.world_model.proofs.TrialLaws.{trial_is_right_law}
-use Rattle.world_search.specs.Searching.{SearchState, StandsBetween, Passes, Came, last_place}
+use Rattle.world_model.specs.Listing.{is_below, is_before_end, IsListing}
+use Rattle.world_model.proofs.OrderListings.{listing, listings_join_law}
+use Rattle.world_search.specs.Searching.{SearchState, Passes, Came, IsNodeAtEnd}
 use Rattle.world_search.specs.Steps.{IsStep}
+use Rattle.world_search.proofs.WorldsLeft.{nothing_there, not_above, worlds_from, came_fewer, at_no_end}
 use Rattle.world_search.specs.declared.step.Step.TheVariants as step
 use Rattle.trial_run.specs.Steps.{AreFound}
 use Rattle.trial_run.specs.Searches.{WentPastWorld, CameToEnd}
@@ -22,20 +18,9 @@ none_below : (m : List Rel) → is_below m [] ≡ false
 none_below [] = refl
 none_below (rel ∷ m) = refl
 
--- nothing stands from a place on and below it
-pub nothing_there : (W : List Rel → Type 0) (q : List Rel) → IsExactly (Between W q (Some q)) []
-nothing_there W q = record { ascending = refl; sound = λ t i. elim i [ ]; complete = λ t w. absurd (never t w.1) }
-  where
-    never : (t : List Rel) → IsTrue (is_between q (Some q) t) → ⊥
-    never t h = let parts = between_parts q (Some q) t h in true≢false (sym parts.1 ∙ parts.0)
-
 -- at first none is found
 pub found_none : (p : Problem) → AreFound p (Some []) 0
 found_none p = record { worlds = []; listed = listing p [] (Some []) [] (nothing_there (IsPossibleWorld p) []); counted = omega arith }
-
-pub not_above : (p : Problem) (one : List Rel) (other : Option (List Rel)) (nodes worlds : List (List Rel)) → StandsBetween p one other nodes worlds → IsTrue (is_not_above_end one other)
-not_above p one None nodes worlds between = refl
-not_above p one (Some end) nodes worlds between = between.onward end (not_from_false (is_below end end) (below_itself end))
 
 -- and then those that are passed
 pub found_on : (p : Problem) (at other : Option (List Rel)) (nodes more : List (List Rel)) (count : ℕ) → AreFound p at count → Passes p at other nodes more
@@ -52,37 +37,15 @@ found_on p (Some at) other nodes more count found between = record {
   counted = omega (arith, found.counted, length-append found.worlds more);
 }
 
--- the worlds from a place on
-pub worlds_from : Problem → Option (List Rel) → List (List Rel)
-worlds_from p None = []
-worlds_from p (Some at) = worlds_between p at None
-
--- where a search finds a world, fewer are left
-pub fewer_left : (p : Problem) → IsTrue (is_problem p) → (at other : Option (List Rel)) (nodes : List (List Rel)) (table : List Rel) → Passes p at other nodes (table ∷ [])
-    → length (worlds_from p other) < length (worlds_from p at)
-unfolding worlds_from
-fewer_left p valid None other nodes table passes = absurd (nonempty passes.2)
-  where
-    nonempty : table ∷ [] ≡ [] → ⊥
-    nonempty e = omega (arith, ap length e)
-fewer_left p valid (Some at) None nodes table between =
-    let same : worlds_between p at None ≡ table ∷ [] = one_listing_law.worlds p at None _ _ (trial_is_right_law.worlds p valid at None) between.worlds_are in
-    rw same (omega arith)
-fewer_left p valid (Some at) (Some end) nodes table between =
-    let joined : IsListing p at None ((table ∷ []) ++ worlds_between p end None) =
-    listings_join_law p at end None (table ∷ []) (worlds_between p end None) (not_above p at (Some end) nodes (table ∷ []) between) refl between.worlds_are (trial_is_right_law.worlds p valid end None) in
-    let same : worlds_between p at None ≡ table ∷ worlds_between p end None = one_listing_law.worlds p at None _ _ (trial_is_right_law.worlds p valid at None) joined in
-    rw same (omega arith)
-
 -- what a search of a problem passes
 pub passes_of : (p : Problem) (one other : SearchState) (before left : Option ℕ) (worlds : List (List Rel)) → one.problem ≡ p → (came : Came one other before left worlds)
     → Passes p one.at other.at came.nodes worlds
 passes_of p one other before left worlds same came = subst (λ (q : Problem). Passes q one.at other.at came.nodes worlds) same came.passed
 
--- a search without an end is at its end where nothing is left
-pub at_no_end : (one other : SearchState) (before left : Option ℕ) (worlds : List (List Rel)) → one.to ≡ None → Came one other before left worlds
-    → other.at ≡ last_place other.from other.to → other.at ≡ None
-at_no_end one other before left worlds none came at = at ∙ ap (last_place other.from) (came.to ∙ none)
+-- at its end a search without one has no node
+none_at_end : (p : Problem) (from : List Rel) (to node : Option (List Rel)) → to ≡ None → IsNodeAtEnd p from to node → node ≡ None
+none_at_end p from to None none at = refl
+none_at_end p from to (Some node) none at = absurd (true≢false (sym (subst (λ (to : Option (List Rel)). IsTrue (not (is_before_end node to))) none at.1)))
 
 -- what a step of a search without a limit and an end comes to
 pub step_world : (old new : SearchState) (left : Option ℕ) (table : List Rel) (family : Family) → IsStep old new None left (step.World table family) → WentPastWorld old new
@@ -92,7 +55,12 @@ pub step_spent : (old new : SearchState) (left : Option ℕ) (node : List Rel) �
 step_spent old new left node s = absurd (let none : left ≡ None = s.0.0.counted in let some : left ≡ Some 0 = s.0.1 in let clash : Some 0 ≡ None = sym some ∙ none in cc)
 
 pub step_end : (old new : SearchState) (left : Option ℕ) (last : Option (List Rel)) → old.to ≡ None → IsStep old new None left (step.End last) → CameToEnd old new
-step_end old new left last none s = record { left = left; came = s.0.0; ended = at_no_end old new None left [] none s.0.0 s.0.1 }
+step_end old new left last none s = record {
+  left = left;
+  came = s.0.0;
+  ended = at_no_end old new None left [] none s.0.0 s.0.1;
+  none_next = s.1 ∙ none_at_end new.problem new.from new.to last (s.0.0.to ∙ none) s.0.2;
+}
 
 -- a world more is found
 pub found_world : (p : Problem) (one other : SearchState) (count : ℕ) → one.problem ≡ p → WentPastWorld one other → AreFound p one.at count
@@ -109,5 +77,4 @@ found_all p one other count same ended found =
 
 -- and fewer are left
 pub world_fewer : (p : Problem) → IsTrue (is_problem p) → (one other : SearchState) → one.problem ≡ p → WentPastWorld one other → length (worlds_from p other.at) < length (worlds_from p one.at)
-world_fewer p valid one other same went =
-    fewer_left p valid one.at other.at went.came.nodes went.table (passes_of p one other None went.left (went.table ∷ []) same went.came)
+world_fewer p valid one other same went = came_fewer p valid one other None went.left went.table same went.came

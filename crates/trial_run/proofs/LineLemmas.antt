@@ -5,7 +5,8 @@ use Rattle.outer_store.specs.declared.fault.StoreFault.{StoreFault}
 use Rattle.rcc5_core.specs.declared.Rel.{Rel}
 use Rattle.world_model.specs.Problem.{Problem}
 use Rattle.run_ends.specs.Ends.{line_of, in_lines}
-use Rattle.run_ends.specs.Runs.{SinkState, LeavesPiece}
+use Rattle.outer_store.specs.States.{SinkState}
+use Rattle.run_ends.specs.Runs.{LeavesPiece}
 use Rattle.run_ends.proofs.PieceLemmas.{IsEnded, ended_line, ended_behind, ended_lines}
 use Rattle.trial_make.specs.Made.{made}
 use Rattle.world_watch.specs.Held.{count_of}

@@ -9,11 +9,12 @@ pub record WentPastWorld (old new : SearchState) : Type 0 where
   pub left : Option ℕ
   pub came : Came old new None left (table ∷ [])
 
--- or there was none, and it is at its end
+-- or there was none, and it is at its end, where no node comes next in a log
 pub record CameToEnd (old new : SearchState) : Type 0 where
   pub left : Option ℕ
   pub came : Came old new None left []
   pub ended : new.at ≡ None
+  pub none_next : new.expects ≡ None
 
 -- the first where a world was found, and else the second
 abbrev pub IsFurther : SearchState → SearchState → Bool → Type 0

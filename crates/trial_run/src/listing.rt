@@ -1,16 +1,21 @@
 //! The listing of all worlds, with its certificate.
-ghost use Rattle.std.specs.Prelude.{◌≡◌, [], None, IfOk};
+ghost use Rattle.std.specs.Prelude.{◌≡◌, [], None, IfOk, OnOk};
 ghost use Rattle.constraint_set.specs.Shape.{shape_of};
+ghost use Rattle.point_query.specs.Asking.{IsNewAsker};
 ghost use Rattle.cert_text.specs.Lines.{IdsFromOne};
+ghost use Rattle.cert_text.specs.Logs.{IsToldWith};
+ghost use Rattle.cert_text.specs.declared.line.CertLine.TheVariants.{Certificate};
 ghost use Rattle.world_search.specs.Searching.{begun};
+ghost use Rattle.world_search.specs.Logging.{KeepsOn, AddsLines};
 ghost use Rattle.trial_run.specs.Steps.{AreFound};
 ghost use Rattle.trial_run.specs.Searches.{IsFurther};
+ghost use Rattle.world_search.specs.Told.{IsToldTo, IsToldWhole};
 
 use cert_text::{CertLine, TreeLog};
 use constraint_set::Problem;
 use point_query::Asker;
 use rcc5_core::Position;
-use search_log::{put_one, put_waiting};
+use search_log::put_one;
 use std::alloc::Global;
 use world_search::{Nodes, Search, Step, StepFault};
 
@@ -30,6 +35,9 @@ fn finds_next<L: TreeLog>(
     ensures from { search.new.from ≡ search.old.from }
     ensures to { search.new.to ≡ search.old.to }
     ensures asker { asker.new.shape ≡ asker.old.shape }
+    ensures none_waits { OnOk result (asker.new.solver.waiting ≡ []) }
+    ensures keeps { KeepsOn problem.now search.old.from (L.lines log.old) (L.lines log.new) asker.old asker.new search.old.expects search.new.expects }
+    ensures told { OnOk result (AddsLines (L.lines log.old) (L.lines log.new)) }
 {
     let mut nodes = Nodes { left: None };
     match search.next(problem, asker, &mut nodes, log) {
@@ -48,8 +56,9 @@ fn count_worlds<L: TreeLog>(
     log: &mut L,
 ) -> Result<u64, StepFault>
     requires begun { search.old ≡ begun problem.now [] None }
-    requires shape { asker.old.shape ≡ shape_of problem.now }
-    ensures { IfOk result (AreFound problem.now None) }
+    requires asker { IsNewAsker problem.now asker.old }
+    ensures found { IfOk result (AreFound problem.now None) }
+    ensures told { OnOk result (IsToldTo problem.now [] (L.lines log.old) None (L.lines log.new)) }
 {
     problem.facts();
     let mut count: u64 = 0;
@@ -62,8 +71,10 @@ fn count_worlds<L: TreeLog>(
     }
 }
 
+// The first line of a certificate.
 fn first_line(alloc: Global, problem: &Problem) -> CertLine
-    ensures { IdsFromOne result }
+    ensures line { result ≡ Certificate problem.now.switches [] }
+    ensures ids { IdsFromOne result }
 {
     CertLine::Certificate {
         switches: problem.switches(),
@@ -73,7 +84,9 @@ fn first_line(alloc: Global, problem: &Problem) -> CertLine
 
 // Here and below no `?` comes after a value that has to be dropped is made: each would be one more place that lets it go, and
 // proving those is dear.
-fn put_first<L: TreeLog>(alloc: Global, problem: &Problem, log: &mut L) -> Result<(), StepFault> {
+fn put_first<L: TreeLog>(alloc: Global, problem: &Problem, log: &mut L) -> Result<(), StepFault>
+    ensures { OnOk result (IsToldWith (L.lines log.old) (Certificate problem.now.switches []) (L.lines log.new)) }
+{
     let first = first_line(alloc, problem);
     put_one(log, &first)
 }
@@ -85,35 +98,21 @@ fn count_all<L: TreeLog>(
     asker: &mut Asker,
     log: &mut L,
 ) -> Result<u64, StepFault>
-    requires shape { asker.old.shape ≡ shape_of problem.now }
-    ensures { IfOk result (AreFound problem.now None) }
+    requires asker { IsNewAsker problem.now asker.old }
+    ensures found { IfOk result (AreFound problem.now None) }
+    ensures told { OnOk result (IsToldTo problem.now [] (L.lines log.old) None (L.lines log.new)) }
 {
     let mut search = Search::from(alloc, problem, Position::new(alloc), None)?;
     count_worlds(problem, asker, &mut search, log)
 }
 
-// After the last node the asker is tidied once more, and what that gives is put.
-fn put_by<L: TreeLog>(
-    alloc: Global,
-    problem: &Problem,
-    asker: &mut Asker,
-    log: &mut L,
-) -> Result<u64, StepFault>
-    requires shape { asker.old.shape ≡ shape_of problem.now }
-    ensures { IfOk result (AreFound problem.now None) }
-{
-    let found = count_all(alloc, problem, asker, log)?;
-    asker.tidy()?;
-    put_waiting(alloc, asker, log)?;
-    Ok(found)
-}
-
 // Puts all that comes between the first and the last line, and answers how many worlds there are.
 fn put_nodes<L: TreeLog>(alloc: Global, problem: &Problem, log: &mut L) -> Result<u64, StepFault>
-    ensures { IfOk result (AreFound problem.now None) }
+    ensures found { IfOk result (AreFound problem.now None) }
+    ensures told { OnOk result (IsToldTo problem.now [] (L.lines log.old) None (L.lines log.new)) }
 {
     let mut asker = Asker::new(alloc, problem)?;
-    put_by(alloc, problem, &mut asker, log)
+    count_all(alloc, problem, &mut asker, log)
 }
 
 /// Puts the certificate of all worlds in a log, and answers how many there are.
@@ -122,7 +121,8 @@ pub(crate) fn put_listing<L: TreeLog>(
     problem: &Problem,
     log: &mut L,
 ) -> Result<u64, StepFault>
-    ensures { IfOk result (AreFound problem.now None) }
+    ensures found { IfOk result (AreFound problem.now None) }
+    ensures told { OnOk result (IsToldWhole problem.now [] (L.lines log.old) None (L.lines log.new)) }
 {
     put_first(alloc, problem, log)?;
     let found = put_nodes(alloc, problem, log)?;

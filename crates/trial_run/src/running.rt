@@ -1,7 +1,8 @@
 //! A trial, from its seed to its status.
 ghost use Rattle.std.specs.Prelude.{◌≡◌, IfOk};
 ghost use Rattle.trial_make.specs.Made.{IsSize};
-ghost use Rattle.run_ends.specs.Runs.{StoreState, sink_state, LeavesPiece, IsRunOf};
+ghost use Rattle.outer_store.specs.States.{StoreState};
+ghost use Rattle.run_ends.specs.Runs.{LeavesPiece, IsRunOf};
 ghost use Rattle.trial_run.specs.Trials.{IsSummary, IsTrialAnswer, trial_names};
 
 use crate::checked::checked_worlds;
@@ -30,7 +31,7 @@ fn put_summary<W: Sink>(
     text: &[u8],
 ) -> Result<(), StoreFault>
     requires { IsSummary seed size text.now }
-    ensures { LeavesPiece result text.now (sink_state (W.received out.old) (W.faults out.old)) (sink_state (W.received out.new) (W.faults out.new)) }
+    ensures { LeavesPiece result text.now (W.state out.old) (W.state out.new) }
 {
     put_lines(alloc, out, text)
 }
@@ -39,7 +40,7 @@ fn put_summary<W: Sink>(
 /// there are by both. It answers how the run ended, and reads and writes no store.
 pub fn run_trial<W: Sink>(alloc: Global, out: &mut W, seed: u64, size: u32) -> Status
     requires { IsSize size }
-    ensures { (store : StoreState) → IsRunOf trial_names (IsTrialAnswer seed size) result store store (sink_state (W.received out.old) (W.faults out.old)) (sink_state (W.received out.new) (W.faults out.new)) }
+    ensures { (store : StoreState) → IsRunOf trial_names (IsTrialAnswer seed size) result store store (W.state out.old) (W.state out.new) }
 {
     let text = match trial_text(alloc, seed, size) {
         Ok(text) => text,

@@ -26,8 +26,8 @@ IsSettledAt-lowered records shorts marks h less s n le p = record {
 }
 
 -- propagation goes back
-pub IsSound-lowered : (e : Engine) (q : ℕ) (heads : List ℕ) (head : ℕ) → IsSound e → head ≤ e.head → Caps e.heads heads q (length e.places.list) q → IsSound (record e { heads = heads; head = head })
-IsSound-lowered e q heads head s le caps = record {
+pub IsSound-lowered : (e : Engine) (q : ℕ) (heads : List ℕ) (queue_head : ℕ) → IsSound e → queue_head ≤ e.queue_head → Caps e.heads heads q (length e.places.list) q → IsSound (record e { heads = heads; queue_head = queue_head })
+IsSound-lowered e q heads queue_head s le caps = record {
   few = s.few;
   no_pairs = s.no_pairs;
   room = s.room;
@@ -40,14 +40,14 @@ IsSound-lowered e q heads head s le caps = record {
   kinds = s.kinds;
   filed = s.filed;
   levelled = s.levelled;
-  now = IsSettledAt-lowered e.arena e.shorts e.marks e.head head e.first (length e.places.list) le s.now;
+  now = IsSettledAt-lowered e.arena e.shorts e.marks e.queue_head queue_head e.first (length e.places.list) le s.now;
   saved = λ p lt. IsSettledAt-lowered e.arena e.shorts e.marks (get_or e.heads p 0) (get_or heads p 0) (get_or e.firsts p 0) p (caps.less p) (s.saved p lt);
 }
 
 -- then it has come no further than there
-pub IsLowered-caps : (e : Engine) (q : ℕ) (heads : List ℕ) (head : ℕ) → IsSound e → head ≤ q → Caps e.heads heads q (length e.places.list) q → IsLowered (record e { heads = heads; head = head }) q
-IsLowered-caps e q heads head s le caps = record {
-  head = le;
+pub IsLowered-caps : (e : Engine) (q : ℕ) (heads : List ℕ) (queue_head : ℕ) → IsSound e → queue_head ≤ q → Caps e.heads heads q (length e.places.list) q → IsLowered (record e { heads = heads; queue_head = queue_head }) q
+IsLowered-caps e q heads queue_head s le caps = record {
+  queue_head = le;
   heads = λ p lt. elim (cases_lt p q) [
     | inl before ↦ let less = caps.less p in let within = (s.saved p lt).within in omega arith
     | inr from ↦ caps.capped p from lt
@@ -86,7 +86,7 @@ IsSound-listed e at s = record {
   kinds = s.kinds;
   filed = s.filed;
   levelled = s.levelled;
-  now = IsSettledAt-listed e.arena e.shorts e.marks at e.head e.first (length e.places.list) s.now;
+  now = IsSettledAt-listed e.arena e.shorts e.marks at e.queue_head e.first (length e.places.list) s.now;
   saved = λ p lt. IsSettledAt-listed e.arena e.shorts e.marks at (get_or e.heads p 0) (get_or e.firsts p 0) p (s.saved p lt);
 }
 
@@ -121,7 +121,7 @@ IsSettledAt-put records r shorts marks h s n new p = record {
 }
 
 -- one more record
-IsBare-put : (e : Engine) (r : Record) → IsSound e → ((lit : ℕ) → Contains r.lits lit → lit < 2 * e.variables) → IsShort r.lits ⊎ IsWatched r.lits (get_or r.lits 0 0) (get_or r.lits 1 0) → NewSettled r.lits (length e.arena) e.shorts e.marks e.head e.first (length e.places.list) → ((p : ℕ) → p < length e.places.list → NewSettled r.lits (length e.arena) e.shorts e.marks (get_or e.heads p 0) (get_or e.firsts p 0) p) → IsBare (record e { arena = e.arena ++ r ∷ [] })
+IsBare-put : (e : Engine) (r : Record) → IsSound e → ((lit : ℕ) → Contains r.lits lit → lit < 2 * e.variables) → IsShort r.lits ⊎ IsWatched r.lits (get_or r.lits 0 0) (get_or r.lits 1 0) → NewSettled r.lits (length e.arena) e.shorts e.marks e.queue_head e.first (length e.places.list) → ((p : ℕ) → p < length e.places.list → NewSettled r.lits (length e.arena) e.shorts e.marks (get_or e.heads p 0) (get_or e.firsts p 0) p) → IsBare (record e { arena = e.arena ++ r ∷ [] })
 IsBare-put e r s range kind now saved = record {
   few = s.few;
   no_pairs = s.no_pairs;
@@ -149,7 +149,7 @@ IsBare-put e r s range kind now saved = record {
         subst P (sym same) (s.kinds at (sym (ap (λ (x : Record). x.live) same) ∙ live))
   ];
   levelled = s.levelled;
-  now = IsSettledAt-put e.arena r e.shorts e.marks e.head e.first (length e.places.list) now s.now;
+  now = IsSettledAt-put e.arena r e.shorts e.marks e.queue_head e.first (length e.places.list) now s.now;
   saved = λ p lt. IsSettledAt-put e.arena r e.shorts e.marks (get_or e.heads p 0) (get_or e.firsts p 0) p (saved p lt) (s.saved p lt);
 }
 
@@ -168,7 +168,7 @@ pub IsSound-put_watched : (e : Engine) (r : Record) (q : ℕ) (records : List Re
 IsSound-put_watched e r q records chains s range two ne low u v bodies size filed =
     let w = IsWatched-first r.lits two ne in
     let bare = IsBare-put e r s range (inr w)
-    (NewSettled-watched r.lits (length e.arena) e.shorts e.marks e.head e.first (length e.places.list) q w low.head u v)
+    (NewSettled-watched r.lits (length e.arena) e.shorts e.marks e.queue_head e.first (length e.places.list) q w low.queue_head u v)
     (λ p lt. NewSettled-watched r.lits (length e.arena) e.shorts e.marks (get_or e.heads p 0) (get_or e.firsts p 0) p q w (low.heads p lt) u v) in
     IsSound-of (record e { arena = records; chains = chains }) (IsBare-linked (record e { arena = e.arena ++ r ∷ [] }) records chains bare bodies) (size ∙ s.lists) filed
 
@@ -187,7 +187,7 @@ IsSound-put_short e r s range short =
     let size : length now ≡ length e.shorts + 1 = length_push e.shorts (length e.arena) in
     let last : get_or now (length e.shorts) 0 ≡ length e.arena = get_or_push e.shorts (length e.arena) 0 (length e.shorts) refl in
     let bare = IsBare-put (record e { shorts = e.shorts ++ length e.arena ∷ [] }) r listed range (inl short)
-    (NewSettled-short r.lits (length e.arena) now e.marks e.head e.first (length e.places.list) (length e.shorts) short (omega arith) last s.now.alone.within)
+    (NewSettled-short r.lits (length e.arena) now e.marks e.queue_head e.first (length e.places.list) (length e.shorts) short (omega arith) last s.now.alone.within)
     (λ p below. NewSettled-short r.lits (length e.arena) now e.marks (get_or e.heads p 0) (get_or e.firsts p 0) p (length e.shorts) short (omega arith) last (s.saved p below).alone.within) in
     let put = AreChains-put e.arena e.chains r s.filed in
     let filed = AreChains-aside (e.arena ++ r ∷ []) e.chains (IsOf (length e.arena)) IsNone (λ y none. absurd none)
@@ -228,7 +228,7 @@ pub record IsAdded (old new : Engine) (codes : List ℕ) (i : ℕ) : Type 0 wher
   pub bodies : SameBodies (old.arena ++ new_record i codes ∷ []) new.arena
 
 -- by its steps
-pub Added : (old low : Engine) (put : List Record) (e1 e2 : Engine) (codes : List ℕ) (i a b at fa fb q : ℕ) → IsSound old → ((lit : ℕ) → Contains codes lit → lit < 2 * old.variables) → 2 ≤ length codes → get_or codes 0 0 ≢ get_or codes 1 0 → a ≡ get_or codes 0 0 → b ≡ get_or codes 1 0 → (0 < mark_of old.marks (negation_of a) → fa < mark_of old.marks (negation_of a)) → (0 < mark_of old.marks (negation_of b) → fb < mark_of old.marks (negation_of b)) → q ≡ min fa fb → IsSound low → IsLowered low q → low ≡ record old { heads = low.heads; head = low.head } → at ≡ length low.arena → put ≡ low.arena ++ new_record i codes ∷ [] → e1 ≡ record low { arena = linked put (record { at = at; slot = 0 }) (head_of low.chains a); chains = set low.chains a (Some (record { at = at; slot = 0 })) } → e2 ≡ record e1 { arena = linked e1.arena (record { at = at; slot = 1 }) (head_of e1.chains b); chains = set e1.chains b (Some (record { at = at; slot = 1 })) } → IsAdded old e2 codes i
+pub Added : (old low : Engine) (put : List Record) (e1 e2 : Engine) (codes : List ℕ) (i a b at fa fb q : ℕ) → IsSound old → ((lit : ℕ) → Contains codes lit → lit < 2 * old.variables) → 2 ≤ length codes → get_or codes 0 0 ≢ get_or codes 1 0 → a ≡ get_or codes 0 0 → b ≡ get_or codes 1 0 → (0 < mark_of old.marks (negation_of a) → fa < mark_of old.marks (negation_of a)) → (0 < mark_of old.marks (negation_of b) → fb < mark_of old.marks (negation_of b)) → q ≡ min fa fb → IsSound low → IsLowered low q → low ≡ record old { heads = low.heads; queue_head = low.queue_head } → at ≡ length low.arena → put ≡ low.arena ++ new_record i codes ∷ [] → e1 ≡ record low { arena = linked put (record { at = at; slot = 0 }) (head_of low.chains a); chains = set low.chains a (Some (record { at = at; slot = 0 })) } → e2 ≡ record e1 { arena = linked e1.arena (record { at = at; slot = 1 }) (head_of e1.chains b); chains = set e1.chains b (Some (record { at = at; slot = 1 })) } → IsAdded old e2 codes i
 Added old low put e1 e2 codes i a b at fa fb q s range two ne a_is b_is ua ub q_is t lowered same at_is put_is e1_is e2_is =
     let r : Record = new_record i codes in
     let vars : low.variables ≡ old.variables = ap (λ (e : Engine). e.variables) same in

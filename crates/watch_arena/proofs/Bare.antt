@@ -23,7 +23,7 @@ pub record IsBare (e : Engine) : Type 0 where
   pub reasoned : AreReasoned e.arena e.marks e.places.list
   pub kinds : AreShortOrWatched e.arena
   pub levelled : AreLevelled e.places.list
-  pub now : IsSettledAt e.arena e.shorts e.marks e.head e.first (length e.places.list)
+  pub now : IsSettledAt e.arena e.shorts e.marks e.queue_head e.first (length e.places.list)
   pub saved : (p : ℕ) → p < length e.places.list → IsSettledAt e.arena e.shorts e.marks (get_or e.heads p 0) (get_or e.firsts p 0) p
 
 pub IsBare-of : (e : Engine) → IsSound e → IsBare e
@@ -105,6 +105,6 @@ IsBare-linked e records chains b same = record {
       let P : List ℕ → Type 0 = λ ls. IsShort ls ⊎ IsWatched ls (get_or ls 0 0) (get_or ls 1 0) in
       subst P (sym one.lits) (b.kinds at (sym one.live ∙ live));
   levelled = b.levelled;
-  now = IsSettledAt-bodies e.arena records e.shorts e.marks e.head e.first (length e.places.list) same b.now;
+  now = IsSettledAt-bodies e.arena records e.shorts e.marks e.queue_head e.first (length e.places.list) same b.now;
   saved = λ p lt. IsSettledAt-bodies e.arena records e.shorts e.marks (get_or e.heads p 0) (get_or e.firsts p 0) p same (b.saved p lt);
 }

@@ -172,8 +172,8 @@ IsSettledAt-compacted rs shorts now marks h s n moved p = record {
 }
 
 -- all that is so beside the chains
-pub IsBare-compacted : (e new : Engine) → IsSound e → new.arena ≡ compacted e.arena → new.places.list ≡ places_with (place_after e.arena) e.places.list → new.places.room ≡ e.places.room → ((at to : ℕ) → Contains e.shorts at → place_after e.arena at ≡ Some to → Contains new.shorts to) → new.marks ≡ e.marks → new.heads ≡ e.heads → length new.firsts ≡ length e.firsts → ((p : ℕ) → p < length e.places.list → get_or new.firsts p 0 ≤ 0) → new.head ≡ e.head → new.first ≡ 0 → new.variables ≡ e.variables → new.moves.pairs ≡ [] → IsBare new
-IsBare-compacted e new s arena places room shorts marks heads firsts_size firsts head first variables pairs =
+pub IsBare-compacted : (e new : Engine) → IsSound e → new.arena ≡ compacted e.arena → new.places.list ≡ places_with (place_after e.arena) e.places.list → new.places.room ≡ e.places.room → ((at to : ℕ) → Contains e.shorts at → place_after e.arena at ≡ Some to → Contains new.shorts to) → new.marks ≡ e.marks → new.heads ≡ e.heads → length new.firsts ≡ length e.firsts → ((p : ℕ) → p < length e.places.list → get_or new.firsts p 0 ≤ 0) → new.queue_head ≡ e.queue_head → new.first ≡ 0 → new.variables ≡ e.variables → new.moves.pairs ≡ [] → IsBare new
+IsBare-compacted e new s arena places room shorts marks heads firsts_size firsts queue_head first variables pairs =
     let rs : List Record = e.arena in
     let name : ℕ → Option ℕ = place_after e.arena in
     let size : length new.places.list ≡ length e.places.list = ap length places ∙ length-with (place_after e.arena) e.places.list in
@@ -213,9 +213,9 @@ IsBare-compacted e new s arena places room shorts marks heads firsts_size firsts
           let below : p < length e.places.list = omega arith in
           let place : place_at new.places.list p ≡ record (place_at e.places.list p) { reason = option_and_then (place_after e.arena) (place_at e.places.list p).reason } = ap (λ (ps : List Place). place_at ps p) places ∙ place_at-with (place_after e.arena) e.places.list p below in
           ap (λ (x : Place). x.level) place ∙ s.levelled p below ∙ sym (level_of-with (place_after e.arena) e.places.list (p + 1) named) ∙ sym (ap (λ (ps : List Place). level_of (take (p + 1) ps)) places);
-      now = subst (λ (h : ℕ). IsSettledAt new.arena new.shorts new.marks h new.first (length new.places.list)) (sym head)
-          (subst (λ (f : ℕ). IsSettledAt new.arena new.shorts new.marks e.head f (length new.places.list)) (sym first)
-          (subst (λ (n : ℕ). IsSettledAt new.arena new.shorts new.marks e.head 0 n) (sym size) (settled e.head e.first (length e.places.list) s.now)));
+      now = subst (λ (h : ℕ). IsSettledAt new.arena new.shorts new.marks h new.first (length new.places.list)) (sym queue_head)
+          (subst (λ (f : ℕ). IsSettledAt new.arena new.shorts new.marks e.queue_head f (length new.places.list)) (sym first)
+          (subst (λ (n : ℕ). IsSettledAt new.arena new.shorts new.marks e.queue_head 0 n) (sym size) (settled e.queue_head e.first (length e.places.list) s.now)));
       saved = λ p lt.
           let below : p < length e.places.list = omega arith in
           let none = firsts p below in

@@ -111,7 +111,7 @@ IsBare-moved e at slot k lit other s m =
       reasoned = AreReasoned-same e.arena (moved e.arena at slot k) e.marks e.places.list same s.reasoned;
       kinds = AreShortOrWatched-moved e.arena e.marks at slot k lit other m s.kinds;
       levelled = s.levelled;
-      now = IsSettledAt-moved e.arena e.shorts e.marks at slot k lit other e.head e.first (length e.places.list) m s.marked.apart s.now;
+      now = IsSettledAt-moved e.arena e.shorts e.marks at slot k lit other e.queue_head e.first (length e.places.list) m s.marked.apart s.now;
       saved = λ q lt. IsSettledAt-moved e.arena e.shorts e.marks at slot k lit other (get_or e.heads q 0) (get_or e.firsts q 0) q m s.marked.apart (s.saved q lt);
     }
 

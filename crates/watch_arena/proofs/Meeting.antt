@@ -10,7 +10,7 @@ use Rattle.clause_arena.specs.Records.{record_at}
 use Rattle.watch_arena.specs.declared.places.Place.{Place}
 use Rattle.watch_arena.specs.declared.engine.Engine.{Engine}
 use Rattle.watch_arena.specs.Places.{level_of, is_assumed}
-use Rattle.watch_arena.specs.Engines.{mark_of, TrueBelow, IsReasonBelow, IsWatched, IsShort, IsShortMet, CanMark, IsSound, IsFalse, IsDone, Advances, with_place}
+use Rattle.watch_arena.specs.Engines.{mark_of, TrueBelow, IsReasonBelow, IsWatched, IsShort, IsShortMet, CanAssign, IsSound, IsFalse, IsDone, Advances, with_place}
 use Rattle.watch_arena.proofs.Watching.{contains_at, index_of}
 use Rattle.watch_arena.proofs.Sound.{IsSound-marked, IsSound-first_advanced, lit-in_range}
 use Rattle.watch_arena.proofs.Visiting.{TrueBelow-all, Visits-marked, Advances-visits, HasRoom-from_can, mark_within, level_of-push, not_positive}
@@ -56,8 +56,8 @@ IsFalse-from_empty e at live none = record {
 }
 
 -- the literal of a short clause may become true
-pub CanMark-from_short : (e : Engine) (at lit level : ℕ) → IsSound e → (record_at e.arena at).live ≡ true → IsShort (record_at e.arena at).lits → 0 < length (record_at e.arena at).lits → lit ≡ get_or (record_at e.arena at).lits 0 0 → (0 < mark_of e.marks lit → false ≡ true) → (0 < mark_of e.marks (negation_of lit) → false ≡ true) → level ≡ level_of e.places.list → CanMark e (record { lit = lit; level = level; reason = Some at })
-CanMark-from_short e at lit level s live short some is not_true not_false at_level = record {
+pub CanAssign-from_short : (e : Engine) (at lit level : ℕ) → IsSound e → (record_at e.arena at).live ≡ true → IsShort (record_at e.arena at).lits → 0 < length (record_at e.arena at).lits → lit ≡ get_or (record_at e.arena at).lits 0 0 → (0 < mark_of e.marks lit → false ≡ true) → (0 < mark_of e.marks (negation_of lit) → false ≡ true) → level ≡ level_of e.places.list → CanAssign e (record { lit = lit; level = level; reason = Some at })
+CanAssign-from_short e at lit level s live short some is not_true not_false at_level = record {
   range = (lit-in_range e at 0 lit s some is).0;
   not_true = not_positive (mark_of e.marks lit) not_true;
   not_false = not_positive (mark_of e.marks (negation_of lit)) not_false;
@@ -72,21 +72,21 @@ CanMark-from_short e at lit level s live short some is not_true not_false at_lev
 }
 
 -- one more implied place
-pub Advances-marked : (e : Engine) (p : Place) → IsSound e → CanMark e p → is_assumed p ≡ false → Advances e (with_place e p)
+pub Advances-marked : (e : Engine) (p : Place) → IsSound e → CanAssign e p → is_assumed p ≡ false → Advances e (with_place e p)
 Advances-marked e p s m implied = Advances-visits e (with_place e p) 0 (Visits-marked e p 0 s m implied)
 
 -- the literal is true then
-pub mark-marked : (e : Engine) (p : Place) → IsSound e → CanMark e p → 0 < mark_of (set e.marks p.lit (length e.places.list + 1)) p.lit
+pub mark-marked : (e : Engine) (p : Place) → IsSound e → CanAssign e p → 0 < mark_of (set e.marks p.lit (length e.places.list + 1)) p.lit
 mark-marked e p s m =
     let here : mark_of (set e.marks p.lit (length e.places.list + 1)) p.lit ≡ length e.places.list + 1 = get_or-set_same e.marks p.lit (length e.places.list + 1) 0 (mark_within e p.lit s m.range) in omega arith
 
-pub IsShortMet-marked : (e : Engine) (at : ℕ) (p : Place) → IsSound e → CanMark e p → 0 < length (record_at e.arena at).lits → p.lit ≡ get_or (record_at e.arena at).lits 0 0 → IsShortMet (with_place e p) at
+pub IsShortMet-marked : (e : Engine) (at : ℕ) (p : Place) → IsSound e → CanAssign e p → 0 < length (record_at e.arena at).lits → p.lit ≡ get_or (record_at e.arena at).lits 0 0 → IsShortMet (with_place e p) at
 IsShortMet-marked e at p s m some is =
     IsShortMet-true (with_place e p) at p.lit (IsSound-marked e p s m (HasRoom-from_can e p s m).below) some is (mark-marked e p s m)
 
 -- a literal may be assumed
-pub CanMark-assumed : (e : Engine) (lit level : ℕ) → lit < 2 * e.variables → mark_of e.marks lit ≡ 0 → mark_of e.marks (negation_of lit) ≡ 0 → level ≡ level_of e.places.list + 1 → CanMark e (record { lit = lit; level = level; reason = None })
-CanMark-assumed e lit level range not_true not_false is = record {
+pub CanAssign-assumed : (e : Engine) (lit level : ℕ) → lit < 2 * e.variables → mark_of e.marks lit ≡ 0 → mark_of e.marks (negation_of lit) ≡ 0 → level ≡ level_of e.places.list + 1 → CanAssign e (record { lit = lit; level = level; reason = None })
+CanAssign-assumed e lit level range not_true not_false is = record {
   range = range;
   not_true = not_true;
   not_false = not_false;
@@ -104,11 +104,11 @@ IsSound-met old new at a below is met =
     IsSound-first_advanced new a.sound (omega arith) (subst (λ (r : ℕ). IsShortMet new r) entry met)
 
 -- all short clauses were met, and the places to the end
-pub IsDone-from : (mid new : Engine) → Advances mid new → mid.first ≡ length mid.shorts → new.head ≡ length new.places.list → IsDone new
-IsDone-from mid new a first head =
+pub IsDone-from : (mid new : Engine) → Advances mid new → mid.first ≡ length mid.shorts → new.queue_head ≡ length new.places.list → IsDone new
+IsDone-from mid new a first queue_head =
     let size = ap length a.steps.shorts in
     let same = a.first in
-    record { head = head; first = omega arith }
+    record { queue_head = queue_head; first = omega arith }
 
 -- what came of it, whatever it is
 pub outcome_done : {H D : Type 0} (F : ℕ → Type 0) (o : Option ℕ) → (H → D) → MatchOption o H F → MatchOption o D F

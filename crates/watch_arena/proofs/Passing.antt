@@ -51,7 +51,7 @@ Visits-moved e lit k other prev x before rest m h =
         variables = refl;
         shorts = refl;
       };
-      head = refl;
+      queue_head = refl;
       first = refl;
       agreed = λ b a o live w.
           let body = h.bodies.each b in

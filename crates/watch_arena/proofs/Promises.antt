@@ -15,7 +15,7 @@ use Rattle.watch_arena.specs.declared.places.Place.{Place}
 use Rattle.watch_arena.specs.declared.engine.Engine.{Engine}
 use Rattle.watch_arena.specs.Places.{place_at, no_place, is_assumed, level_of, place_of}
 use Rattle.watch_arena.specs.Trails.{IsReason, Propagates, IsConflict, IsPropagated, SameRecords, IsSameRecord, Adds, AreInRange}
-use Rattle.watch_arena.specs.Engines.{mark_of, IsReasonBelow, CanMark, IsSound, IsFalse, IsDone, Steps, KeepsPlaces, seen}
+use Rattle.watch_arena.specs.Engines.{mark_of, IsReasonBelow, CanAssign, IsSound, IsFalse, IsDone, Steps, KeepsPlaces, seen}
 use Rattle.watch_arena.proofs.Watching.{record_at-put, record_at-new}
 use Rattle.watch_arena.specs.Chains.{SameBodies}
 use Rattle.watch_arena.proofs.Moved.{SameRecords-trans}
@@ -122,8 +122,8 @@ place_of-none e variable s even odd =
     ne_eqb (variable_of (place_at e.places.list j).lit) variable ne)
 
 -- a clause may imply a literal
-pub CanMark-implied : (e : Engine) (lit at : ℕ) → IsSound e → place_of e.places.list (variable_of lit) ≡ None → IsReason e.arena e.places.list lit at → CanMark e (record { lit = lit; level = level_of e.places.list; reason = Some at })
-CanMark-implied e lit at s none r =
+pub CanAssign-implied : (e : Engine) (lit at : ℕ) → IsSound e → place_of e.places.list (variable_of lit) ≡ None → IsReason e.arena e.places.list lit at → CanAssign e (record { lit = lit; level = level_of e.places.list; reason = Some at })
+CanAssign-implied e lit at s none r =
     let free = unassigned_marks e lit s none in
     record {
       range = s.in_range at lit r.has;

@@ -107,7 +107,7 @@ is_free e at s d live =
           let has_a = contains_at (record_at e.arena at).lits 0 (get_or (record_at e.arena at).lits 0 0) (omega arith) refl in
           let has_b = contains_at (record_at e.arena at).lits 1 (get_or (record_at e.arena at).lits 1 0) (omega arith) refl in
           let turned : IsWatched (record_at e.arena at).lits (get_or (record_at e.arena at).lits 1 0) (get_or (record_at e.arena at).lits 0 0) = record { differ = λ z. w.differ (sym z); two = w.two; either = inr (refl, refl) } in
-          let head = d.head in
+          let queue_head = d.queue_head in
           elim (cases_lt 0 (mark_of e.marks (negation_of (get_or (record_at e.arena at).lits 0 0)))) [
             | inl pos ↦
                 let le = (s.marked.forth (negation_of (get_or (record_at e.arena at).lits 0 0)) pos).0 in

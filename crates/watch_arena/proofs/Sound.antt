@@ -8,7 +8,7 @@ use Rattle.clause_arena.specs.Records.{Record, record_at}
 use Rattle.watch_arena.specs.declared.places.Place.{Place}
 use Rattle.watch_arena.specs.declared.engine.Engine.{Engine}
 use Rattle.watch_arena.specs.Places.{place_at, no_place, level_of}
-use Rattle.watch_arena.specs.Engines.{mark_of, IsReasonBelow, AreReasoned, IsWatched, IsSettledAt, AreLevelled, CanMark, IsSound, AllAgree, IsShortMet, HasNoFresh, with_place, without_last}
+use Rattle.watch_arena.specs.Engines.{mark_of, IsReasonBelow, AreReasoned, IsWatched, IsSettledAt, AreLevelled, CanAssign, IsSound, AllAgree, IsShortMet, HasNoFresh, with_place, without_last}
 use Rattle.watch_arena.proofs.Marks.{MarksGrow, MarksGrow-set, MarksGrow-unset, AreMarked-push, AreMarked-pop, place_at-push, place_at-new, mark-in_range}
 use Rattle.watch_arena.proofs.Settled.{IsSettledAt-grown, IsSettledAt-shrunk, IsReasonBelow-grown, IsReasonBelow-shrunk}
 use Rattle.watch_arena.proofs.Watching.{contains_at}
@@ -46,7 +46,7 @@ AreReasoned-push records marks places p g old new q at lt is =
     ]
 
 -- a literal becomes true
-pub IsSound-marked : (e : Engine) (p : Place) → IsSound e → CanMark e p → length e.places.list < e.variables → IsSound (with_place e p)
+pub IsSound-marked : (e : Engine) (p : Place) → IsSound e → CanAssign e p → length e.places.list < e.variables → IsSound (with_place e p)
 IsSound-marked e p s m lt =
     let size = s.marked.size in
     let range = m.range in
@@ -55,13 +55,13 @@ IsSound-marked e p s m lt =
     let shorts : List ℕ = e.shorts in
     let count : length (e.places.list ++ p ∷ []) ≡ length e.places.list + 1 = length_push e.places.list p in
     let heads = s.heads in let firsts = s.firsts in
-    let head = s.now.within in
+    let queue_head = s.now.within in
     record {
       few = s.few;
       no_pairs = s.no_pairs;
       room = s.room;
       lists = s.lists;
-      heads = length-set e.heads (length e.places.list) e.head ∙ s.heads;
+      heads = length-set e.heads (length e.places.list) e.queue_head ∙ s.heads;
       firsts = length-set e.firsts (length e.places.list) e.first ∙ s.firsts;
       marked = AreMarked-push e.marks e.places.list e.variables p s.marked m.range m.not_true m.not_false;
       in_range = s.in_range;
@@ -69,26 +69,26 @@ IsSound-marked e p s m lt =
       kinds = s.kinds;
       filed = s.filed;
       levelled = AreLevelled-push e.places.list p s.levelled m.level;
-      now = IsSettledAt-grown e.arena shorts e.marks now (length e.places.list) e.head e.first (length e.places.list) g head s.now (length (e.places.list ++ p ∷ [])) (omega arith);
+      now = IsSettledAt-grown e.arena shorts e.marks now (length e.places.list) e.queue_head e.first (length e.places.list) g queue_head s.now (length (e.places.list ++ p ∷ [])) (omega arith);
       saved = λ q below. elim (cases_lt q (length e.places.list)) [
         | inl old ↦
             let ne : q ≢ length e.places.list = omega arith in
             let was = s.saved q old in
             let within = was.within in
             let here = IsSettledAt-grown e.arena shorts e.marks now (length e.places.list) (get_or e.heads q 0) (get_or e.firsts q 0) q g (omega arith) was q (omega arith) in
-            let there : IsSettledAt e.arena shorts now (get_or (set e.heads (length e.places.list) e.head) q 0) (get_or e.firsts q 0) q = subst (λ (h : ℕ). IsSettledAt e.arena shorts now h (get_or e.firsts q 0) q) (sym (get_or-set_other e.heads (length e.places.list) q e.head 0 ne)) here in
-            subst (λ (f : ℕ). IsSettledAt e.arena shorts now (get_or (set e.heads (length e.places.list) e.head) q 0) f q) (sym (get_or-set_other e.firsts (length e.places.list) q e.first 0 ne)) there
+            let there : IsSettledAt e.arena shorts now (get_or (set e.heads (length e.places.list) e.queue_head) q 0) (get_or e.firsts q 0) q = subst (λ (h : ℕ). IsSettledAt e.arena shorts now h (get_or e.firsts q 0) q) (sym (get_or-set_other e.heads (length e.places.list) q e.queue_head 0 ne)) here in
+            subst (λ (f : ℕ). IsSettledAt e.arena shorts now (get_or (set e.heads (length e.places.list) e.queue_head) q 0) f q) (sym (get_or-set_other e.firsts (length e.places.list) q e.first 0 ne)) there
         | inr late ↦
             let at : q ≡ length e.places.list = omega arith in
-            let here = IsSettledAt-grown e.arena shorts e.marks now (length e.places.list) e.head e.first (length e.places.list) g head s.now (length e.places.list) (omega arith) in
-            let first : IsSettledAt e.arena shorts now (get_or (set e.heads (length e.places.list) e.head) (length e.places.list) 0) e.first (length e.places.list) = subst (λ (h : ℕ). IsSettledAt e.arena shorts now h e.first (length e.places.list)) (sym (get_or-set_same e.heads (length e.places.list) e.head 0 (omega arith))) here in
-            let second : IsSettledAt e.arena shorts now (get_or (set e.heads (length e.places.list) e.head) (length e.places.list) 0) (get_or (set e.firsts (length e.places.list) e.first) (length e.places.list) 0) (length e.places.list) = subst (λ (f : ℕ). IsSettledAt e.arena shorts now (get_or (set e.heads (length e.places.list) e.head) (length e.places.list) 0) f (length e.places.list)) (sym (get_or-set_same e.firsts (length e.places.list) e.first 0 (omega arith))) first in
-            subst (λ (n : ℕ). IsSettledAt e.arena shorts now (get_or (set e.heads (length e.places.list) e.head) n 0) (get_or (set e.firsts (length e.places.list) e.first) n 0) n) (sym at) second
+            let here = IsSettledAt-grown e.arena shorts e.marks now (length e.places.list) e.queue_head e.first (length e.places.list) g queue_head s.now (length e.places.list) (omega arith) in
+            let first : IsSettledAt e.arena shorts now (get_or (set e.heads (length e.places.list) e.queue_head) (length e.places.list) 0) e.first (length e.places.list) = subst (λ (h : ℕ). IsSettledAt e.arena shorts now h e.first (length e.places.list)) (sym (get_or-set_same e.heads (length e.places.list) e.queue_head 0 (omega arith))) here in
+            let second : IsSettledAt e.arena shorts now (get_or (set e.heads (length e.places.list) e.queue_head) (length e.places.list) 0) (get_or (set e.firsts (length e.places.list) e.first) (length e.places.list) 0) (length e.places.list) = subst (λ (f : ℕ). IsSettledAt e.arena shorts now (get_or (set e.heads (length e.places.list) e.queue_head) (length e.places.list) 0) f (length e.places.list)) (sym (get_or-set_same e.firsts (length e.places.list) e.first 0 (omega arith))) first in
+            subst (λ (n : ℕ). IsSettledAt e.arena shorts now (get_or (set e.heads (length e.places.list) e.queue_head) n 0) (get_or (set e.firsts (length e.places.list) e.first) n 0) n) (sym at) second
       ];
     }
 
--- all clauses of the literal at the head were visited
-pub IsSound-advanced : (e : Engine) (lit : ℕ) → IsSound e → e.head < length e.places.list → mark_of e.marks (negation_of lit) ≡ e.head + 1 → AllAgree e lit → IsSound (record e { head = e.head + 1 })
+-- all clauses of the literal at the queue's head were visited
+pub IsSound-advanced : (e : Engine) (lit : ℕ) → IsSound e → e.queue_head < length e.places.list → mark_of e.marks (negation_of lit) ≡ e.queue_head + 1 → AllAgree e lit → IsSound (record e { queue_head = e.queue_head + 1 })
 IsSound-advanced e lit s below at_head agreed =
     record {
       few = s.few;
@@ -105,11 +105,11 @@ IsSound-advanced e lit s below at_head agreed =
       levelled = s.levelled;
       now = record {
         within = omega arith;
-        watched = λ at a b live w a_false. elim (cases_lt (mark_of e.marks (negation_of a)) (e.head + 1)) [
+        watched = λ at a b live w a_false. elim (cases_lt (mark_of e.marks (negation_of a)) (e.queue_head + 1)) [
           | inl before ↦ s.now.watched at a b live w (let pos = a_false.0 in (pos, omega arith))
           | inr late ↦
               let le = a_false.1 in
-              let at_too : mark_of e.marks (negation_of a) ≡ e.head + 1 = omega arith in
+              let at_too : mark_of e.marks (negation_of a) ≡ e.queue_head + 1 = omega arith in
               let pos : 0 < mark_of e.marks (negation_of lit) = omega arith in
               let one = s.marked.forth (negation_of a) (a_false.0) in
               let two = s.marked.forth (negation_of lit) pos in

@@ -108,7 +108,7 @@ IsSound-forgotten e at s live no_reason =
       kinds = λ b on. subst (λ (ls : List ℕ). IsShort ls ⊎ IsWatched ls (get_or ls 0 0) (get_or ls 1 0)) (sym (lits b)) (s.kinds b (was_live b on));
       filed = AreChains-forgotten e.arena e.chains at lt s.filed;
       levelled = s.levelled;
-      now = settled e.shorts e.head e.first (length e.places.list) s.now;
+      now = settled e.shorts e.queue_head e.first (length e.places.list) s.now;
       saved = λ p below. settled e.shorts (get_or e.heads p 0) (get_or e.firsts p 0) p (s.saved p below);
     }
 

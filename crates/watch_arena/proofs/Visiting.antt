@@ -10,7 +10,7 @@ use Rattle.clause_arena.specs.Records.{record_at}
 use Rattle.watch_arena.specs.declared.places.Place.{Place}
 use Rattle.watch_arena.specs.declared.engine.Engine.{Engine}
 use Rattle.watch_arena.specs.Places.{place_at, no_place, level_of, is_assumed}
-use Rattle.watch_arena.specs.Engines.{mark_of, TrueBelow, AreMarked, IsReasonBelow, IsWatched, CanMark, IsSound, IsAgreed, AllAgree, HasNoFresh, IsFalse, Steps, Visits, Advances, with_place}
+use Rattle.watch_arena.specs.Engines.{mark_of, TrueBelow, AreMarked, IsReasonBelow, IsWatched, CanAssign, IsSound, IsAgreed, AllAgree, HasNoFresh, IsFalse, Steps, Visits, Advances, with_place}
 use Rattle.watch_arena.proofs.Marks.{MarksGrow-set, TrueBelow-grown, place_at-push, place_at-new}
 use Rattle.watch_arena.proofs.Watching.{IsWatched-only, IsWatched-at, contains_at, index_of}
 use Rattle.watch_arena.proofs.Moved.{SameRecords-refl, SameRecords-trans}
@@ -76,7 +76,7 @@ Steps-refl e = record {
 }
 
 pub Visits-refl : (e : Engine) (lit : ℕ) → IsSound e → Visits e e lit
-Visits-refl e lit s = record { sound = s; steps = Steps-refl e; head = refl; first = refl; agreed = λ at a. a }
+Visits-refl e lit s = record { sound = s; steps = Steps-refl e; queue_head = refl; first = refl; agreed = λ at a. a }
 
 -- steps after steps
 pub Steps-trans : (a b c : Engine) → Steps a b → Steps b c → Steps a c
@@ -101,7 +101,7 @@ pub Visits-trans : (a b c : Engine) (lit : ℕ) → Visits a b lit → Visits b 
 Visits-trans a b c lit s t = record {
   sound = t.sound;
   steps = Steps-trans a b c s.steps t.steps;
-  head = t.head ∙ s.head;
+  queue_head = t.queue_head ∙ s.queue_head;
   first = t.first ∙ s.first;
   agreed = λ at x. t.agreed at (s.agreed at x);
 }
@@ -157,8 +157,8 @@ pub level_of-push : (places : List Place) (p : Place) → level_of (places ++ p 
 level_of-push places p = sum_by-append (λ (q : Place). cond (is_assumed q) 1 0) places (p ∷ []) ∙ ap (λ (n : ℕ). level_of places + n) (let z : 0 + cond (is_assumed p) 1 0 ≡ cond (is_assumed p) 1 0 = omega arith in z)
 
 -- the other literal may become true
-pub CanMark-from_slot : (e : Engine) (at lit slot level : ℕ) → IsSound e → IsSlot e at lit slot → 0 < mark_of e.marks (negation_of lit) → mark_of e.marks (get_or (record_at e.arena at).lits (1 - slot) 0) ≡ 0 → mark_of e.marks (negation_of (get_or (record_at e.arena at).lits (1 - slot) 0)) ≡ 0 → HasNoFresh e at (get_or (record_at e.arena at).lits (1 - slot) 0) (length (record_at e.arena at).lits) → level ≡ level_of e.places.list → CanMark e (record { lit = get_or (record_at e.arena at).lits (1 - slot) 0; level = level; reason = Some at })
-CanMark-from_slot e at lit slot level s p lit_false not_true not_false none is =
+pub CanAssign-from_slot : (e : Engine) (at lit slot level : ℕ) → IsSound e → IsSlot e at lit slot → 0 < mark_of e.marks (negation_of lit) → mark_of e.marks (get_or (record_at e.arena at).lits (1 - slot) 0) ≡ 0 → mark_of e.marks (negation_of (get_or (record_at e.arena at).lits (1 - slot) 0)) ≡ 0 → HasNoFresh e at (get_or (record_at e.arena at).lits (1 - slot) 0) (length (record_at e.arena at).lits) → level ≡ level_of e.places.list → CanAssign e (record { lit = get_or (record_at e.arena at).lits (1 - slot) 0; level = level; reason = Some at })
+CanAssign-from_slot e at lit slot level s p lit_false not_true not_false none is =
     let two = p.two in
     let within : 1 - slot < length (record_at e.arena at).lits = omega arith in
     let other : ℕ = get_or (record_at e.arena at).lits (1 - slot) 0 in
@@ -177,7 +177,7 @@ CanMark-from_slot e at lit slot level s p lit_false not_true not_false none is =
     }
 
 -- one more implied place
-pub Steps-marked : (e : Engine) (p : Place) → IsSound e → CanMark e p → is_assumed p ≡ false → Steps e (with_place e p)
+pub Steps-marked : (e : Engine) (p : Place) → IsSound e → CanAssign e p → is_assumed p ≡ false → Steps e (with_place e p)
 Steps-marked e p s m implied =
     let size = s.marked.size in
     let range = m.range in
@@ -192,7 +192,7 @@ Steps-marked e p s m implied =
       shorts = refl;
     }
 
-pub Visits-marked : (e : Engine) (p : Place) (lit : ℕ) → IsSound e → CanMark e p → is_assumed p ≡ false → Visits e (with_place e p) lit
+pub Visits-marked : (e : Engine) (p : Place) (lit : ℕ) → IsSound e → CanAssign e p → is_assumed p ≡ false → Visits e (with_place e p) lit
 Visits-marked e p lit s m implied =
     let size = s.marked.size in
     let range = m.range in
@@ -201,7 +201,7 @@ Visits-marked e p lit s m implied =
     record {
       sound = IsSound-marked e p s m (places_below e.marks e.places.list e.variables p.lit s.marked m.range m.not_true m.not_false);
       steps = Steps-marked e p s m implied;
-      head = refl;
+      queue_head = refl;
       first = refl;
       agreed = λ at a other live w. TrueBelow-grown e.marks (set e.marks p.lit (length e.places.list + 1)) (length e.places.list) (length e.places.list) (length (e.places.list ++ p ∷ [])) other g (omega arith) (a other live w);
     }
@@ -214,7 +214,7 @@ pub record HasRoom (e : Engine) : Type 0 where
   pub room : length e.places.list < e.places.room
   pub few : length e.places.list < 2 ^ 32
 
-pub HasRoom-from_can : (e : Engine) (p : Place) → IsSound e → CanMark e p → HasRoom e
+pub HasRoom-from_can : (e : Engine) (p : Place) → IsSound e → CanAssign e p → HasRoom e
 HasRoom-from_can e p s m =
     let below = places_below e.marks e.places.list e.variables p.lit s.marked m.range m.not_true m.not_false in
     let heads = s.heads in let firsts = s.firsts in let room = s.room in let few = s.few in
@@ -225,7 +225,7 @@ pub mark_within : (e : Engine) (lit : ℕ) → IsSound e → lit < 2 * e.variabl
 mark_within e lit s range = let size = s.marked.size in omega arith
 
 -- a clause whose other literal became true agrees
-pub IsAgreed-marked : (e : Engine) (at lit slot : ℕ) (p : Place) → IsSound e → IsSlot e at lit slot → CanMark e p → p.lit ≡ get_or (record_at e.arena at).lits (1 - slot) 0 → IsAgreed (with_place e p) lit at
+pub IsAgreed-marked : (e : Engine) (at lit slot : ℕ) (p : Place) → IsSound e → IsSlot e at lit slot → CanAssign e p → p.lit ≡ get_or (record_at e.arena at).lits (1 - slot) 0 → IsAgreed (with_place e p) lit at
 IsAgreed-marked e at lit slot p s sl m is =
     let sound = IsSound-marked e p s m (HasRoom-from_can e p s m).below in
     let slot_now : IsSlot (with_place e p) at lit slot = record { slot_is = sl.slot_is; live = sl.live; two = sl.two; lit_is = sl.lit_is; differ = sl.differ } in
@@ -243,11 +243,11 @@ not_positive zero none = refl
 not_positive (suc n) none = absurd (let clash : false ≡ true = none (omega arith) in cc)
 
 -- the other literal may become true, by what was tested
-pub CanMark-from_visit : (e : Engine) (at lit slot other level : ℕ) → IsSound e → IsSlot e at lit slot → other ≡ get_or (record_at e.arena at).lits (1 - slot) 0 → 0 < mark_of e.marks (negation_of lit) → (0 < mark_of e.marks other → false ≡ true) → (0 < mark_of e.marks (negation_of other) → false ≡ true) → HasNoFresh e at other (length (record_at e.arena at).lits) → level ≡ level_of e.places.list → CanMark e (record { lit = other; level = level; reason = Some at })
-CanMark-from_visit e at lit slot other level s p is lit_false not_true not_false none at_level =
-    let P : ℕ → Type 0 = λ o. CanMark e (record { lit = o; level = level; reason = Some at }) in
+pub CanAssign-from_visit : (e : Engine) (at lit slot other level : ℕ) → IsSound e → IsSlot e at lit slot → other ≡ get_or (record_at e.arena at).lits (1 - slot) 0 → 0 < mark_of e.marks (negation_of lit) → (0 < mark_of e.marks other → false ≡ true) → (0 < mark_of e.marks (negation_of other) → false ≡ true) → HasNoFresh e at other (length (record_at e.arena at).lits) → level ≡ level_of e.places.list → CanAssign e (record { lit = other; level = level; reason = Some at })
+CanAssign-from_visit e at lit slot other level s p is lit_false not_true not_false none at_level =
+    let P : ℕ → Type 0 = λ o. CanAssign e (record { lit = o; level = level; reason = Some at }) in
     subst P (sym is)
-    (CanMark-from_slot e at lit slot level s p lit_false
+    (CanAssign-from_slot e at lit slot level s p lit_false
     (subst (λ (o : ℕ). mark_of e.marks o ≡ 0) is (not_positive (mark_of e.marks other) not_true))
     (subst (λ (o : ℕ). mark_of e.marks (negation_of o) ≡ 0) is (not_positive (mark_of e.marks (negation_of other)) not_false))
     (subst (λ (o : ℕ). HasNoFresh e at o (length (record_at e.arena at).lits)) is none)
@@ -260,13 +260,13 @@ Visits-range old new lit l v lt = let same = v.steps.variables in omega arith
 pub Visits-false : (old new : Engine) (lit l : ℕ) → Visits old new lit → 0 < mark_of old.marks l → 0 < mark_of new.marks l
 Visits-false old new lit l v pos = let same = v.steps.marks l pos in omega arith
 
--- the head moves on
-pub IsSound-head : (old new : Engine) (lit : ℕ) → IsSound old → Visits old new lit → old.head < length old.places.list → (place_at old.places.list old.head).lit ≡ negation_of lit → AllAgree new lit → IsSound (record new { head = new.head + 1 })
+-- the queue's head moves on
+pub IsSound-head : (old new : Engine) (lit : ℕ) → IsSound old → Visits old new lit → old.queue_head < length old.places.list → (place_at old.places.list old.queue_head).lit ≡ negation_of lit → AllAgree new lit → IsSound (record new { queue_head = new.queue_head + 1 })
 IsSound-head old new lit s v below is agree =
-    let at : mark_of old.marks (negation_of lit) ≡ old.head + 1 = ap (mark_of old.marks) (sym is) ∙ s.marked.back old.head below in
+    let at : mark_of old.marks (negation_of lit) ≡ old.queue_head + 1 = ap (mark_of old.marks) (sym is) ∙ s.marked.back old.queue_head below in
     let kept = v.steps.marks (negation_of lit) (omega arith) in
-    let head = v.head in
-    let now : mark_of new.marks (negation_of lit) ≡ new.head + 1 = omega arith in
+    let queue_head = v.queue_head in
+    let now : mark_of new.marks (negation_of lit) ≡ new.queue_head + 1 = omega arith in
     let bound = (v.sound.marked.forth (negation_of lit) (omega arith)).0 in
     IsSound-advanced new lit v.sound (omega arith) now agree
 
@@ -307,8 +307,8 @@ Advances-trans a b c s t = record { sound = t.sound; steps = Steps-trans a b c s
 pub Advances-visits : (old new : Engine) (lit : ℕ) → Visits old new lit → Advances old new
 Advances-visits old new lit v = record { sound = v.sound; steps = v.steps; first = v.first }
 
--- the head moved on
-pub Advances-head : (old new : Engine) (lit : ℕ) → IsSound old → Visits old new lit → old.head < length old.places.list → (place_at old.places.list old.head).lit ≡ negation_of lit → AllAgree new lit → Advances old (record new { head = new.head + 1 })
+-- the queue's head moved on
+pub Advances-head : (old new : Engine) (lit : ℕ) → IsSound old → Visits old new lit → old.queue_head < length old.places.list → (place_at old.places.list old.queue_head).lit ≡ negation_of lit → AllAgree new lit → Advances old (record new { queue_head = new.queue_head + 1 })
 Advances-head old new lit s v below is agree =
     record {
       sound = IsSound-head old new lit s v below is agree;
@@ -320,13 +320,13 @@ Advances-head old new lit s v below is agree =
 pub place_read : (places : List Place) (p : ℕ) (q : Place) → p < length places → q ≡ get_or places p q → place_at places p ≡ q
 place_read places p q lt is = sym (is ∙ get_or_default places p q no_place lt)
 
--- the literal that the place at the head made false
-pub head_lit : (e : Engine) (q : Place) (lit : ℕ) → IsSound e → e.head < length e.places.list → q ≡ get_or e.places.list e.head q → lit ≡ negation_of q.lit → (lit < 2 * e.variables) × (0 < mark_of e.marks (negation_of lit)) × ((place_at e.places.list e.head).lit ≡ negation_of lit)
+-- the literal that the place at the queue's head made false
+pub head_lit : (e : Engine) (q : Place) (lit : ℕ) → IsSound e → e.queue_head < length e.places.list → q ≡ get_or e.places.list e.queue_head q → lit ≡ negation_of q.lit → (lit < 2 * e.variables) × (0 < mark_of e.marks (negation_of lit)) × ((place_at e.places.list e.queue_head).lit ≡ negation_of lit)
 head_lit e q lit s below is neg =
-    let place : (place_at e.places.list e.head).lit ≡ q.lit = ap (λ (x : Place). x.lit) (place_read e.places.list e.head q below is) in
-    let facts = place_lit-in_range e e.head q.lit s below place in
+    let place : (place_at e.places.list e.queue_head).lit ≡ q.lit = ap (λ (x : Place). x.lit) (place_read e.places.list e.queue_head q below is) in
+    let facts = place_lit-in_range e e.queue_head q.lit s below place in
     let back : negation_of lit ≡ q.lit = ap negation_of neg ∙ negation-negation q.lit in
-    let marked : mark_of e.marks (negation_of lit) ≡ e.head + 1 = ap (mark_of e.marks) back ∙ facts.1 in
+    let marked : mark_of e.marks (negation_of lit) ≡ e.queue_head + 1 = ap (mark_of e.marks) back ∙ facts.1 in
     let range : negation_of q.lit < 2 * e.variables = facts.2 in
     (omega arith, omega arith, place ∙ sym back)
 

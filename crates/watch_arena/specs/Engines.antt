@@ -101,14 +101,14 @@ pub record IsSound (e : Engine) : Type 0 where
   pub kinds : AreShortOrWatched e.arena
   pub filed : AreChains e.arena e.chains IsNone
   pub levelled : AreLevelled e.places.list
-  pub now : IsSettledAt e.arena e.shorts e.marks e.head e.first (length e.places.list)
+  pub now : IsSettledAt e.arena e.shorts e.marks e.queue_head e.first (length e.places.list)
   pub saved : (p : ℕ) → p < length e.places.list → IsSettledAt e.arena e.shorts e.marks (slice_index e.heads p) (slice_index e.firsts p) p
 
 -- one more place, and how far propagation had come before it
 abbrev pub with_place : Engine → Place → Engine
 with_place e p = record e {
   marks = slice_set e.marks p.lit (length e.places.list + 1);
-  heads = slice_set e.heads (length e.places.list) e.head;
+  heads = slice_set e.heads (length e.places.list) e.queue_head;
   firsts = slice_set e.firsts (length e.places.list) e.first;
   places = record e.places { list = e.places.list ++ p ∷ [] };
 }
@@ -124,13 +124,13 @@ with_watch_moved e lit prev x k = record e {
 abbrev pub without_last : Engine → Engine
 without_last e = record e {
   marks = slice_set e.marks (place_at e.places.list (length e.places.list - 1)).lit 0;
-  head = slice_index e.heads (length e.places.list - 1);
+  queue_head = slice_index e.heads (length e.places.list - 1);
   first = slice_index e.firsts (length e.places.list - 1);
   places = record e.places { list = take (length e.places.list - 1) e.places.list };
 }
 
 -- a literal may become true: it is unassigned, the level is the one that the places come to with it, and its reason, if it has one, is a reason
-pub record CanMark (e : Engine) (p : Place) : Type 0 where
+pub record CanAssign (e : Engine) (p : Place) : Type 0 where
   pub range : p.lit < 2 * e.variables
   pub not_true : mark_of e.marks p.lit ≡ 0
   pub not_false : mark_of e.marks (negation_of p.lit) ≡ 0
@@ -181,7 +181,7 @@ pub record IsFalse (e : Engine) (at : ℕ) : Type 0 where
 pub record Visits (old new : Engine) (lit : ℕ) : Type 0 where
   pub sound : IsSound new
   pub steps : Steps old new
-  pub head : new.head ≡ old.head
+  pub queue_head : new.queue_head ≡ old.queue_head
   pub first : new.first ≡ old.first
   pub agreed : (at : ℕ) → IsAgreed old lit at → IsAgreed new lit at
 
@@ -210,7 +210,7 @@ pub record Advances (old new : Engine) : Type 0 where
 
 -- propagation has come to the end
 pub record IsDone (e : Engine) : Type 0 where
-  pub head : e.head ≡ length e.places.list
+  pub queue_head : e.queue_head ≡ length e.places.list
   pub first : e.first ≡ length e.shorts
 
 -- a literal is not false by one of the first n places
@@ -219,7 +219,7 @@ IsUnseen marks n lit = 0 < mark_of marks (negation_of lit) → n < mark_of marks
 
 -- propagation had come no further than to q, now and before each place
 pub record IsLowered (e : Engine) (q : ℕ) : Type 0 where
-  pub head : e.head ≤ q
+  pub queue_head : e.queue_head ≤ q
   pub heads : (p : ℕ) → p < length e.places.list → slice_index e.heads p ≤ q
 
 -- the places above a level are gone, and nothing else of what is seen has changed

@@ -26,8 +26,8 @@ impl Engine {
         if first == second {
             return;
         }
-        self.put_front(first, Link { at, slot: 0 });
-        self.put_front(second, Link { at, slot: 1 });
+        self.attach(first, Link { at, slot: 0 });
+        self.attach(second, Link { at, slot: 1 });
     }
 
     // The chains are made of the clauses that there are, whatever the links were.

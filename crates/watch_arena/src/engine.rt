@@ -20,7 +20,7 @@ pub(crate) struct Engine {
     pub(crate) heads: Column,
     pub(crate) firsts: Column,
     // The first place whose clauses have not been visited, and the first such short clause.
-    pub(crate) head: usize,
+    pub(crate) queue_head: usize,
     pub(crate) first: usize,
     pub(crate) variables: usize,
     // Where a compaction brings each clause; empty but while it goes on.
@@ -38,7 +38,7 @@ impl Drop for Engine {
             places: _,
             heads: _,
             firsts: _,
-            head: _,
+            queue_head: _,
             first: _,
             variables: _,
             moves: _,
@@ -54,7 +54,7 @@ pub(crate) enum Visit {
 }
 
 impl Engine {
-    ghost use Rattle.watch_arena.specs.Engines.{IsSound, IsFresh, HasNoFresh, Visits, IsWalking, StaysAhead, Outcome, CanMark, AllAgree, IsFalse, IsShort, IsShortMet, IsDone, Steps, Advances, Undoes, IsLowered, KeepsPlaces, IsEmpty, without_last, with_place, with_watch_moved, mark_of};
+    ghost use Rattle.watch_arena.specs.Engines.{IsSound, IsFresh, HasNoFresh, Visits, IsWalking, StaysAhead, Outcome, CanAssign, AllAgree, IsFalse, IsShort, IsShortMet, IsDone, Steps, Advances, Undoes, IsLowered, KeepsPlaces, IsEmpty, without_last, with_place, with_watch_moved, mark_of};
     ghost use Rattle.watch_arena.specs.Chains.{head_of, next_of, linked, records_past, chains_past, IsEntry, SameBodies};
     ghost use Rattle.clause_arena.specs.Records.{record_at, forgotten, new_record};
     ghost use Rattle.watch_arena.specs.Places.{level_of, place_at, place_of};
@@ -75,14 +75,14 @@ impl Engine {
     }
 
     // A literal becomes true.
-    pub(crate) fn mark(&mut self, lit: Lit, level: u32, reason: Option<Ref>)
+    pub(crate) fn assign(&mut self, lit: Lit, level: u32, reason: Option<Ref>)
         requires sound { IsSound self.old }
-        requires can { CanMark self.old (record { lit = lit; level = level; reason = reason }) }
+        requires can { CanAssign self.old (record { lit = lit; level = level; reason = reason }) }
         ensures { self.new ≡ with_place self.old (record { lit = lit; level = level; reason = reason }) }
     {
         let count = self.places.len();
         self.marks.set(lit.code() as usize, count + 1);
-        self.heads.set(count, self.head);
+        self.heads.set(count, self.queue_head);
         self.firsts.set(count, self.first);
         self.places.push(lit, level, reason);
     }
@@ -132,7 +132,7 @@ impl Engine {
     }
 
     // An entry comes to the front of a literal's chain.
-    pub(crate) fn put_front(&mut self, lit: Lit, entry: Link)
+    pub(crate) fn attach(&mut self, lit: Lit, entry: Link)
         requires range { lit < length self.old.chains }
         requires entry { IsEntry self.old.arena lit entry }
         ensures { self.new ≡ record self.old { arena = linked self.old.arena entry (head_of self.old.chains lit); chains = slice_set self.old.chains lit (Some entry) } }
@@ -156,7 +156,7 @@ impl Engine {
         let next = self.arena.link(entry.at, entry.slot);
         self.lead_past(lit, prev, next);
         self.arena.swap_lits(entry.at, entry.slot as usize, k);
-        self.put_front(fresh, entry);
+        self.attach(fresh, entry);
     }
 
     // Visits the watch of a live clause on a literal that has become false.
@@ -182,7 +182,7 @@ impl Engine {
             return Visit::False(entry.at);
         }
         let level = self.level();
-        self.mark(other, level, Some(entry.at));
+        self.assign(other, level, Some(entry.at));
         Visit::Behind(Some(entry))
     }
 
@@ -217,7 +217,7 @@ impl Engine {
     }
 
     // Visits all clauses that watch a literal which has become false.
-    fn pass(&mut self, lit: Lit) -> Option<Ref>
+    fn propagate_lit(&mut self, lit: Lit) -> Option<Ref>
         requires sound { IsSound self.old }
         requires range { lit < 2 * self.old.variables }
         requires lit_false { 0 < mark_of self.old.marks (negation_of lit) }
@@ -241,30 +241,30 @@ impl Engine {
         None
     }
 
-    // Visits the clauses of the place at the head, and moves the head on where none of them is false.
+    // Visits the clauses of the place at the queue's head, and moves the queue's head on where none of them is false.
     fn advance(&mut self) -> Option<Ref>
         requires sound { IsSound self.old }
-        requires head { self.old.head < length self.old.places.list }
+        requires queue_head { self.old.queue_head < length self.old.places.list }
         ensures advances { Advances self.old self.new }
-        ensures outcome { MatchOption result (self.new.head ≡ self.old.head + 1) (λ at. IsFalse self.new at) }
+        ensures outcome { MatchOption result (self.new.queue_head ≡ self.old.queue_head + 1) (λ at. IsFalse self.new at) }
     {
-        let lit = self.places.get(self.head).lit.negate();
-        match self.pass(lit) {
+        let lit = self.places.get(self.queue_head).lit.negate();
+        match self.propagate_lit(lit) {
             Some(at) => Some(at),
             None => {
-                self.head += 1;
+                self.queue_head += 1;
                 None
             }
         }
     }
 
-    // Visits the clauses of all places from the head on.
+    // Visits the clauses of all places from the queue's head on.
     fn advance_all(&mut self) -> Option<Ref>
         requires sound { IsSound self.old }
         ensures advances { Advances self.old self.new }
-        ensures outcome { MatchOption result (self.new.head ≡ length self.new.places.list) (λ at. IsFalse self.new at) }
+        ensures outcome { MatchOption result (self.new.queue_head ≡ length self.new.places.list) (λ at. IsFalse self.new at) }
     {
-        while self.head < self.places.len() {
+        while self.queue_head < self.places.len() {
             if let Some(at) = self.advance() {
                 return Some(at);
             }
@@ -295,22 +295,22 @@ impl Engine {
         ensures is { self.new ≡ with_place self.old (record { lit = lit; level = level_of self.old.places.list + 1; reason = None }) }
     {
         let level = self.level() + 1;
-        self.mark(lit, level, None);
+        self.assign(lit, level, None);
     }
 
     // A literal is implied by a clause.
     pub(crate) fn imply(&mut self, lit: Lit, at: Ref)
         requires sound { IsSound self.old }
-        requires can { CanMark self.old (record { lit = lit; level = level_of self.old.places.list; reason = Some at }) }
+        requires can { CanAssign self.old (record { lit = lit; level = level_of self.old.places.list; reason = Some at }) }
         ensures sound { IsSound self.new }
         ensures is { self.new ≡ with_place self.old (record { lit = lit; level = level_of self.old.places.list; reason = Some at }) }
     {
         let level = self.level();
-        self.mark(lit, level, Some(at));
+        self.assign(lit, level, Some(at));
     }
 
     // The last place goes.
-    fn unmark_last(&mut self)
+    fn unassign_last(&mut self)
         requires sound { IsSound self.old }
         requires some { 0 < length self.old.places.list }
         ensures sound { IsSound self.new }
@@ -319,7 +319,7 @@ impl Engine {
         let last = self.places.len() - 1;
         let lit = self.places.get(last).lit;
         self.marks.set(lit.code() as usize, 0);
-        self.head = self.heads.get(last);
+        self.queue_head = self.heads.get(last);
         self.first = self.firsts.get(last);
         self.places.pop();
     }
@@ -332,7 +332,7 @@ impl Engine {
         ensures undoes { Undoes self.old self.new level }
     {
         while self.level() > level {
-            self.unmark_last();
+            self.unassign_last();
         }
     }
 
@@ -382,7 +382,7 @@ impl Engine {
             chains: Chains::new(alloc, 2 * count)?,
             arena: Arena::new(alloc),
             shorts: Shorts::new(alloc),
-            head: 0,
+            queue_head: 0,
             first: 0,
             variables: count,
             moves: Moves::new(alloc),

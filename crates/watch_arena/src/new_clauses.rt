@@ -28,9 +28,9 @@ impl Engine {
         requires { IsSound self.old }
         ensures sound { IsSound self.new }
         ensures lowered { IsLowered self.new place }
-        ensures same { self.new ≡ record self.old { heads = self.new.heads; head = self.new.head } }
+        ensures same { self.new ≡ record self.old { heads = self.new.heads; queue_head = self.new.queue_head } }
     {
-        self.head = self.head.min(place);
+        self.queue_head = self.queue_head.min(place);
         let count = self.places.len();
         self.heads.cap(place, count, place);
     }
@@ -52,8 +52,8 @@ impl Engine {
         let since = self.false_since(first).min(self.false_since(second));
         self.lower(since);
         let at = self.arena.put(codes, id)?;
-        self.put_front(first, Link { at, slot: 0 });
-        self.put_front(second, Link { at, slot: 1 });
+        self.attach(first, Link { at, slot: 0 });
+        self.attach(second, Link { at, slot: 1 });
         Ok(at)
     }
 

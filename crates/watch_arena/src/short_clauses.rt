@@ -48,7 +48,7 @@ impl Engine {
             return false;
         }
         let level = self.level();
-        self.mark(lit, level, Some(at));
+        self.assign(lit, level, Some(at));
         true
     }
 

@@ -8,3 +8,5 @@ pub mod Guiding
 pub mod UnderWay
 pub mod Telling
 pub mod NodeLines
+pub mod WorldsLeft
+pub mod Told

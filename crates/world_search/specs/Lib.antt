@@ -4,3 +4,4 @@ pub mod Searching
 pub mod Steps
 pub mod Stopping
 pub mod Walking
+pub mod Told

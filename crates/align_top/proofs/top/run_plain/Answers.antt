@@ -1,6 +1,6 @@
 use Rattle.std.proofs.Common.{ℕ, List, Ok, sym, subst}
 use Rattle.check_run.specs.Checking.{check_names, IsCheckAnswer}
-use Rattle.run_ends.specs.Runs.{store_state, sink_state, IsRunOf}
+use Rattle.run_ends.specs.Runs.{IsRunOf}
 use Rattle.claims_run.specs.declared.question.Question.TheVariants as question
 use Rattle.claims_run.specs.Answering.{claims_names, IsClaimsAnswer}
 use Rattle.align_top.specs.Output.{names_of, answers_to}
@@ -8,39 +8,39 @@ use Rattle.align_top.proofs.top.run_plain.Goals as goal
 
 pub returns-in-Align : goal.returns-in-Align
 returns-in-Align g c = λ watchers.
-    subst (λ r. IsRunOf (names_of (Ok r)) (answers_to watchers (Ok r)) c.run_align.result
-    (store_state (g.S.Store.held c.args.store.now) (g.S.Store.read_faults c.args.store.now) (g.S.Store.write_faults c.args.store.now)) (store_state (g.S.Store.held c.run_align.new.store) (g.S.Store.read_faults c.run_align.new.store) (g.S.Store.write_faults c.run_align.new.store))
-    (sink_state (g.W.Sink.received c.args.out.now) (g.W.Sink.faults c.args.out.now)) (sink_state (g.W.Sink.received c.run_align.new.out) (g.W.Sink.faults c.run_align.new.out))) (sym c.in-Align.is)
-    c.run_align.ensures
+    subst (λ r. IsRunOf (names_of (Ok r)) (answers_to watchers (Ok r)) c.run_listing.result
+    (g.S.Store.state c.args.store.now) (g.S.Store.state c.run_listing.new.store)
+    (g.W.Sink.state c.args.out.now) (g.W.Sink.state c.run_listing.new.out)) (sym c.in-Align.is)
+    c.run_listing.ensures
 
 pub returns-in-Check : goal.returns-in-Check
 returns-in-Check g c = λ watchers.
     subst (λ r. IsRunOf (names_of (Ok r)) (answers_to watchers (Ok r)) c.run_check.result
-    (store_state (g.S.Store.held c.args.store.now) (g.S.Store.read_faults c.args.store.now) (g.S.Store.write_faults c.args.store.now)) (store_state (g.S.Store.held c.run_check.new.store) (g.S.Store.read_faults c.run_check.new.store) (g.S.Store.write_faults c.run_check.new.store))
-    (sink_state (g.W.Sink.received c.args.out.now) (g.W.Sink.faults c.args.out.now)) (sink_state (g.W.Sink.received c.run_check.new.out) (g.W.Sink.faults c.run_check.new.out))) (sym c.in-Check.is)
+    (g.S.Store.state c.args.store.now) (g.S.Store.state c.run_check.new.store)
+    (g.W.Sink.state c.args.out.now) (g.W.Sink.state c.run_check.new.out)) (sym c.in-Check.is)
     (subst (λ (input : List ℕ). IsRunOf (check_names input c.in-Check.cert) (IsCheckAnswer input c.in-Check.cert c.in-Check.switches) c.run_check.result
-    (store_state (g.S.Store.held c.args.store.now) (g.S.Store.read_faults c.args.store.now) (g.S.Store.write_faults c.args.store.now)) (store_state (g.S.Store.held c.run_check.new.store) (g.S.Store.read_faults c.run_check.new.store) (g.S.Store.write_faults c.run_check.new.store))
-    (sink_state (g.W.Sink.received c.args.out.now) (g.W.Sink.faults c.args.out.now)) (sink_state (g.W.Sink.received c.run_check.new.out) (g.W.Sink.faults c.run_check.new.out))) c.text.ensures
+    (g.S.Store.state c.args.store.now) (g.S.Store.state c.run_check.new.store)
+    (g.W.Sink.state c.args.out.now) (g.W.Sink.state c.run_check.new.out)) c.text.ensures
     (subst (λ (cert : List ℕ). IsRunOf (check_names c.text.result.now cert) (IsCheckAnswer c.text.result.now cert c.in-Check.switches) c.run_check.result
-    (store_state (g.S.Store.held c.args.store.now) (g.S.Store.read_faults c.args.store.now) (g.S.Store.write_faults c.args.store.now)) (store_state (g.S.Store.held c.run_check.new.store) (g.S.Store.read_faults c.run_check.new.store) (g.S.Store.write_faults c.run_check.new.store))
-    (sink_state (g.W.Sink.received c.args.out.now) (g.W.Sink.faults c.args.out.now)) (sink_state (g.W.Sink.received c.run_check.new.out) (g.W.Sink.faults c.run_check.new.out))) c.text-in-Check.ensures c.run_check.ensures))
+    (g.S.Store.state c.args.store.now) (g.S.Store.state c.run_check.new.store)
+    (g.W.Sink.state c.args.out.now) (g.W.Sink.state c.run_check.new.out)) c.text-in-Check.ensures c.run_check.ensures))
 
 pub returns-in-Mir : goal.returns-in-Mir
 returns-in-Mir g c = λ watchers.
     subst (λ r. IsRunOf (names_of (Ok r)) (answers_to watchers (Ok r)) c.run_claims.result
-    (store_state (g.S.Store.held c.args.store.now) (g.S.Store.read_faults c.args.store.now) (g.S.Store.write_faults c.args.store.now)) (store_state (g.S.Store.held c.run_claims.new.store) (g.S.Store.read_faults c.run_claims.new.store) (g.S.Store.write_faults c.run_claims.new.store))
-    (sink_state (g.W.Sink.received c.args.out.now) (g.W.Sink.faults c.args.out.now)) (sink_state (g.W.Sink.received c.run_claims.new.out) (g.W.Sink.faults c.run_claims.new.out))) (sym c.in-Mir.is)
+    (g.S.Store.state c.args.store.now) (g.S.Store.state c.run_claims.new.store)
+    (g.W.Sink.state c.args.out.now) (g.W.Sink.state c.run_claims.new.out)) (sym c.in-Mir.is)
     (subst (λ (input : List ℕ). IsRunOf (claims_names input c.in-Mir.cert) (IsClaimsAnswer question.Relations input c.in-Mir.cert c.in-Mir.switches) c.run_claims.result
-    (store_state (g.S.Store.held c.args.store.now) (g.S.Store.read_faults c.args.store.now) (g.S.Store.write_faults c.args.store.now)) (store_state (g.S.Store.held c.run_claims.new.store) (g.S.Store.read_faults c.run_claims.new.store) (g.S.Store.write_faults c.run_claims.new.store))
-    (sink_state (g.W.Sink.received c.args.out.now) (g.W.Sink.faults c.args.out.now)) (sink_state (g.W.Sink.received c.run_claims.new.out) (g.W.Sink.faults c.run_claims.new.out))) c.text-in-Mir.ensures
+    (g.S.Store.state c.args.store.now) (g.S.Store.state c.run_claims.new.store)
+    (g.W.Sink.state c.args.out.now) (g.W.Sink.state c.run_claims.new.out)) c.text-in-Mir.ensures
     c.run_claims.ensures)
 
 pub returns-in-Conflict : goal.returns-in-Conflict
 returns-in-Conflict g c = λ watchers.
     subst (λ r. IsRunOf (names_of (Ok r)) (answers_to watchers (Ok r)) c.run_claims-in-Conflict.result
-    (store_state (g.S.Store.held c.args.store.now) (g.S.Store.read_faults c.args.store.now) (g.S.Store.write_faults c.args.store.now)) (store_state (g.S.Store.held c.run_claims-in-Conflict.new.store) (g.S.Store.read_faults c.run_claims-in-Conflict.new.store) (g.S.Store.write_faults c.run_claims-in-Conflict.new.store))
-    (sink_state (g.W.Sink.received c.args.out.now) (g.W.Sink.faults c.args.out.now)) (sink_state (g.W.Sink.received c.run_claims-in-Conflict.new.out) (g.W.Sink.faults c.run_claims-in-Conflict.new.out))) (sym c.in-Conflict.is)
+    (g.S.Store.state c.args.store.now) (g.S.Store.state c.run_claims-in-Conflict.new.store)
+    (g.W.Sink.state c.args.out.now) (g.W.Sink.state c.run_claims-in-Conflict.new.out)) (sym c.in-Conflict.is)
     (subst (λ (input : List ℕ). IsRunOf (claims_names input c.in-Conflict.cert) (IsClaimsAnswer question.Conflicts input c.in-Conflict.cert c.in-Conflict.switches) c.run_claims-in-Conflict.result
-    (store_state (g.S.Store.held c.args.store.now) (g.S.Store.read_faults c.args.store.now) (g.S.Store.write_faults c.args.store.now)) (store_state (g.S.Store.held c.run_claims-in-Conflict.new.store) (g.S.Store.read_faults c.run_claims-in-Conflict.new.store) (g.S.Store.write_faults c.run_claims-in-Conflict.new.store))
-    (sink_state (g.W.Sink.received c.args.out.now) (g.W.Sink.faults c.args.out.now)) (sink_state (g.W.Sink.received c.run_claims-in-Conflict.new.out) (g.W.Sink.faults c.run_claims-in-Conflict.new.out))) c.text-in-Conflict.ensures
+    (g.S.Store.state c.args.store.now) (g.S.Store.state c.run_claims-in-Conflict.new.store)
+    (g.W.Sink.state c.args.out.now) (g.W.Sink.state c.run_claims-in-Conflict.new.out)) c.text-in-Conflict.ensures
     c.run_claims-in-Conflict.ensures)

@@ -9,6 +9,7 @@ invariant-loop-line g l = record {
   bytes : to_come l.fn.blocks (g.R.Source.left l.fn.source) ≡ option_map (λ rest. l.line.items ++ rest) (to_come l.blocks (g.R.Source.left l.source));
   no_lf : has_byte 10 l.line.items ≡ false;
   short : length l.line.items ≤ l.room;
+  front : length l.fn.blocks ≤ length l.line.items + length l.blocks;
   faults : g.R.Source.faults l.source ≡ g.R.Source.faults l.fn.source;
   steady : g.R.Source.steady l.fn.source l.source;
   quiet : g.R.Source.quiet l.fn.source l.source;

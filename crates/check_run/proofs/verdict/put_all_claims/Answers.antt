@@ -1,5 +1,4 @@
 use Rattle.std.proofs.Common.{rules, flat_map, length}
-use Rattle.run_ends.specs.Runs.{sink_state}
 use Rattle.check_run.specs.Checking.{claim_line, accepted_line}
 use Rattle.run_ends.proofs.PieceLemmas.{piece_after, part_of_more}
 use Rattle.check_run.proofs.verdict.put_all_claims.Goals as goal
@@ -8,7 +7,7 @@ pub returns-in_err-put_claims : goal.returns-in_err-put_claims
 returns-in_err-put_claims g c = record {
   ok = search rules;
   err =
-      part_of_more c.from_residual.result (g.W.Sink.received c.args.out.now) (g.W.Sink.received c.put_claims.new.out) (flat_map claim_line c.args.claims.now)
+      part_of_more c.from_residual.result (g.W.Sink.state c.args.out.now).bytes (g.W.Sink.state c.put_claims.new.out).bytes (flat_map claim_line c.args.claims.now)
       (accepted_line (length c.args.claims.now)) c.in_err-put_claims.ensures.err;
   cause = search rules;
   later = search rules;
@@ -17,7 +16,7 @@ returns-in_err-put_claims g c = record {
 pub returns : goal.returns
 returns g c =
     piece_after c.put_accepted.result (flat_map claim_line c.args.claims.now) (accepted_line (length c.args.claims.now))
-    (sink_state (g.W.Sink.received c.args.out.now) (g.W.Sink.faults c.args.out.now))
-    (sink_state (g.W.Sink.received c.put_claims.new.out) (g.W.Sink.faults c.put_claims.new.out))
-    (sink_state (g.W.Sink.received c.put_accepted.new.out) (g.W.Sink.faults c.put_accepted.new.out))
+    (g.W.Sink.state c.args.out.now)
+    (g.W.Sink.state c.put_claims.new.out)
+    (g.W.Sink.state c.put_accepted.new.out)
     c.in_ok-put_claims.ensures.ok c.in_ok-put_claims.ensures.cause (search rules)

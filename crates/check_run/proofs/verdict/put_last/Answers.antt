@@ -1,7 +1,6 @@
 use Rattle.std.proofs.Common.{rules, ◌++◌, codes}
 use Rattle.cert_text.specs.Lines.{end_word}
 use Rattle.run_ends.specs.Ends.{line_of}
-use Rattle.run_ends.specs.Runs.{sink_state}
 use Rattle.check_run.specs.Checking.{accepted_line}
 use Rattle.run_ends.proofs.PieceLemmas.{piece_after, part_of_more}
 use Rattle.check_run.proofs.verdict.put_last.Goals as goal
@@ -10,7 +9,7 @@ pub returns-in_err-put : goal.returns-in_err-put
 returns-in_err-put g c = record {
   ok = search rules;
   err =
-      part_of_more c.from_residual-in_err-put.result (g.W.Sink.received c.args.out.now) (g.W.Sink.received c.put.new.self) (line_of (codes "to " ++ end_word c.args.to.now)) (accepted_line c.args.count)
+      part_of_more c.from_residual-in_err-put.result (g.W.Sink.state c.args.out.now).bytes (g.W.Sink.state c.put.new.self).bytes (line_of (codes "to " ++ end_word c.args.to.now)) (accepted_line c.args.count)
       (search rules);
   cause = search rules;
   later = search rules;
@@ -19,7 +18,7 @@ returns-in_err-put g c = record {
 pub returns : goal.returns
 returns g c =
     piece_after c.put_accepted.result (line_of (codes "to " ++ end_word c.args.to.now)) (accepted_line c.args.count)
-    (sink_state (g.W.Sink.received c.args.out.now) (g.W.Sink.faults c.args.out.now))
-    (sink_state (g.W.Sink.received c.put.new.self) (g.W.Sink.faults c.put.new.self))
-    (sink_state (g.W.Sink.received c.put_accepted.new.out) (g.W.Sink.faults c.put_accepted.new.out))
+    (g.W.Sink.state c.args.out.now)
+    (g.W.Sink.state c.put.new.self)
+    (g.W.Sink.state c.put_accepted.new.out)
     (search rules) (search rules) c.put_accepted.ensures

@@ -1,7 +1,6 @@
 use Rattle.std.proofs.Common.{rules, ◌++◌, codes, flat_map, length}
 use Rattle.cert_text.specs.Lines.{end_word}
 use Rattle.run_ends.specs.Ends.{line_of, world_line}
-use Rattle.run_ends.specs.Runs.{sink_state}
 use Rattle.check_run.specs.Checking.{accepted_line}
 use Rattle.run_ends.proofs.PieceLemmas.{piece_after, part_of_more}
 use Rattle.check_run.proofs.verdict.put_listed.Goals as goal
@@ -10,7 +9,7 @@ pub returns-in_err-put_worlds : goal.returns-in_err-put_worlds
 returns-in_err-put_worlds g c = record {
   ok = search rules;
   err =
-      part_of_more c.from_residual.result (g.W.Sink.received c.args.out.now) (g.W.Sink.received c.put_worlds.new.out) (flat_map world_line c.args.worlds.now)
+      part_of_more c.from_residual.result (g.W.Sink.state c.args.out.now).bytes (g.W.Sink.state c.put_worlds.new.out).bytes (flat_map world_line c.args.worlds.now)
       (line_of (codes "to " ++ end_word c.args.to.now) ++ accepted_line (length c.args.worlds.now)) c.in_err-put_worlds.ensures.err;
   cause = search rules;
   later = search rules;
@@ -19,7 +18,7 @@ returns-in_err-put_worlds g c = record {
 pub returns : goal.returns
 returns g c =
     piece_after c.put_last.result (flat_map world_line c.args.worlds.now) (line_of (codes "to " ++ end_word c.args.to.now) ++ accepted_line (length c.args.worlds.now))
-    (sink_state (g.W.Sink.received c.args.out.now) (g.W.Sink.faults c.args.out.now))
-    (sink_state (g.W.Sink.received c.put_worlds.new.out) (g.W.Sink.faults c.put_worlds.new.out))
-    (sink_state (g.W.Sink.received c.put_last.new.out) (g.W.Sink.faults c.put_last.new.out))
+    (g.W.Sink.state c.args.out.now)
+    (g.W.Sink.state c.put_worlds.new.out)
+    (g.W.Sink.state c.put_last.new.out)
     c.in_ok-put_worlds.ensures.ok c.in_ok-put_worlds.ensures.cause (search rules)

@@ -1,7 +1,6 @@
 use Rattle.std.proofs.Common.{rules, ◌++◌, codes, flat_map, length}
 use Rattle.cert_text.specs.Lines.{position_word, end_word}
 use Rattle.run_ends.specs.Ends.{line_of, world_line}
-use Rattle.run_ends.specs.Runs.{sink_state}
 use Rattle.check_run.specs.Checking.{accepted_line}
 use Rattle.run_ends.proofs.PieceLemmas.{piece_after, part_of_more}
 use Rattle.check_run.proofs.verdict.put_listing.Goals as goal
@@ -10,7 +9,7 @@ pub returns-in_err-put : goal.returns-in_err-put
 returns-in_err-put g c = record {
   ok = search rules;
   err =
-      part_of_more c.from_residual-in_err-put.result (g.W.Sink.received c.args.out.now) (g.W.Sink.received c.put.new.self) (line_of (codes "from " ++ position_word c.args.from.now))
+      part_of_more c.from_residual-in_err-put.result (g.W.Sink.state c.args.out.now).bytes (g.W.Sink.state c.put.new.self).bytes (line_of (codes "from " ++ position_word c.args.from.now))
       (flat_map world_line c.args.worlds.now ++ (line_of (codes "to " ++ end_word c.args.to.now) ++ accepted_line (length c.args.worlds.now))) (search rules);
   cause = search rules;
   later = search rules;
@@ -20,7 +19,7 @@ pub returns : goal.returns
 returns g c =
     piece_after c.put_listed.result (line_of (codes "from " ++ position_word c.args.from.now))
     (flat_map world_line c.args.worlds.now ++ (line_of (codes "to " ++ end_word c.args.to.now) ++ accepted_line (length c.args.worlds.now)))
-    (sink_state (g.W.Sink.received c.args.out.now) (g.W.Sink.faults c.args.out.now))
-    (sink_state (g.W.Sink.received c.put.new.self) (g.W.Sink.faults c.put.new.self))
-    (sink_state (g.W.Sink.received c.put_listed.new.out) (g.W.Sink.faults c.put_listed.new.out))
+    (g.W.Sink.state c.args.out.now)
+    (g.W.Sink.state c.put.new.self)
+    (g.W.Sink.state c.put_listed.new.out)
     (search rules) (search rules) c.put_listed.ensures

@@ -5,6 +5,6 @@ use Rattle.check_run.proofs.verdict.put_worlds.Given as goal
 
 abbrev pub invariant-worlds : goal.invariant-worlds
 invariant-worlds g l = record {
-  put : g.W.Sink.received l.out ≡ added (g.W.Sink.received l.initial.out) (flat_map world_line (take l.world-index l.worlds));
-  faults : g.W.Sink.faults l.out ≡ g.W.Sink.faults l.initial.out;
+  put : (g.W.Sink.state l.out).bytes ≡ added (g.W.Sink.state l.initial.out).bytes (flat_map world_line (take l.world-index l.worlds));
+  faults : (g.W.Sink.state l.out).faults ≡ (g.W.Sink.state l.initial.out).faults;
 }

@@ -1,6 +1,7 @@
 use Rattle.std.proofs.Common.{◌≡◌, [], Some, None, sym, subst}
 use Rattle.search_log.specs.declared.fault.StepFault.TheVariants.{NoMemory}
 use Rattle.search_log.proofs.Logs.{log_memory}
+use Rattle.search_log.proofs.Leading.{led_still}
 use Rattle.cert_rules.specs.ClaimWriting.{open_at}
 use Rattle.cert_rules.proofs.ClaimWriting.{claims_put_keep_up_law}
 use Rattle.cert_text.specs.declared.line.CertLine.TheVariants.{Fails}
@@ -24,3 +25,7 @@ returns-clause-keeps g c = λ p claims fault.
     c.put_behind.ensures.keeps p None next claims claims
     (subst (λ subject. LineLeads p state (Fails subject) None claims next claims) (sym c.in_ok-copy_subject.ensures)
     (λ lines k. claims_put_keep_up_law.fails p lines state claims c.args.subject.now k fault))
+
+pub returns-in_err-copy_subject-clause-leads : goal.returns-in_err-copy_subject-clause-leads
+returns-in_err-copy_subject-clause-leads g c =
+    led_still (g.L.TreeLog.lines c.args.log.now) c.args.asker.now

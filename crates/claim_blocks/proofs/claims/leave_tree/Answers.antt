@@ -2,6 +2,7 @@ use Rattle.std.proofs.Common.{◌≡◌, true, ◌++◌, None}
 use Rattle.cert_rules.specs.ClaimWriting.{open_at}
 use Rattle.cert_rules.proofs.ClaimWriting.{claims_put_keep_up_law}
 use Rattle.search_log.proofs.Logs.{log_joins}
+use Rattle.search_log.proofs.Leading.{led_joins}
 use Rattle.claim_blocks.specs.Blocks.{claimed}
 use Rattle.claim_blocks.proofs.Answered.{leads_from}
 use Rattle.claim_blocks.proofs.Steps.{leads_err, leads_behind}
@@ -32,3 +33,8 @@ pub returns-clause-log : goal.returns-clause-log
 returns-clause-log g c =
     log_joins _ c.show.result c.args.log.now c.put_behind.new.log c.show.new.log (g.met.L.TreeLog.steady_joins c.args.log.now c.put_behind.new.log c.show.new.log) (g.met.L.TreeLog.quiet_joins c.args.log.now c.put_behind.new.log c.show.new.log)
     c.in_ok-put_behind.ensures.log c.show.ensures.log
+
+pub returns-clause-leads : goal.returns-clause-leads
+returns-clause-leads g c =
+    led_joins (g.L.TreeLog.lines c.args.log.now) (g.L.TreeLog.lines c.put_behind.new.log) (g.L.TreeLog.lines c.show.new.log) c.args.asker.now c.put_behind.new.asker c.show.new.asker c.in_ok-put_behind.ensures.log.told c.put_behind.ensures.leads
+    c.show.ensures.leads

@@ -1,5 +1,6 @@
 use Rattle.std.proofs.Common.{◌≡◌}
 use Rattle.search_log.proofs.Logs.{log_joins}
+use Rattle.search_log.proofs.Leading.{led_joins}
 use Rattle.claim_blocks.proofs.Steps.{leads_some, leads_err, leads_flushed, leads_behind, leads_put_if, leads_alike}
 use Rattle.claim_blocks.proofs.claims.put_behind.Goals as goal
 
@@ -28,3 +29,8 @@ pub returns-clause-log : goal.returns-clause-log
 returns-clause-log g c =
     log_joins _ c.put_one.result c.args.log.now c.put_waiting.new.log c.put_one.new.log (g.met.L.TreeLog.steady_joins c.args.log.now c.put_waiting.new.log c.put_one.new.log) (g.met.L.TreeLog.quiet_joins c.args.log.now c.put_waiting.new.log c.put_one.new.log)
     c.in_ok-put_waiting.ensures.log c.put_one.ensures.log
+
+pub returns-clause-leads : goal.returns-clause-leads
+returns-clause-leads g c =
+    led_joins (g.L.TreeLog.lines c.args.log.now) (g.L.TreeLog.lines c.put_waiting.new.log) (g.L.TreeLog.lines c.put_one.new.log) c.args.asker.now c.put_waiting.new.asker c.put_waiting.new.asker c.in_ok-put_waiting.ensures.log.told c.put_waiting.ensures.leads
+    (c.put_one.ensures.leads c.put_waiting.new.asker c.requires.no_derivation)

@@ -5,6 +5,7 @@ use Rattle.claim_blocks.specs.Blocks.{settled}
 use Rattle.claim_blocks.proofs.Answered.{made_from, told_from, somewhere, searched, finished}
 use Rattle.claim_blocks.proofs.Joins.{keeps_err, keeps_untold}
 use Rattle.claim_blocks.proofs.Steps.{leads_some}
+use Rattle.search_log.proofs.Leading.{led_untold, led_joins}
 use Rattle.claim_blocks.proofs.claims.settle.Goals as goal
 
 pub returns-in_err-choose_by_picks-clause-keeps : goal.returns-in_err-choose_by_picks-clause-keeps
@@ -107,3 +108,28 @@ returns-clause-log g c =
     (log_joins _ _ c.args.log.now c.choose.new.log c.end_tree.new.log (g.met.L.TreeLog.steady_joins c.args.log.now c.choose.new.log c.end_tree.new.log) (g.met.L.TreeLog.quiet_joins c.args.log.now c.choose.new.log c.end_tree.new.log)
     (log_joins _ _ c.args.log.now c.begin_tree.new.log c.choose.new.log (g.met.L.TreeLog.steady_joins c.args.log.now c.begin_tree.new.log c.choose.new.log) (g.met.L.TreeLog.quiet_joins c.args.log.now c.begin_tree.new.log c.choose.new.log)
     c.in_ok-begin_tree.ensures.log c.in_ok-choice.ensures.log) c.in_ok-end_tree.ensures.log)
+
+pub returns-in_err-choose_by_picks-clause-leads : goal.returns-in_err-choose_by_picks-clause-leads
+returns-in_err-choose_by_picks-clause-leads g c =
+    led_untold (g.L.TreeLog.lines c.args.log.now) (g.L.TreeLog.lines c.args.log.now) c.args.asker.now c.choose_by_picks.new.asker (g.met.L.TreeLog.tells_none c.args.log.now (sym c.is_dropping.ensures ∙ c.if-is_dropping.true))
+
+pub returns-then-is_dropping-clause-leads : goal.returns-then-is_dropping-clause-leads
+returns-then-is_dropping-clause-leads g c =
+    led_untold (g.L.TreeLog.lines c.args.log.now) (g.L.TreeLog.lines c.args.log.now) c.args.asker.now c.choose_by_picks.new.asker (g.met.L.TreeLog.tells_none c.args.log.now (sym c.is_dropping.ensures ∙ c.if-is_dropping.true))
+
+pub returns-in_err-choice-clause-leads : goal.returns-in_err-choice-clause-leads
+returns-in_err-choice-clause-leads g c =
+    led_joins (g.L.TreeLog.lines c.args.log.now) (g.L.TreeLog.lines c.begin_tree.new.log) (g.L.TreeLog.lines c.choose.new.log) c.args.asker.now c.begin_tree.new.asker c.choose.new.asker c.in_ok-begin_tree.ensures.log.told c.begin_tree.ensures.leads
+    c.choose.ensures.leads
+
+pub returns-in_err-end_tree-clause-leads : goal.returns-in_err-end_tree-clause-leads
+returns-in_err-end_tree-clause-leads g c =
+    led_joins (g.L.TreeLog.lines c.args.log.now) (g.L.TreeLog.lines c.begin_tree.new.log) (g.L.TreeLog.lines c.end_tree.new.log) c.args.asker.now c.begin_tree.new.asker c.end_tree.new.asker c.in_ok-begin_tree.ensures.log.told c.begin_tree.ensures.leads
+    (led_joins (g.L.TreeLog.lines c.begin_tree.new.log) (g.L.TreeLog.lines c.choose.new.log) (g.L.TreeLog.lines c.end_tree.new.log) c.begin_tree.new.asker c.choose.new.asker c.end_tree.new.asker c.in_ok-choice.ensures.log.told c.choose.ensures.leads
+    c.end_tree.ensures.leads)
+
+pub returns-clause-leads : goal.returns-clause-leads
+returns-clause-leads g c =
+    led_joins (g.L.TreeLog.lines c.args.log.now) (g.L.TreeLog.lines c.begin_tree.new.log) (g.L.TreeLog.lines c.end_tree.new.log) c.args.asker.now c.begin_tree.new.asker c.end_tree.new.asker c.in_ok-begin_tree.ensures.log.told c.begin_tree.ensures.leads
+    (led_joins (g.L.TreeLog.lines c.begin_tree.new.log) (g.L.TreeLog.lines c.choose.new.log) (g.L.TreeLog.lines c.end_tree.new.log) c.begin_tree.new.asker c.choose.new.asker c.end_tree.new.asker c.in_ok-choice.ensures.log.told c.choose.ensures.leads
+    c.end_tree.ensures.leads)

@@ -1,6 +1,7 @@
 use Rattle.std.proofs.Common.{◌≡◌, true, ◌++◌, None, Ok, sym, ◌∙◌, refl, subst}
 use Rattle.search_log.specs.declared.fault.StepFault.TheVariants.{NoMemory}
 use Rattle.search_log.proofs.Logs.{asker_stays, log_stays_ok, log_memory}
+use Rattle.search_log.proofs.Leading.{led_still, led_untold}
 use Rattle.cert_rules.proofs.ClaimWriting.{claims_put_keep_up_law}
 use Rattle.claim_blocks.specs.Blocks.{claimed}
 use Rattle.claim_blocks.specs.Steps.{LineLeads}
@@ -33,3 +34,11 @@ returns-clause-keeps g c = λ p shows.
     (λ claims. c.put_behind.ensures.keeps p None None claims (claims ++ made)
     (subst (λ line. LineLeads p state line None claims None (claims ++ made)) (sym c.in_ok-line.ensures)
     (λ lines k. claims_put_keep_up_law.holds p lines state claims c.args.subject.now c.args.family.now k shows)))
+
+pub returns-then-is_dropping-clause-leads : goal.returns-then-is_dropping-clause-leads
+returns-then-is_dropping-clause-leads g c =
+    led_untold (g.L.TreeLog.lines c.args.log.now) (g.L.TreeLog.lines c.args.log.now) c.args.asker.now c.clear_lines.new.self (g.met.L.TreeLog.tells_none c.args.log.now (sym c.is_dropping.ensures ∙ c.if-is_dropping.true))
+
+pub returns-in_err-line-clause-leads : goal.returns-in_err-line-clause-leads
+returns-in_err-line-clause-leads g c =
+    led_still (g.L.TreeLog.lines c.args.log.now) c.args.asker.now

@@ -6,6 +6,7 @@ use Rattle.claim_blocks.proofs.Answered.{keeps_from, told_from}
 use Rattle.claim_blocks.proofs.RootLemmas.{closed_alike}
 use Rattle.claim_blocks.proofs.Steps.{leads_behind}
 use Rattle.claim_blocks.proofs.Joins.{keeps_err}
+use Rattle.search_log.proofs.Leading.{led_joins}
 use Rattle.claim_blocks.proofs.roots.refute.Goals as goal
 
 pub returns-in_err-begin_tree-clause-keeps : goal.returns-in_err-begin_tree-clause-keeps
@@ -48,3 +49,14 @@ returns-clause-keeps g c = λ p closed.
     (leads_behind r p mid late new two three four (open_at subject (Some [])) (open_at subject None) None claims claims (claims ++ made) c.in_ok-put_root.ensures.log.told
     (c.in_ok-put_root.ensures.keeps p claims (closed_alike p subject one two c.args.need c.args.clause c.begin_tree.ensures.same closed))
     (c.put_behind.ensures.keeps p (open_at subject None) None claims (claims ++ made) (λ lines up. claims_put_keep_up_law.whole p lines three.solver.state claims subject up))))
+
+pub returns-in_err-put_root-clause-leads : goal.returns-in_err-put_root-clause-leads
+returns-in_err-put_root-clause-leads g c =
+    led_joins (g.L.TreeLog.lines c.args.log.now) (g.L.TreeLog.lines c.begin_tree.new.log) (g.L.TreeLog.lines c.put_root.new.log) c.args.asker.now c.begin_tree.new.asker c.put_root.new.asker c.in_ok-begin_tree.ensures.log.told c.begin_tree.ensures.leads
+    c.put_root.ensures.leads
+
+pub returns-clause-leads : goal.returns-clause-leads
+returns-clause-leads g c =
+    led_joins (g.L.TreeLog.lines c.args.log.now) (g.L.TreeLog.lines c.begin_tree.new.log) (g.L.TreeLog.lines c.put_behind.new.log) c.args.asker.now c.begin_tree.new.asker c.put_behind.new.asker c.in_ok-begin_tree.ensures.log.told c.begin_tree.ensures.leads
+    (led_joins (g.L.TreeLog.lines c.begin_tree.new.log) (g.L.TreeLog.lines c.put_root.new.log) (g.L.TreeLog.lines c.put_behind.new.log) c.begin_tree.new.asker c.put_root.new.asker c.put_behind.new.asker c.in_ok-put_root.ensures.log.told c.put_root.ensures.leads
+    c.put_behind.ensures.leads)

@@ -1,27 +1,26 @@
-use Rattle.run_ends.specs.Runs.{store_state, sink_state}
 use Rattle.claims_run.proofs.EndLemmas.{settled_done, nothing_settled, part_settled}
 use Rattle.claims_run.proofs.running.carry_out.Goals as goal
 
 pub returns-in_err-answer : goal.returns-in_err-answer
 returns-in_err-answer g c =
     nothing_settled c.args.problem.now c.args.asked c.args.cert.now c.in_err-answer.field-0.0 c.from_residual.result
-    (store_state (g.S.Store.held c.args.store.now) (g.S.Store.read_faults c.args.store.now) (g.S.Store.write_faults c.args.store.now))
-    (store_state (g.S.Store.held c.settled.new.store) (g.S.Store.read_faults c.settled.new.store) (g.S.Store.write_faults c.settled.new.store))
-    (sink_state (g.W.Sink.received c.args.out.now) (g.W.Sink.faults c.args.out.now))
+    (g.S.Store.state c.args.store.now)
+    (g.S.Store.state c.settled.new.store)
+    (g.W.Sink.state c.args.out.now)
     c.from_residual.ensures.1 c.in_err-answer.ensures
 
 pub returns-in_err-put_answer : goal.returns-in_err-put_answer
 returns-in_err-put_answer g c =
     part_settled c.args.problem.now c.args.asked c.args.cert.now c.in_ok-answer.answer c.in_err-put_answer.field-0.0 c.from_residual-in_err-put_answer.result
-    (store_state (g.S.Store.held c.args.store.now) (g.S.Store.read_faults c.args.store.now) (g.S.Store.write_faults c.args.store.now))
-    (store_state (g.S.Store.held c.settled.new.store) (g.S.Store.read_faults c.settled.new.store) (g.S.Store.write_faults c.settled.new.store))
-    (sink_state (g.W.Sink.received c.args.out.now) (g.W.Sink.faults c.args.out.now)) (sink_state (g.W.Sink.received c.put_answer.new.out) (g.W.Sink.faults c.put_answer.new.out))
+    (g.S.Store.state c.args.store.now)
+    (g.S.Store.state c.settled.new.store)
+    (g.W.Sink.state c.args.out.now) (g.W.Sink.state c.put_answer.new.out)
     c.from_residual-in_err-put_answer.ensures.1 c.in_ok-answer.ensures c.in_err-put_answer.ensures
 
 pub returns : goal.returns
 returns g c =
     settled_done c.args.problem.now c.args.asked c.args.cert.now c.in_ok-answer.answer c.status_of.result
-    (store_state (g.S.Store.held c.args.store.now) (g.S.Store.read_faults c.args.store.now) (g.S.Store.write_faults c.args.store.now))
-    (store_state (g.S.Store.held c.settled.new.store) (g.S.Store.read_faults c.settled.new.store) (g.S.Store.write_faults c.settled.new.store))
-    (sink_state (g.W.Sink.received c.args.out.now) (g.W.Sink.faults c.args.out.now)) (sink_state (g.W.Sink.received c.put_answer.new.out) (g.W.Sink.faults c.put_answer.new.out))
+    (g.S.Store.state c.args.store.now)
+    (g.S.Store.state c.settled.new.store)
+    (g.W.Sink.state c.args.out.now) (g.W.Sink.state c.put_answer.new.out)
     c.in_ok-answer.ensures c.status_of.ensures c.in_ok-put_answer.ensures.ok c.in_ok-put_answer.ensures.cause

@@ -1,5 +1,4 @@
 use Rattle.std.proofs.Common.{rules, Ok}
-use Rattle.run_ends.specs.Runs.{store_state, sink_state}
 use Rattle.run_ends.proofs.ReadLemmas.{one_state}
 use Rattle.run_ends.proofs.EndLemmas.{run_early, run_done, run_refused, run_starved}
 use Rattle.claims_run.specs.Answering.{IsClaimsAnswer, claims_names}
@@ -9,56 +8,53 @@ use Rattle.claims_run.proofs.running.run_claims.Goals as goal
 pub returns-in-Err : goal.returns-in-Err
 returns-in-Err g c =
     run_early (claims_names c.args.input.now c.args.cert.now) (IsClaimsAnswer c.args.asked c.args.input.now c.args.cert.now c.args.switches) c.in-Err.status c.put_end.result
-    (store_state (g.S.Store.held c.args.store.now) (g.S.Store.read_faults c.args.store.now) (g.S.Store.write_faults c.args.store.now))
-    (store_state (g.S.Store.held c.problem_under.new.store) (g.S.Store.read_faults c.problem_under.new.store) (g.S.Store.write_faults c.problem_under.new.store))
-    (sink_state (g.W.Sink.received c.args.out.now) (g.W.Sink.faults c.args.out.now)) (sink_state (g.W.Sink.received c.put_end.new.out) (g.W.Sink.faults c.put_end.new.out))
+    (g.S.Store.state c.args.store.now)
+    (g.S.Store.state c.problem_under.new.store)
+    (g.W.Sink.state c.args.out.now) (g.W.Sink.state c.put_end.new.out)
     (without_problem c.args.asked c.args.input.now c.args.cert.now c.args.switches c.in-Err.status
-    (store_state (g.S.Store.held c.args.store.now) (g.S.Store.read_faults c.args.store.now) (g.S.Store.write_faults c.args.store.now))
-    (store_state (g.S.Store.held c.problem_under.new.store) (g.S.Store.read_faults c.problem_under.new.store) (g.S.Store.write_faults c.problem_under.new.store))
+    (g.S.Store.state c.args.store.now)
+    (g.S.Store.state c.problem_under.new.store)
     c.in-Err.ensures.ended) c.in-Err.ensures.kept c.put_end.ensures.put
 
 pub returns-in-Ok-carry_out : goal.returns-in-Ok-carry_out
 returns-in-Ok-carry_out g c =
     run_done (claims_names c.args.input.now c.args.cert.now) (IsClaimsAnswer c.args.asked c.args.input.now c.args.cert.now c.args.switches) c.in-Ok-carry_out.status
-    (store_state (g.S.Store.held c.args.store.now) (g.S.Store.read_faults c.args.store.now) (g.S.Store.write_faults c.args.store.now))
-    (store_state (g.S.Store.held c.carry_out.new.store) (g.S.Store.read_faults c.carry_out.new.store) (g.S.Store.write_faults c.carry_out.new.store))
-    (sink_state (g.W.Sink.received c.args.out.now) (g.W.Sink.faults c.args.out.now)) (sink_state (g.W.Sink.received c.carry_out.new.out) (g.W.Sink.faults c.carry_out.new.out))
+    (g.S.Store.state c.args.store.now)
+    (g.S.Store.state c.carry_out.new.store)
+    (g.W.Sink.state c.args.out.now) (g.W.Sink.state c.carry_out.new.out)
     (question_carried c.args.asked c.args.input.now c.args.cert.now c.args.switches c.in-Ok.problem (Ok c.in-Ok-carry_out.status)
-    (store_state (g.S.Store.held c.args.store.now) (g.S.Store.read_faults c.args.store.now) (g.S.Store.write_faults c.args.store.now))
-    (store_state (g.S.Store.held c.problem_under.new.store) (g.S.Store.read_faults c.problem_under.new.store) (g.S.Store.write_faults c.problem_under.new.store))
-    (store_state (g.S.Store.held c.carry_out.new.store) (g.S.Store.read_faults c.carry_out.new.store) (g.S.Store.write_faults c.carry_out.new.store))
-    (sink_state (g.W.Sink.received c.args.out.now) (g.W.Sink.faults c.args.out.now)) (sink_state (g.W.Sink.received c.carry_out.new.out) (g.W.Sink.faults c.carry_out.new.out))
-    (one_state (g.S.Store.held c.args.store.now) (g.S.Store.held c.problem_under.new.store) (g.S.Store.read_faults c.args.store.now) (g.S.Store.read_faults c.problem_under.new.store)
-    (g.S.Store.write_faults c.args.store.now) (g.S.Store.write_faults c.problem_under.new.store) c.in-Ok.ensures.kept c.in-Ok.ensures.quiet.0 c.in-Ok.ensures.quiet.1)
+    (g.S.Store.state c.args.store.now)
+    (g.S.Store.state c.problem_under.new.store)
+    (g.S.Store.state c.carry_out.new.store)
+    (g.W.Sink.state c.args.out.now) (g.W.Sink.state c.carry_out.new.out)
+    (one_state (g.S.Store.state c.args.store.now) (g.S.Store.state c.problem_under.new.store) c.in-Ok.ensures.kept c.in-Ok.ensures.quiet)
     c.in-Ok.ensures.problem c.in-Ok-carry_out.ensures)
 
 pub returns-in-Err-Failed : goal.returns-in-Err-Failed
 returns-in-Err-Failed g c =
     run_refused (claims_names c.args.input.now c.args.cert.now) (IsClaimsAnswer c.args.asked c.args.input.now c.args.cert.now c.args.switches)
-    (store_state (g.S.Store.held c.args.store.now) (g.S.Store.read_faults c.args.store.now) (g.S.Store.write_faults c.args.store.now))
-    (store_state (g.S.Store.held c.carry_out.new.store) (g.S.Store.read_faults c.carry_out.new.store) (g.S.Store.write_faults c.carry_out.new.store))
-    (sink_state (g.W.Sink.received c.args.out.now) (g.W.Sink.faults c.args.out.now)) (sink_state (g.W.Sink.received c.carry_out.new.out) (g.W.Sink.faults c.carry_out.new.out))
+    (g.S.Store.state c.args.store.now)
+    (g.S.Store.state c.carry_out.new.store)
+    (g.W.Sink.state c.args.out.now) (g.W.Sink.state c.carry_out.new.out)
     (question_carried c.args.asked c.args.input.now c.args.cert.now c.args.switches c.in-Ok.problem _
-    (store_state (g.S.Store.held c.args.store.now) (g.S.Store.read_faults c.args.store.now) (g.S.Store.write_faults c.args.store.now))
-    (store_state (g.S.Store.held c.problem_under.new.store) (g.S.Store.read_faults c.problem_under.new.store) (g.S.Store.write_faults c.problem_under.new.store))
-    (store_state (g.S.Store.held c.carry_out.new.store) (g.S.Store.read_faults c.carry_out.new.store) (g.S.Store.write_faults c.carry_out.new.store))
-    (sink_state (g.W.Sink.received c.args.out.now) (g.W.Sink.faults c.args.out.now)) (sink_state (g.W.Sink.received c.carry_out.new.out) (g.W.Sink.faults c.carry_out.new.out))
-    (one_state (g.S.Store.held c.args.store.now) (g.S.Store.held c.problem_under.new.store) (g.S.Store.read_faults c.args.store.now) (g.S.Store.read_faults c.problem_under.new.store)
-    (g.S.Store.write_faults c.args.store.now) (g.S.Store.write_faults c.problem_under.new.store) c.in-Ok.ensures.kept c.in-Ok.ensures.quiet.0 c.in-Ok.ensures.quiet.1)
+    (g.S.Store.state c.args.store.now)
+    (g.S.Store.state c.problem_under.new.store)
+    (g.S.Store.state c.carry_out.new.store)
+    (g.W.Sink.state c.args.out.now) (g.W.Sink.state c.carry_out.new.out)
+    (one_state (g.S.Store.state c.args.store.now) (g.S.Store.state c.problem_under.new.store) c.in-Ok.ensures.kept c.in-Ok.ensures.quiet)
     c.in-Ok.ensures.problem (search rules))
 
 pub returns : goal.returns
 returns g c =
     run_starved (claims_names c.args.input.now c.args.cert.now) (IsClaimsAnswer c.args.asked c.args.input.now c.args.cert.now c.args.switches) c.put_end-in-Err-NoMemory.result
-    (store_state (g.S.Store.held c.args.store.now) (g.S.Store.read_faults c.args.store.now) (g.S.Store.write_faults c.args.store.now))
-    (store_state (g.S.Store.held c.carry_out.new.store) (g.S.Store.read_faults c.carry_out.new.store) (g.S.Store.write_faults c.carry_out.new.store))
-    (sink_state (g.W.Sink.received c.args.out.now) (g.W.Sink.faults c.args.out.now)) (sink_state (g.W.Sink.received c.carry_out.new.out) (g.W.Sink.faults c.carry_out.new.out)) (sink_state (g.W.Sink.received c.put_end-in-Err-NoMemory.new.out) (g.W.Sink.faults c.put_end-in-Err-NoMemory.new.out))
+    (g.S.Store.state c.args.store.now)
+    (g.S.Store.state c.carry_out.new.store)
+    (g.W.Sink.state c.args.out.now) (g.W.Sink.state c.carry_out.new.out) (g.W.Sink.state c.put_end-in-Err-NoMemory.new.out)
     (question_carried c.args.asked c.args.input.now c.args.cert.now c.args.switches c.in-Ok.problem _
-    (store_state (g.S.Store.held c.args.store.now) (g.S.Store.read_faults c.args.store.now) (g.S.Store.write_faults c.args.store.now))
-    (store_state (g.S.Store.held c.problem_under.new.store) (g.S.Store.read_faults c.problem_under.new.store) (g.S.Store.write_faults c.problem_under.new.store))
-    (store_state (g.S.Store.held c.carry_out.new.store) (g.S.Store.read_faults c.carry_out.new.store) (g.S.Store.write_faults c.carry_out.new.store))
-    (sink_state (g.W.Sink.received c.args.out.now) (g.W.Sink.faults c.args.out.now)) (sink_state (g.W.Sink.received c.carry_out.new.out) (g.W.Sink.faults c.carry_out.new.out))
-    (one_state (g.S.Store.held c.args.store.now) (g.S.Store.held c.problem_under.new.store) (g.S.Store.read_faults c.args.store.now) (g.S.Store.read_faults c.problem_under.new.store)
-    (g.S.Store.write_faults c.args.store.now) (g.S.Store.write_faults c.problem_under.new.store) c.in-Ok.ensures.kept c.in-Ok.ensures.quiet.0 c.in-Ok.ensures.quiet.1)
+    (g.S.Store.state c.args.store.now)
+    (g.S.Store.state c.problem_under.new.store)
+    (g.S.Store.state c.carry_out.new.store)
+    (g.W.Sink.state c.args.out.now) (g.W.Sink.state c.carry_out.new.out)
+    (one_state (g.S.Store.state c.args.store.now) (g.S.Store.state c.problem_under.new.store) c.in-Ok.ensures.kept c.in-Ok.ensures.quiet)
     c.in-Ok.ensures.problem (search rules))
     c.put_end-in-Err-NoMemory.ensures.put

@@ -4,4 +4,4 @@ use Rattle.command_line.proofs.words.read_operands.Given as goal
 
 abbrev pub invariant-further : goal.invariant-further
 invariant-further g l =
-    operands_of (map (λ z. (goal.WorldWatcher-dyn g (z.vtable, z.value)).name z.value) l.watchers.items) (row_of l.command) [] (map string_bytes l.words) ≡ operands_of (map (λ z. (goal.WorldWatcher-dyn g (z.vtable, z.value)).name z.value) l.watchers.items) (row_of l.command) l.operands.items (map string_bytes (drop l.word-index l.words))
+    operands_of (g.K.KnownNames.names l.known) (row_of l.command) [] (map string_bytes l.words) ≡ operands_of (g.K.KnownNames.names l.known) (row_of l.command) l.operands.items (map string_bytes (drop l.word-index l.words))

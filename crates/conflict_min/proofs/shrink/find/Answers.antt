@@ -6,6 +6,7 @@ use Rattle.claim_blocks.proofs.Joins.{keeps_err}
 use Rattle.conflict_min.specs.Conflicts.{all_kept, loss_claims, IsClaimedOf}
 use Rattle.conflict_min.specs.declared.conflict.Found.TheVariants.{Least}
 use Rattle.conflict_min.proofs.Claims.{fails, untouched, made_wider, made_joins, told_joins, shrunk_claimed, conflict_claimed}
+use Rattle.search_log.proofs.Leading.{led_still, led_joins}
 use Rattle.conflict_min.proofs.shrink.find.Goals as goal
 
 pub returns-in_err-all-clause-keeps : goal.returns-in_err-all-clause-keeps
@@ -73,3 +74,24 @@ returns-in_ok-show_losses-in-Refuted-clause-log g c =
     (log_joins _ _ a d e (g.met.L.TreeLog.steady_joins a d e) (g.met.L.TreeLog.quiet_joins a d e)
     (log_joins _ _ a b d (g.met.L.TreeLog.steady_joins a b d) (g.met.L.TreeLog.quiet_joins a b d) c.in_ok-family.ensures.log c.in_ok-conflict-in-Refuted.ensures.log)
     c.in_ok-show_losses-in-Refuted.ensures.log)
+
+pub returns-in_err-all-clause-leads : goal.returns-in_err-all-clause-leads
+returns-in_err-all-clause-leads g c =
+    led_still (g.L.TreeLog.lines c.args.log.now) c.args.asker.now
+
+pub returns-in_err-conflict-in-Refuted-clause-leads : goal.returns-in_err-conflict-in-Refuted-clause-leads
+returns-in_err-conflict-in-Refuted-clause-leads g c =
+    led_joins (g.L.TreeLog.lines c.args.log.now) (g.L.TreeLog.lines c.settle_kept.new.log) (g.L.TreeLog.lines c.shrink.new.log) c.args.asker.now c.settle_kept.new.asker c.shrink.new.asker c.in_ok-family.ensures.log.told c.settle_kept.ensures.leads
+    c.shrink.ensures.leads
+
+pub returns-in_err-show_losses-in-Refuted-clause-leads : goal.returns-in_err-show_losses-in-Refuted-clause-leads
+returns-in_err-show_losses-in-Refuted-clause-leads g c =
+    led_joins (g.L.TreeLog.lines c.args.log.now) (g.L.TreeLog.lines c.settle_kept.new.log) (g.L.TreeLog.lines c.show_losses.new.log) c.args.asker.now c.settle_kept.new.asker c.show_losses.new.asker c.in_ok-family.ensures.log.told c.settle_kept.ensures.leads
+    (led_joins (g.L.TreeLog.lines c.settle_kept.new.log) (g.L.TreeLog.lines c.shrink.new.log) (g.L.TreeLog.lines c.show_losses.new.log) c.settle_kept.new.asker c.shrink.new.asker c.show_losses.new.asker c.in_ok-conflict-in-Refuted.ensures.log.told c.shrink.ensures.leads
+    c.show_losses.ensures.leads)
+
+pub returns-in_ok-show_losses-in-Refuted-clause-leads : goal.returns-in_ok-show_losses-in-Refuted-clause-leads
+returns-in_ok-show_losses-in-Refuted-clause-leads g c =
+    led_joins (g.L.TreeLog.lines c.args.log.now) (g.L.TreeLog.lines c.settle_kept.new.log) (g.L.TreeLog.lines c.show_losses.new.log) c.args.asker.now c.settle_kept.new.asker c.show_losses.new.asker c.in_ok-family.ensures.log.told c.settle_kept.ensures.leads
+    (led_joins (g.L.TreeLog.lines c.settle_kept.new.log) (g.L.TreeLog.lines c.shrink.new.log) (g.L.TreeLog.lines c.show_losses.new.log) c.settle_kept.new.asker c.shrink.new.asker c.show_losses.new.asker c.in_ok-conflict-in-Refuted.ensures.log.told c.shrink.ensures.leads
+    c.show_losses.ensures.leads)

@@ -6,6 +6,7 @@ use Rattle.conflict_min.specs.Shrinking.{cut, IsShrunk, IsDropped}
 use Rattle.conflict_min.proofs.Claims.{made_joins, told_joins, dropped_joins}
 use Rattle.conflict_min.proofs.Flags.{cut_none}
 use Rattle.conflict_min.proofs.Passes.{shrunk_cut}
+use Rattle.search_log.proofs.Leading.{led_joins}
 use Rattle.conflict_min.proofs.shrink.pass_some.Goals as goal
 
 pub returns-then-dropped-gt0-clause-after : goal.returns-then-dropped-gt0-clause-after
@@ -50,3 +51,13 @@ returns-clause-log g c =
     let here = c.drop_some.new.log in
     let new = c.try_without.new.log in
     log_ok_as _ _ old new (log_joins _ _ old here new (g.met.L.TreeLog.steady_joins old here new) (g.met.L.TreeLog.quiet_joins old here new) c.in_ok-dropped.ensures.log c.in_ok-try_without.ensures.log)
+
+pub returns-in_err-try_without-clause-leads : goal.returns-in_err-try_without-clause-leads
+returns-in_err-try_without-clause-leads g c =
+    led_joins (g.L.TreeLog.lines c.args.log.now) (g.L.TreeLog.lines c.drop_some.new.log) (g.L.TreeLog.lines c.try_without.new.log) c.args.asker.now c.drop_some.new.asker c.try_without.new.asker c.in_ok-dropped.ensures.log.told c.drop_some.ensures.leads
+    c.try_without.ensures.leads
+
+pub returns-clause-leads : goal.returns-clause-leads
+returns-clause-leads g c =
+    led_joins (g.L.TreeLog.lines c.args.log.now) (g.L.TreeLog.lines c.drop_some.new.log) (g.L.TreeLog.lines c.try_without.new.log) c.args.asker.now c.drop_some.new.asker c.try_without.new.asker c.in_ok-dropped.ensures.log.told c.drop_some.ensures.leads
+    c.try_without.ensures.leads

@@ -1,11 +1,12 @@
-use Rattle.std.proofs.Common.{◌≡◌, ◌+◌, ◌∙◌, map, length, take, false, true, set, ap, arith, take_all}
-use Rattle.search_log.proofs.Logs.{log_joins, log_ok_as}
+use Rattle.std.proofs.Common.{◌≡◌, ◌+◌, ◌∙◌, map, length, take, false, true, set, refl, ap, arith, take_all, Ok}
+use Rattle.search_log.proofs.Logs.{log_stays_ok, log_joins, log_ok_as}
 use Rattle.cert_text.specs.declared.line.Subject.TheVariants.{Kept}
 use Rattle.claim_blocks.specs.Blocks.{claimed}
-use Rattle.claim_blocks.proofs.Joins.{keeps_err}
+use Rattle.claim_blocks.proofs.Joins.{keeps_nothing, keeps_err}
 use Rattle.conflict_min.specs.Conflicts.{places_from, loss_claims}
 use Rattle.conflict_min.proofs.Claims.{untouched, loss, made_wider, made_joins, told_joins, losses_more}
 use Rattle.conflict_min.proofs.Passes.{loss_at}
+use Rattle.search_log.proofs.Leading.{led_still, led_joins}
 use Rattle.conflict_min.proofs.shrink.show_losses.Goals as goal
 
 pub returns-in_err-places-clause-keeps : goal.returns-in_err-places-clause-keeps
@@ -23,6 +24,17 @@ show_loss-requires-clause-met g c =
     (loss_at c.args.problem.now c.args.conflict.now.kept.items c.deref-in-losses.result.now c.args.conflict.now.families.items c.deref-family-items.result.now c.in_ok-places.places.items
     c.losses.nth c.index.result.now c.family-item.result c.requires.least.1 c.deref-in-losses.ensures.value c.deref-family-items.ensures.value
     (c.in_ok-places.ensures ∙ ap (places_from 0) c.deref.ensures.value) c.losses-test.true c.index.ensures c.family-item.is).1
+
+pub losses-init : goal.losses-init
+losses-init g c =
+    let told = g.L.TreeLog.lines c.args.log.now in
+    record {
+      shape = refl;
+      made =
+          keeps_nothing {T = Unit {0}} (Ok tt) c.args.problem.now (λ _ more. more ≡ map (loss c.args.conflict.now.kept.items) (take 0 c.in_ok-places.places.items)) told told c.args.asker.now refl refl;
+      leads = led_still told c.args.asker.now;
+      log = log_stays_ok _ c.args.log.now (g.met.L.TreeLog.steady_stays c.args.log.now) (g.met.L.TreeLog.quiet_stays c.args.log.now);
+    }
 
 pub losses-preserved : goal.losses-preserved
 losses-preserved g c =
@@ -43,6 +55,9 @@ losses-preserved g c =
           (omega (arith, c.losses-test.true, ap length c.deref-family-items.ensures.value, c.requires.least.1.count, ap length (c.in_ok-places.ensures ∙ ap (places_from 0) c.deref.ensures.value))) c.index.ensures one
           (two ∙ ap (λ flags. claimed (Kept (set flags c.index.result.now false)) true) c.deref-in-losses.ensures.value))
           c.losses.invariant.made c.in_ok-show_loss.ensures.keeps;
+      leads =
+          led_joins (g.L.TreeLog.lines c.args.log.now) (g.L.TreeLog.lines c.losses.log) (g.L.TreeLog.lines c.show_loss.new.log) c.args.asker.now c.losses.asker c.show_loss.new.asker c.losses.invariant.log.told c.losses.invariant.leads
+          c.show_loss.ensures.leads;
       log = log_ok_as _ _ old new (log_joins _ _ old here new (g.met.L.TreeLog.steady_joins old here new) (g.met.L.TreeLog.quiet_joins old here new) c.losses.invariant.log c.in_ok-show_loss.ensures.log);
     }
 
@@ -66,3 +81,16 @@ returns-clause-keeps g c =
     is
     ∙ ap (map (loss kept)) (take_all c.losses.nth places (omega (arith, c.losses-test.false, ap length c.deref-family-items.ensures.value, c.requires.least.1.count, ap length same)) ∙ same))
     c.losses.invariant.made
+
+pub returns-then-is_dropping-clause-leads : goal.returns-then-is_dropping-clause-leads
+returns-then-is_dropping-clause-leads g c =
+    led_still (g.L.TreeLog.lines c.args.log.now) c.args.asker.now
+
+pub returns-in_err-places-clause-leads : goal.returns-in_err-places-clause-leads
+returns-in_err-places-clause-leads g c =
+    led_still (g.L.TreeLog.lines c.args.log.now) c.args.asker.now
+
+pub returns-in_err-show_loss-clause-leads : goal.returns-in_err-show_loss-clause-leads
+returns-in_err-show_loss-clause-leads g c =
+    led_joins (g.L.TreeLog.lines c.args.log.now) (g.L.TreeLog.lines c.losses.log) (g.L.TreeLog.lines c.show_loss.new.log) c.args.asker.now c.losses.asker c.show_loss.new.asker c.losses.invariant.log.told c.losses.invariant.leads
+    c.show_loss.ensures.leads

@@ -1,4 +1,5 @@
 use Rattle.std.proofs.Common.{◌≡◌, ◌≤◌, length, Ok}
+use Rattle.search_log.specs.Leading.{KeepsLeading}
 use Rattle.search_log.specs.Logging.{LogGoes}
 use Rattle.claim_blocks.specs.Blocks.{AreClaimsMade, FromClaims}
 use Rattle.conflict_min.specs.Shrinking.{IsShrunk, IsDropped}
@@ -12,5 +13,6 @@ invariant-places g l = record {
   upto : l.place ≤ l.pass.next;
   shrunk : IsShrunk l.problem l.pass.next l.kept.items l.families.items;
   made : FromClaims l.problem (g.L.TreeLog.lines l.fn.log) l.fn.asker (λ claims. AreClaimsMade l.problem (IsDropped l.fn.all.items l.kept.items) claims (g.L.TreeLog.lines l.log) l.asker);
+  leads : KeepsLeading (g.L.TreeLog.lines l.fn.log) (g.L.TreeLog.lines l.log) l.fn.asker l.asker;
   log : LogGoes g.L.TreeLog.drops g.L.TreeLog.lines g.L.TreeLog.faults g.L.TreeLog.steady g.L.TreeLog.quiet (Ok (tt {0})) l.fn.log l.log;
 }

@@ -3,6 +3,7 @@ use Rattle.cert_text.specs.declared.line.Subject.TheVariants.{Kept}
 use Rattle.claim_blocks.specs.Blocks.{settled}
 use Rattle.conflict_min.proofs.Claims.{untouched, refuted_dropped, kept_undropped}
 use Rattle.conflict_min.proofs.Flags.{cut_none, length_cut}
+use Rattle.search_log.proofs.Leading.{led_still}
 use Rattle.conflict_min.proofs.tries.drop_some.Goals as goal
 
 pub returns-then-count-lt2-clause-cut : goal.returns-then-count-lt2-clause-cut
@@ -28,3 +29,11 @@ pub returns-in-Refuted-clause-keeps : goal.returns-in-Refuted-clause-keeps
 returns-in-Refuted-clause-keeps g c =
     refuted_dropped c.args.problem.now c.args.kept.now.items c.deref-2.result.now c.in_ok-tried.tried.items c.in_ok-_family.field-0 (g.L.TreeLog.lines c.args.log.now)
     (g.L.TreeLog.lines c.settle_kept.new.log) c.args.asker.now c.settle_kept.new.asker c.deref-2.ensures.value c.in-Refuted.is c.in_ok-_family.ensures.keeps
+
+pub returns-then-count-lt2-clause-leads : goal.returns-then-count-lt2-clause-leads
+returns-then-count-lt2-clause-leads g c =
+    led_still (g.L.TreeLog.lines c.args.log.now) c.args.asker.now
+
+pub returns-in_err-tried-clause-leads : goal.returns-in_err-tried-clause-leads
+returns-in_err-tried-clause-leads g c =
+    led_still (g.L.TreeLog.lines c.args.log.now) c.args.asker.now

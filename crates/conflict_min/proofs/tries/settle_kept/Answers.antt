@@ -2,6 +2,7 @@ use Rattle.std.proofs.Common.{◌≡◌, ◌∙◌, subst}
 use Rattle.cert_text.specs.declared.line.Subject.TheVariants.{Kept}
 use Rattle.claim_blocks.specs.Blocks.{settled, KeepsClaims}
 use Rattle.conflict_min.proofs.Claims.{untouched, kept_subject}
+use Rattle.search_log.proofs.Leading.{led_still}
 use Rattle.conflict_min.proofs.tries.settle_kept.Goals as goal
 
 pub returns-in_err-from_slice-clause-keeps : goal.returns-in_err-from_slice-clause-keeps
@@ -18,3 +19,11 @@ returns-clause-keeps g c =
     let same : c.new.result ≡ c.args.kept.now = c.new.ensures ∙ c.in_ok-from_slice.ensures.items in
     subst (λ flags. KeepsClaims p c.settle.result (λ choice more. more ≡ settled (Kept flags) choice) (g.L.TreeLog.lines c.args.log.now) (g.L.TreeLog.lines c.settle.new.log) c.args.asker.now c.settle.new.asker) same
     (c.settle.ensures.keeps p (kept_subject p c.in_ok-restricted.restricted c.new.result c.args.kept.now c.requires.flags same c.in_ok-restricted.ensures.value))
+
+pub returns-in_err-from_slice-clause-leads : goal.returns-in_err-from_slice-clause-leads
+returns-in_err-from_slice-clause-leads g c =
+    led_still (g.L.TreeLog.lines c.args.log.now) c.args.asker.now
+
+pub returns-in_err-restricted-clause-leads : goal.returns-in_err-restricted-clause-leads
+returns-in_err-restricted-clause-leads g c =
+    led_still (g.L.TreeLog.lines c.args.log.now) c.args.asker.now

@@ -9,6 +9,7 @@ use Rattle.mir_report.specs.Possible.{IsPossibleSet, pair_claims, claims_from}
 use Rattle.mir_report.proofs.Laws.{cross_within}
 use Rattle.mir_report.proofs.Claims.{claims_next, sets_more}
 use Rattle.mir_report.proofs.Told.{err_first, err_after, err_later}
+use Rattle.search_log.proofs.Leading.{led_still, led_untold, led_joins}
 use Rattle.mir_report.proofs.possible.mir.Goals as goal
 
 pub returns-in_err-bare_sets-clause-keeps : goal.returns-in_err-bare_sets-clause-keeps
@@ -37,6 +38,7 @@ pairs-init g c =
       count = ap length c.new-sets.ensures.items;
       each = subst (λ sets. (k : ℕ) (one : RelSet) → slice_get sets k ≡ Some one → IsPossibleSet p k one) (sym c.new-sets.ensures.items) (λ k one e. cc);
       keeps = keeps_nothing (Ok (tt {0})) p (λ _ more. more ≡ claims_from p 0 c.new-sets.result.items) (g.L.TreeLog.lines c.args.log.now) (g.L.TreeLog.lines c.args.log.now) c.args.asker.now (ap (claims_from p 0) (sym c.new-sets.ensures.items)) refl;
+      leads = led_still (g.L.TreeLog.lines c.args.log.now) c.args.asker.now;
       log = log_stays_ok _ c.args.log.now (g.met.L.TreeLog.steady_stays c.args.log.now) (g.met.L.TreeLog.quiet_stays c.args.log.now);
     }
 
@@ -94,6 +96,9 @@ pairs-preserved g c =
           (g.L.TreeLog.lines c.args.log.now) (g.L.TreeLog.lines c.pairs.log) (g.L.TreeLog.lines c.settle_pair.new.log) c.args.asker.now c.pairs.asker c.settle_pair.new.asker c.pairs.invariant.log.told
           (λ _ xs ys one two. ap₂ (λ xs ys. xs ++ ys) one two ∙ sym (claims_next p k sets set c.pairs.invariant.count) ∙ ap (claims_from p 0) (sym more))
           c.pairs.invariant.keeps c.in_ok-set.ensures.keeps;
+      leads =
+          led_joins (g.L.TreeLog.lines c.args.log.now) (g.L.TreeLog.lines c.pairs.log) (g.L.TreeLog.lines c.settle_pair.new.log) c.args.asker.now c.pairs.asker c.settle_pair.new.asker c.pairs.invariant.log.told c.pairs.invariant.leads
+          c.settle_pair.ensures.leads;
       log =
           log_ok_as _ _ c.args.log.now c.settle_pair.new.log
           (log_joins _ _ c.args.log.now c.pairs.log c.settle_pair.new.log (g.met.L.TreeLog.steady_joins c.args.log.now c.pairs.log c.settle_pair.new.log) (g.met.L.TreeLog.quiet_joins c.args.log.now c.pairs.log c.settle_pair.new.log)
@@ -115,3 +120,25 @@ returns-clause-log g c = log_ok_as _ _ c.args.log.now c.pairs.log c.pairs.invari
 pub returns-in_err-hints-clause-keeps : goal.returns-in_err-hints-clause-keeps
 returns-in_err-hints-clause-keeps g c =
     err_first _ c.from_residual-in_err-hints.result c.args.problem.now (λ mir more. more ≡ claims_from c.args.problem.now 0 mir.sets.items) (g.L.TreeLog.lines c.args.log.now) c.args.asker.now c.from_residual-in_err-hints.ensures.1
+
+pub returns-in_err-bare_sets-clause-leads : goal.returns-in_err-bare_sets-clause-leads
+returns-in_err-bare_sets-clause-leads g c =
+    led_untold (g.L.TreeLog.lines c.args.log.now) (g.L.TreeLog.lines c.args.log.now) c.args.asker.now c.bare_sets.new.asker (g.met.L.TreeLog.tells_none c.args.log.now (sym c.is_dropping.ensures ∙ c.if-is_dropping.true))
+
+pub returns-then-is_dropping-clause-leads : goal.returns-then-is_dropping-clause-leads
+returns-then-is_dropping-clause-leads g c =
+    led_untold (g.L.TreeLog.lines c.args.log.now) (g.L.TreeLog.lines c.args.log.now) c.args.asker.now c.bare_sets.new.asker (g.met.L.TreeLog.tells_none c.args.log.now (sym c.is_dropping.ensures ∙ c.if-is_dropping.true))
+
+pub returns-in_err-set-clause-leads : goal.returns-in_err-set-clause-leads
+returns-in_err-set-clause-leads g c =
+    led_joins (g.L.TreeLog.lines c.args.log.now) (g.L.TreeLog.lines c.pairs.log) (g.L.TreeLog.lines c.settle_pair.new.log) c.args.asker.now c.pairs.asker c.settle_pair.new.asker c.pairs.invariant.log.told c.pairs.invariant.leads
+    c.settle_pair.ensures.leads
+
+pub returns-in_err-put-clause-leads : goal.returns-in_err-put-clause-leads
+returns-in_err-put-clause-leads g c =
+    led_joins (g.L.TreeLog.lines c.args.log.now) (g.L.TreeLog.lines c.pairs.log) (g.L.TreeLog.lines c.settle_pair.new.log) c.args.asker.now c.pairs.asker c.settle_pair.new.asker c.pairs.invariant.log.told c.pairs.invariant.leads
+    c.settle_pair.ensures.leads
+
+pub returns-in_err-hints-clause-leads : goal.returns-in_err-hints-clause-leads
+returns-in_err-hints-clause-leads g c =
+    led_still (g.L.TreeLog.lines c.args.log.now) c.args.asker.now

@@ -8,6 +8,7 @@ use Rattle.claim_blocks.proofs.Joins.{keeps_err, keeps_after, keeps_step, nothin
 use Rattle.dead_pairs.specs.Lone.{IsClosing}
 use Rattle.mir_report.specs.Steps.{claim_if_refuted}
 use Rattle.mir_report.proofs.Subjects.{closed_subject, dead_is_impossible}
+use Rattle.search_log.proofs.Leading.{led_goes, led_after}
 use Rattle.mir_report.proofs.possible.refute_rel.Goals as goal
 
 pub returns-in_err-closing-clause-keeps : goal.returns-in_err-closing-clause-keeps
@@ -63,3 +64,19 @@ refute-requires g c =
 
 pub returns-clause-log : goal.returns-clause-log
 returns-clause-log g c = log_ok_as _ _ c.args.log.now c.refute.new.log c.in_ok-refute.ensures.log
+
+pub returns-in_err-closing-clause-leads : goal.returns-in_err-closing-clause-leads
+returns-in_err-closing-clause-leads g c =
+    led_goes (g.L.TreeLog.lines c.args.log.now) c.args.asker.now c.why_dead.new.asker c.why_dead.ensures.kept
+
+pub returns-in_default-clause-leads : goal.returns-in_default-clause-leads
+returns-in_default-clause-leads g c =
+    led_goes (g.L.TreeLog.lines c.args.log.now) c.args.asker.now c.why_dead.new.asker c.why_dead.ensures.kept
+
+pub returns-in_err-refute-clause-leads : goal.returns-in_err-refute-clause-leads
+returns-in_err-refute-clause-leads g c =
+    led_after (g.L.TreeLog.lines c.args.log.now) (g.L.TreeLog.lines c.refute.new.log) c.args.asker.now c.why_dead.new.asker c.refute.new.asker c.why_dead.ensures.kept c.refute.ensures.leads
+
+pub returns-clause-leads : goal.returns-clause-leads
+returns-clause-leads g c =
+    led_after (g.L.TreeLog.lines c.args.log.now) (g.L.TreeLog.lines c.refute.new.log) c.args.asker.now c.why_dead.new.asker c.refute.new.asker c.why_dead.ensures.kept c.refute.ensures.leads

@@ -7,6 +7,7 @@ use Rattle.claim_blocks.specs.Blocks.{claimed, settled, KeepsClaims}
 use Rattle.claim_blocks.proofs.Joins.{keeps_err}
 use Rattle.mir_report.proofs.Subjects.{pair_problem, met_by_above, met_is_possible}
 use Rattle.mir_report.proofs.Told.{err_first, err_after}
+use Rattle.search_log.proofs.Leading.{led_still}
 use Rattle.mir_report.proofs.possible.search_rel.Goals as goal
 
 pub returns-in_err-narrowed-clause-keeps : goal.returns-in_err-narrowed-clause-keeps
@@ -80,3 +81,7 @@ returns-clause-keeps g c =
 
 pub returns-clause-log : goal.returns-clause-log
 returns-clause-log g c = log_ok_as _ _ c.args.log.now c.settle.new.log c.in_ok-family.ensures.log
+
+pub returns-in_err-narrowed-clause-leads : goal.returns-in_err-narrowed-clause-leads
+returns-in_err-narrowed-clause-leads g c =
+    led_still (g.L.TreeLog.lines c.args.log.now) c.args.asker.now

@@ -8,6 +8,7 @@ use Rattle.claim_blocks.specs.Blocks.{claimed}
 use Rattle.claim_blocks.proofs.Joins.{keeps_made, keeps_nothing}
 use Rattle.mir_report.specs.Steps.{claim_if_allowed}
 use Rattle.mir_report.proofs.Laws.{refused_is_impossible}
+use Rattle.search_log.proofs.Leading.{led_still}
 use Rattle.mir_report.proofs.possible.settle_if_allowed.Goals as goal
 
 pub returns-then-not-has-clause-answer : goal.returns-then-not-has-clause-answer
@@ -33,3 +34,7 @@ returns-clause-keeps g c =
     keeps_made c.settle_rel.result p (λ some more. more ≡ claimed (Narrowed c.args.pair c.args.rel) some) (λ some more. more ≡ claim_if_allowed p c.args.pair c.args.rel some)
     (g.L.TreeLog.lines c.args.log.now) (g.L.TreeLog.lines c.settle_rel.new.log) c.args.asker.now c.settle_rel.new.asker
     (λ some more e. e ∙ sym (ap (λ b. cond b (claimed (Narrowed c.args.pair c.args.rel) some) []) here)) c.settle_rel.ensures.keeps
+
+pub returns-then-not-has-clause-leads : goal.returns-then-not-has-clause-leads
+returns-then-not-has-clause-leads g c =
+    led_still (g.L.TreeLog.lines c.args.log.now) c.args.asker.now

@@ -14,6 +14,7 @@ use Rattle.mir_report.specs.Possible.{pair_claims}
 use Rattle.mir_report.specs.Steps.{claims_of, claim_if_allowed}
 use Rattle.mir_report.proofs.Claims.{claims_step}
 use Rattle.mir_report.proofs.Told.{err_later}
+use Rattle.search_log.proofs.Leading.{led_still, led_joins}
 use Rattle.mir_report.proofs.possible.settle_pair.Goals as goal
 use Rattle.mir_report.proofs.possible.settle_pair.Goals.{then-branch, else-branch}
 
@@ -23,6 +24,7 @@ rels-init g c = record {
   families = c.requires.families;
   each = λ q. (λ h. absurd (true≢false (sym h ∙ ap (λ set. has set q) c.none-set.ensures ∙ has_none q)), λ h. absurd (omega (arith, h.0.1)));
   keeps = keeps_nothing (Ok c.none-set.result) c.args.problem.now (λ set more. more ≡ claims_of c.args.problem.now c.args.pair set []) (g.L.TreeLog.lines c.args.log.now) (g.L.TreeLog.lines c.args.log.now) c.args.asker.now refl refl;
+  leads = led_still (g.L.TreeLog.lines c.args.log.now) c.args.asker.now;
   log = log_stays_ok _ c.args.log.now (g.met.L.TreeLog.steady_stays c.args.log.now) (g.met.L.TreeLog.quiet_stays c.args.log.now);
 }
 
@@ -63,6 +65,9 @@ rels-preserved g c =
           (g.L.TreeLog.lines c.args.log.now) (g.L.TreeLog.lines c.rels.log) (g.L.TreeLog.lines c.settle_if_allowed.new.log) c.args.asker.now c.rels.asker c.settle_if_allowed.new.asker c.rels.invariant.log.told
           (λ _ xs ys one two. ap₂ (λ xs ys. xs ++ ys) one two ∙ sym (claims_step p pair c.rels.set c.if-branch.set (take i all_rels) rel some c.rels.invariant.each each said.answer) ∙ ap (claims_of p pair c.if-branch.set) (sym more))
           c.rels.invariant.keeps said.keeps;
+      leads =
+          led_joins (g.L.TreeLog.lines c.args.log.now) (g.L.TreeLog.lines c.rels.log) (g.L.TreeLog.lines c.settle_if_allowed.new.log) c.args.asker.now c.rels.asker c.settle_if_allowed.new.asker c.rels.invariant.log.told c.rels.invariant.leads
+          c.settle_if_allowed.ensures.leads;
       log =
           log_ok_as _ _ c.args.log.now c.settle_if_allowed.new.log
           (log_joins _ _ c.args.log.now c.rels.log c.settle_if_allowed.new.log (g.met.L.TreeLog.steady_joins c.args.log.now c.rels.log c.settle_if_allowed.new.log) (g.met.L.TreeLog.quiet_joins c.args.log.now c.rels.log c.settle_if_allowed.new.log)
@@ -86,3 +91,8 @@ returns-clause-keeps g c =
 
 pub returns-clause-log : goal.returns-clause-log
 returns-clause-log g c = log_ok_as _ _ c.args.log.now c.rels.log c.rels.invariant.log
+
+pub returns-in_err-settle_if_allowed-clause-leads : goal.returns-in_err-settle_if_allowed-clause-leads
+returns-in_err-settle_if_allowed-clause-leads g c =
+    led_joins (g.L.TreeLog.lines c.args.log.now) (g.L.TreeLog.lines c.rels.log) (g.L.TreeLog.lines c.settle_if_allowed.new.log) c.args.asker.now c.rels.asker c.settle_if_allowed.new.asker c.rels.invariant.log.told c.rels.invariant.leads
+    c.settle_if_allowed.ensures.leads

@@ -1,6 +1,7 @@
 use Rattle.std.proofs.Common.{◌≡◌, take, All, Ok}
 use Rattle.world_model.specs.Questions.{IsPossibleRelation}
 use Rattle.point_query.proofs.Choosing.{HasThose}
+use Rattle.search_log.specs.Leading.{KeepsLeading}
 use Rattle.search_log.specs.Logging.{LogGoes}
 use Rattle.split_search.specs.Choosing.{IsMetBy}
 use Rattle.claim_blocks.specs.Blocks.{KeepsClaims}
@@ -14,5 +15,6 @@ invariant-rels g l = record {
   families : All (IsMetBy l.problem) l.families.items;
   each : HasThose (IsPossibleRelation l.problem l.pair) (take l.rel-index l.rel-items) l.set;
   keeps : KeepsClaims l.problem (Ok l.set) (λ set more. more ≡ claims_of l.problem l.pair set (take l.rel-index l.rel-items)) (g.L.TreeLog.lines l.fn.log) (g.L.TreeLog.lines l.log) l.fn.asker l.asker;
+  leads : KeepsLeading (g.L.TreeLog.lines l.fn.log) (g.L.TreeLog.lines l.log) l.fn.asker l.asker;
   log : LogGoes g.L.TreeLog.drops g.L.TreeLog.lines g.L.TreeLog.faults g.L.TreeLog.steady g.L.TreeLog.quiet (Ok (tt {0})) l.fn.log l.log;
 }

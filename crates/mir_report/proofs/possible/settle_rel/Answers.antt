@@ -6,6 +6,7 @@ use Rattle.claim_blocks.proofs.Joins.{keeps_err, keeps_join}
 use Rattle.mir_report.specs.Steps.{claim_if_refuted}
 use Rattle.mir_report.proofs.Laws.{possible_by}
 use Rattle.mir_report.proofs.Subjects.{shows_subject, few_sets}
+use Rattle.search_log.proofs.Leading.{led_joins}
 use Rattle.mir_report.proofs.possible.settle_rel.Goals as goal
 
 pub show-requires : goal.show-requires
@@ -72,3 +73,8 @@ pub returns-clause-log : goal.returns-clause-log
 returns-clause-log g c =
     log_joins _ c.search_rel.result c.args.log.now c.refute_rel.new.log c.search_rel.new.log (g.met.L.TreeLog.steady_joins c.args.log.now c.refute_rel.new.log c.search_rel.new.log)
     (g.met.L.TreeLog.quiet_joins c.args.log.now c.refute_rel.new.log c.search_rel.new.log) c.in_ok-refute_rel.ensures.log c.search_rel.ensures.log
+
+pub returns-clause-leads : goal.returns-clause-leads
+returns-clause-leads g c =
+    led_joins (g.L.TreeLog.lines c.args.log.now) (g.L.TreeLog.lines c.refute_rel.new.log) (g.L.TreeLog.lines c.search_rel.new.log) c.args.asker.now c.refute_rel.new.asker c.search_rel.new.asker c.in_ok-refute_rel.ensures.log.told c.refute_rel.ensures.leads
+    c.search_rel.ensures.leads

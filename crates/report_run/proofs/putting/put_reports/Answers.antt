@@ -7,7 +7,7 @@ returns-in_err-put_report g c = record {
   ok = search rules;
   err =
       report_refused c.from_residual.result c.args.watchers.now _ _ c.args.problem.now c.args.kinds.now c.loop-place.place c.index-watchers-place.result c.index-kinds-place.result
-      (g.W.Sink.received c.args.out.now) (g.W.Sink.received c.loop-place.out) (g.W.Sink.received c.put_report.new.out) c.requires.named (omega arith) c.index-watchers-place.is c.index-kinds-place.is
+      (g.W.Sink.state c.args.out.now).bytes (g.W.Sink.state c.loop-place.out).bytes (g.W.Sink.state c.put_report.new.out).bytes c.requires.named (omega arith) c.index-watchers-place.is c.index-kinds-place.is
       c.loop-place.invariant.put c.in_err-put_report.ensures.err;
   cause = search rules;
   later = search rules;
@@ -17,7 +17,7 @@ pub loop-place-preserved : goal.loop-place-preserved
 loop-place-preserved g c = record {
   put =
       report_put c.args.watchers.now _ _ c.args.problem.now c.args.kinds.now c.loop-place.place c.index-watchers-place.result c.index-kinds-place.result
-      (g.W.Sink.received c.args.out.now) (g.W.Sink.received c.loop-place.out) (g.W.Sink.received c.put_report.new.out) c.requires.named (omega arith) c.index-watchers-place.is c.index-kinds-place.is
+      (g.W.Sink.state c.args.out.now).bytes (g.W.Sink.state c.loop-place.out).bytes (g.W.Sink.state c.put_report.new.out).bytes c.requires.named (omega arith) c.index-watchers-place.is c.index-kinds-place.is
       c.loop-place.invariant.put c.in_ok-put_report.ensures.ok;
   faults = search rules;
 }

@@ -6,6 +6,6 @@ abbrev pub invariant-loop-place : goal.invariant-loop-place
 invariant-loop-place g l = record {
   put :
       AreReportsPut l.watchers (λ z. (goal.WorldWatcher-dyn g (z.vtable, z.value)).name z.value) (λ z. (goal.WorldWatcher-dyn g (z.vtable, z.value)).text z.value)
-      l.problem l.place (g.W.Sink.received l.initial.out) (g.W.Sink.received l.out);
-  faults : g.W.Sink.faults l.out ≡ g.W.Sink.faults l.initial.out;
+      l.problem l.place (g.W.Sink.state l.initial.out).bytes (g.W.Sink.state l.out).bytes;
+  faults : (g.W.Sink.state l.out).faults ≡ (g.W.Sink.state l.initial.out).faults;
 }

@@ -7,7 +7,7 @@ use Rattle.report_run.proofs.reporting.report.Goals as goal
 pub returns-in_err-count-clause-put : goal.returns-in_err-count-clause-put
 returns-in_err-count-clause-put g c = record {
   ok = search rules;
-  err = nothing_put c.from_residual-in_err-count.result (g.W.Sink.received c.args.out.now) _;
+  err = nothing_put c.from_residual-in_err-count.result (g.W.Sink.state c.args.out.now).bytes _;
   cause = search rules;
   later = search rules;
 }
@@ -21,7 +21,7 @@ returns-in_err-put_answer-clause-put g c = record {
   ok = search rules;
   err =
       part_told c.from_residual-in_err-put_answer.result _ _ c.args.problem.now _ c.in_ok-asked.asked.items c.show_all.new.watchers.items c.in_ok-count.count
-      (g.W.Sink.received c.args.out.now) (g.W.Sink.received c.put_answer.new.out) c.in_ok-asked.ensures c.in_ok-count.ensures c.in_err-put_answer.ensures.err;
+      (g.W.Sink.state c.args.out.now).bytes (g.W.Sink.state c.put_answer.new.out).bytes c.in_ok-asked.ensures c.in_ok-count.ensures c.in_err-put_answer.ensures.err;
   cause = search rules;
   later = search rules;
 }
@@ -30,7 +30,7 @@ pub returns-clause-put : goal.returns-clause-put
 returns-clause-put g c = record {
   ok =
       c.in_ok-put_answer.ensures.ok
-      ∙ ap (added (g.W.Sink.received c.args.out.now))
+      ∙ ap (added (g.W.Sink.state c.args.out.now).bytes)
       (text_told _ _ c.args.problem.now _ c.in_ok-asked.asked.items c.show_all.new.watchers.items c.in_ok-count.count c.in_ok-asked.ensures c.in_ok-count.ensures);
   err = search rules;
   cause = search rules;

@@ -1,5 +1,4 @@
 use Rattle.std.proofs.Common.{rules, Ok}
-use Rattle.run_ends.specs.Runs.{store_state, sink_state}
 use Rattle.run_ends.proofs.EndLemmas.{run_early, run_done, run_refused, run_starved}
 use Rattle.report_run.specs.Reporting.{IsReportAnswer, report_names}
 use Rattle.report_run.proofs.ReportLemmas.{without_problem, names_utf8, carried}
@@ -8,50 +7,50 @@ use Rattle.report_run.proofs.reporting.run_report.Goals as goal
 pub returns-in-Err : goal.returns-in-Err
 returns-in-Err g c =
     run_early (report_names c.args.input.now) (IsReportAnswer c.args.input.now c.args.kinds.now c.args.switches _) c.in-Err.status c.put_end.result
-    (store_state (g.S.Store.held c.args.store.now) (g.S.Store.read_faults c.args.store.now) (g.S.Store.write_faults c.args.store.now))
-    (store_state (g.S.Store.held c.problem_under.new.store) (g.S.Store.read_faults c.problem_under.new.store) (g.S.Store.write_faults c.problem_under.new.store))
-    (sink_state (g.W.Sink.received c.args.out.now) (g.W.Sink.faults c.args.out.now)) (sink_state (g.W.Sink.received c.put_end.new.out) (g.W.Sink.faults c.put_end.new.out))
+    (g.S.Store.state c.args.store.now)
+    (g.S.Store.state c.problem_under.new.store)
+    (g.W.Sink.state c.args.out.now) (g.W.Sink.state c.put_end.new.out)
     (without_problem c.args.input.now c.args.kinds.now c.args.switches _ c.in-Err.status
-    (store_state (g.S.Store.held c.args.store.now) (g.S.Store.read_faults c.args.store.now) (g.S.Store.write_faults c.args.store.now))
-    (store_state (g.S.Store.held c.problem_under.new.store) (g.S.Store.read_faults c.problem_under.new.store) (g.S.Store.write_faults c.problem_under.new.store))
+    (g.S.Store.state c.args.store.now)
+    (g.S.Store.state c.problem_under.new.store)
     c.in-Err.ensures.ended) c.in-Err.ensures.kept c.put_end.ensures.put
 
 pub report-requires-clause-utf8 : goal.report-requires-clause-utf8
-report-requires-clause-utf8 g c = names_utf8 (g.S.Store.held c.args.store.now) c.args.input.now c.args.switches c.in-Ok.problem c.read_names_are_utf8.ensures c.in-Ok.ensures.problem
+report-requires-clause-utf8 g c = names_utf8 (g.S.Store.state c.args.store.now).held c.args.input.now c.args.switches c.in-Ok.problem c.read_names_are_utf8.ensures c.in-Ok.ensures.problem
 
 pub returns-in-Ok-report : goal.returns-in-Ok-report
 returns-in-Ok-report g c =
     run_done (report_names c.args.input.now) (IsReportAnswer c.args.input.now c.args.kinds.now c.args.switches _) c.in-Ok-report.status
-    (store_state (g.S.Store.held c.args.store.now) (g.S.Store.read_faults c.args.store.now) (g.S.Store.write_faults c.args.store.now))
-    (store_state (g.S.Store.held c.problem_under.new.store) (g.S.Store.read_faults c.problem_under.new.store) (g.S.Store.write_faults c.problem_under.new.store))
-    (sink_state (g.W.Sink.received c.args.out.now) (g.W.Sink.faults c.args.out.now)) (sink_state (g.W.Sink.received c.report.new.out) (g.W.Sink.faults c.report.new.out))
+    (g.S.Store.state c.args.store.now)
+    (g.S.Store.state c.problem_under.new.store)
+    (g.W.Sink.state c.args.out.now) (g.W.Sink.state c.report.new.out)
     (carried c.args.input.now c.args.kinds.now c.args.switches _ c.in-Ok.problem (Ok c.in-Ok-report.status)
-    (store_state (g.S.Store.held c.args.store.now) (g.S.Store.read_faults c.args.store.now) (g.S.Store.write_faults c.args.store.now))
-    (store_state (g.S.Store.held c.problem_under.new.store) (g.S.Store.read_faults c.problem_under.new.store) (g.S.Store.write_faults c.problem_under.new.store))
-    (sink_state (g.W.Sink.received c.args.out.now) (g.W.Sink.faults c.args.out.now)) (sink_state (g.W.Sink.received c.report.new.out) (g.W.Sink.faults c.report.new.out))
+    (g.S.Store.state c.args.store.now)
+    (g.S.Store.state c.problem_under.new.store)
+    (g.W.Sink.state c.args.out.now) (g.W.Sink.state c.report.new.out)
     c.facts.ensures.built.valid c.in-Ok.ensures.problem c.in-Ok.ensures.kept c.in-Ok.ensures.quiet c.in-Ok-report.ensures.status c.in-Ok-report.ensures.put)
 
 pub returns-in-Err-Failed : goal.returns-in-Err-Failed
 returns-in-Err-Failed g c =
     run_refused (report_names c.args.input.now) (IsReportAnswer c.args.input.now c.args.kinds.now c.args.switches _)
-    (store_state (g.S.Store.held c.args.store.now) (g.S.Store.read_faults c.args.store.now) (g.S.Store.write_faults c.args.store.now))
-    (store_state (g.S.Store.held c.problem_under.new.store) (g.S.Store.read_faults c.problem_under.new.store) (g.S.Store.write_faults c.problem_under.new.store))
-    (sink_state (g.W.Sink.received c.args.out.now) (g.W.Sink.faults c.args.out.now)) (sink_state (g.W.Sink.received c.report.new.out) (g.W.Sink.faults c.report.new.out))
+    (g.S.Store.state c.args.store.now)
+    (g.S.Store.state c.problem_under.new.store)
+    (g.W.Sink.state c.args.out.now) (g.W.Sink.state c.report.new.out)
     (carried c.args.input.now c.args.kinds.now c.args.switches _ c.in-Ok.problem _
-    (store_state (g.S.Store.held c.args.store.now) (g.S.Store.read_faults c.args.store.now) (g.S.Store.write_faults c.args.store.now))
-    (store_state (g.S.Store.held c.problem_under.new.store) (g.S.Store.read_faults c.problem_under.new.store) (g.S.Store.write_faults c.problem_under.new.store))
-    (sink_state (g.W.Sink.received c.args.out.now) (g.W.Sink.faults c.args.out.now)) (sink_state (g.W.Sink.received c.report.new.out) (g.W.Sink.faults c.report.new.out))
+    (g.S.Store.state c.args.store.now)
+    (g.S.Store.state c.problem_under.new.store)
+    (g.W.Sink.state c.args.out.now) (g.W.Sink.state c.report.new.out)
     c.facts.ensures.built.valid c.in-Ok.ensures.problem c.in-Ok.ensures.kept c.in-Ok.ensures.quiet (search rules) (search rules))
 
 pub returns : goal.returns
 returns g c =
     run_starved (report_names c.args.input.now) (IsReportAnswer c.args.input.now c.args.kinds.now c.args.switches _) c.put_end-in-Err-NoMemory.result
-    (store_state (g.S.Store.held c.args.store.now) (g.S.Store.read_faults c.args.store.now) (g.S.Store.write_faults c.args.store.now))
-    (store_state (g.S.Store.held c.problem_under.new.store) (g.S.Store.read_faults c.problem_under.new.store) (g.S.Store.write_faults c.problem_under.new.store))
-    (sink_state (g.W.Sink.received c.args.out.now) (g.W.Sink.faults c.args.out.now)) (sink_state (g.W.Sink.received c.report.new.out) (g.W.Sink.faults c.report.new.out)) (sink_state (g.W.Sink.received c.put_end-in-Err-NoMemory.new.out) (g.W.Sink.faults c.put_end-in-Err-NoMemory.new.out))
+    (g.S.Store.state c.args.store.now)
+    (g.S.Store.state c.problem_under.new.store)
+    (g.W.Sink.state c.args.out.now) (g.W.Sink.state c.report.new.out) (g.W.Sink.state c.put_end-in-Err-NoMemory.new.out)
     (carried c.args.input.now c.args.kinds.now c.args.switches _ c.in-Ok.problem _
-    (store_state (g.S.Store.held c.args.store.now) (g.S.Store.read_faults c.args.store.now) (g.S.Store.write_faults c.args.store.now))
-    (store_state (g.S.Store.held c.problem_under.new.store) (g.S.Store.read_faults c.problem_under.new.store) (g.S.Store.write_faults c.problem_under.new.store))
-    (sink_state (g.W.Sink.received c.args.out.now) (g.W.Sink.faults c.args.out.now)) (sink_state (g.W.Sink.received c.report.new.out) (g.W.Sink.faults c.report.new.out))
+    (g.S.Store.state c.args.store.now)
+    (g.S.Store.state c.problem_under.new.store)
+    (g.W.Sink.state c.args.out.now) (g.W.Sink.state c.report.new.out)
     c.facts.ensures.built.valid c.in-Ok.ensures.problem c.in-Ok.ensures.kept c.in-Ok.ensures.quiet (search rules) (search rules))
     c.put_end-in-Err-NoMemory.ensures.put

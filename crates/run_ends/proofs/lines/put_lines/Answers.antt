@@ -8,7 +8,7 @@ returns-in_err-put_piece g c = record {
   ok = search rules;
   err =
       put_refused c.from_residual.result c.args.text.now c.lines.from c.line_end-to.result (slice_range c.args.text.now c.lines.from c.line_end-to.result)
-      (g.W.Sink.received c.args.out.now) (g.W.Sink.received c.lines.out) (g.W.Sink.received c.put_piece.new.out) c.lines.invariant.put c.line_end-to.ensures refl c.in_err-put_piece.ensures.err;
+      (g.W.Sink.state c.args.out.now).bytes (g.W.Sink.state c.lines.out).bytes (g.W.Sink.state c.put_piece.new.out).bytes c.lines.invariant.put c.line_end-to.ensures refl c.in_err-put_piece.ensures.err;
   cause = search rules;
   later = search rules;
 }
@@ -17,6 +17,6 @@ pub lines-preserved : goal.lines-preserved
 lines-preserved g c = record {
   put =
       put_next c.args.text.now c.lines.from c.line_end-to.result (slice_range c.args.text.now c.lines.from c.line_end-to.result)
-      (g.W.Sink.received c.args.out.now) (g.W.Sink.received c.lines.out) (g.W.Sink.received c.put_piece.new.out) c.lines.invariant.put c.line_end-to.ensures refl c.in_ok-put_piece.ensures.ok;
+      (g.W.Sink.state c.args.out.now).bytes (g.W.Sink.state c.lines.out).bytes (g.W.Sink.state c.put_piece.new.out).bytes c.lines.invariant.put c.line_end-to.ensures refl c.in_ok-put_piece.ensures.ok;
   faults = search rules;
 }

@@ -7,6 +7,6 @@ decreases-lines g l = length l.text - l.from
 
 abbrev pub invariant-lines : goal.invariant-lines
 invariant-lines g l = record {
-  put : ArePutTo l.text l.from (g.W.Sink.received l.initial.out) (g.W.Sink.received l.out);
-  faults : g.W.Sink.faults l.out ≡ g.W.Sink.faults l.initial.out;
+  put : ArePutTo l.text l.from (g.W.Sink.state l.initial.out).bytes (g.W.Sink.state l.out).bytes;
+  faults : (g.W.Sink.state l.out).faults ≡ (g.W.Sink.state l.initial.out).faults;
 }

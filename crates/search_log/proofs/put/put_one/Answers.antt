@@ -1,4 +1,7 @@
+use Rattle.std.proofs.Common.{Ok, Err}
+use Rattle.search_log.specs.declared.fault.StepFault.TheVariants.{NoMemory}
 use Rattle.search_log.proofs.Logs.{adds_one, log_put_err}
+use Rattle.search_log.proofs.Leading.{led_put}
 use Rattle.search_log.proofs.put.put_one.Goals as goal
 
 pub returns-in_err-put_line-clause-log : goal.returns-in_err-put_line-clause-log
@@ -15,3 +18,11 @@ returns-clause-log g c = record {
   still = c.in_ok-put_line.ensures.quiet;
   as_before = c.put_line.ensures.kept;
 }
+
+pub returns-in_err-put_line-clause-leads : goal.returns-in_err-put_line-clause-leads
+returns-in_err-put_line-clause-leads g c = λ asker other.
+    led_put {T = Unit {0}} (Err NoMemory) (g.L.TreeLog.lines c.args.log.now) (g.L.TreeLog.lines c.put_line.new.self) asker c.args.line.now other tt c.in_err-put_line.ensures.err
+
+pub returns-clause-leads : goal.returns-clause-leads
+returns-clause-leads g c = λ asker other.
+    led_put (Ok (tt {0})) (g.L.TreeLog.lines c.args.log.now) (g.L.TreeLog.lines c.put_line.new.self) asker c.args.line.now other c.in_ok-put_line.ensures.ok tt

@@ -1,5 +1,6 @@
 use Rattle.std.proofs.Common.{◌≤◌, length, sym, subst}
 use Rattle.search_log.proofs.Logs.{log_joins, log_ok_as, log_as, log_then_memory}
+use Rattle.search_log.proofs.Leading.{led_joins, led_after, led_before}
 use Rattle.split_search.proofs.Told.{keeps_after, keeps_goes, keeps_flushed}
 use Rattle.split_search.proofs.Within.{choice_fault, choice_then, choice_then_err}
 use Rattle.split_search.proofs.search.choose.Goals as goal
@@ -50,3 +51,17 @@ pub returns-clause-log : goal.returns-clause-log
 returns-clause-log g c =
     log_ok_as _ _ c.args.log.now c.put_waiting.new.log
     (log_joins _ _ c.args.log.now c.search.new.log c.put_waiting.new.log (g.met.L.TreeLog.steady_joins c.args.log.now c.search.new.log c.put_waiting.new.log) (g.met.L.TreeLog.quiet_joins c.args.log.now c.search.new.log c.put_waiting.new.log) c.in_ok-choice.ensures.log c.in_ok-put_waiting.ensures.log)
+
+pub returns-in_err-tidy-clause-leads : goal.returns-in_err-tidy-clause-leads
+returns-in_err-tidy-clause-leads g c =
+    led_before (g.L.TreeLog.lines c.args.log.now) (g.L.TreeLog.lines c.search.new.log) c.args.asker.now c.search.new.asker c.tidy.new.asker c.search.ensures.leads c.tidy.ensures.kept
+
+pub returns-in_err-put_waiting-clause-leads : goal.returns-in_err-put_waiting-clause-leads
+returns-in_err-put_waiting-clause-leads g c =
+    led_joins (g.L.TreeLog.lines c.args.log.now) (g.L.TreeLog.lines c.search.new.log) (g.L.TreeLog.lines c.put_waiting.new.log) c.args.asker.now c.search.new.asker c.put_waiting.new.asker c.in_ok-choice.ensures.log.told c.search.ensures.leads
+    (led_after (g.L.TreeLog.lines c.search.new.log) (g.L.TreeLog.lines c.put_waiting.new.log) c.search.new.asker c.tidy.new.asker c.put_waiting.new.asker c.tidy.ensures.kept c.put_waiting.ensures.leads)
+
+pub returns-clause-leads : goal.returns-clause-leads
+returns-clause-leads g c =
+    led_joins (g.L.TreeLog.lines c.args.log.now) (g.L.TreeLog.lines c.search.new.log) (g.L.TreeLog.lines c.put_waiting.new.log) c.args.asker.now c.search.new.asker c.put_waiting.new.asker c.in_ok-choice.ensures.log.told c.search.ensures.leads
+    (led_after (g.L.TreeLog.lines c.search.new.log) (g.L.TreeLog.lines c.put_waiting.new.log) c.search.new.asker c.tidy.new.asker c.put_waiting.new.asker c.tidy.ensures.kept c.put_waiting.ensures.leads)

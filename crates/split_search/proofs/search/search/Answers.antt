@@ -2,6 +2,7 @@ use Rattle.std.proofs.Common.{[], Some, None, sym, ◌∙◌, refl, subst}
 use Rattle.split_search.specs.Choosing.{IsMetBy}
 use Rattle.split_search.specs.Walking.{IsTurn, KeepsTree, turn_next}
 use Rattle.search_log.proofs.Logs.{log_stays_ok, log_memory, log_joins, log_ok_as, log_as, log_then_memory}
+use Rattle.search_log.proofs.Leading.{led_still, led_joins, led_after, led_before}
 use Rattle.split_search.proofs.Told.{keeps_same, keeps_before}
 use Rattle.split_search.proofs.Turns.{over_turn, met_choice, none_meets, none_before, falls_on}
 use Rattle.split_search.proofs.Whole.{NoTables, no_tables_first}
@@ -27,6 +28,7 @@ nodes-init g c =
       none = subst (λ m. NoTables q (Some m)) (sym c.in_ok-walk.ensures.root) (no_tables_first q);
       shape = refl;
       keeps = subst (λ m. KeepsTree q (g.L.TreeLog.lines c.args.log.now) (g.L.TreeLog.lines c.args.log.now) c.args.asker.now c.args.asker.now (Some []) (Some m)) (sym c.in_ok-walk.ensures.root) (keeps_same q (g.L.TreeLog.lines c.args.log.now) c.args.asker.now (Some []));
+      leads = led_still (g.L.TreeLog.lines c.args.log.now) c.args.asker.now;
       log = log_stays_ok _ c.args.log.now (g.met.L.TreeLog.steady_stays c.args.log.now) (g.met.L.TreeLog.quiet_stays c.args.log.now);
     }
 
@@ -100,5 +102,31 @@ nodes-preserved g c =
           over_turn c.args.problem.now c.nodes.walk.subject (g.L.TreeLog.lines c.args.log.now) (g.L.TreeLog.lines c.nodes.log) (g.L.TreeLog.lines c.take_turn.new.log) c.args.asker.now c.nodes.asker c.tidy_by_turns.new.asker c.take_turn.new.asker
           c.nodes.walk.path (Some c.take_turn.new.walk.path) c.nodes.invariant.subject c.nodes.invariant.log.told c.nodes.invariant.keeps c.tidy_by_turns.ensures.kept
           (subst (λ t. KeepsTree c.nodes.walk.subject (g.L.TreeLog.lines c.nodes.log) (g.L.TreeLog.lines c.take_turn.new.log) c.tidy_by_turns.new.asker c.take_turn.new.asker (Some c.nodes.walk.path) (turn_next c.nodes.walk.path c.take_turn.new.walk.path t)) c.in-On.is c.in_ok-family.ensures.keeps);
+      leads =
+          led_joins (g.L.TreeLog.lines c.args.log.now) (g.L.TreeLog.lines c.nodes.log) (g.L.TreeLog.lines c.take_turn.new.log) c.args.asker.now c.nodes.asker c.take_turn.new.asker c.nodes.invariant.log.told c.nodes.invariant.leads
+          (led_after (g.L.TreeLog.lines c.nodes.log) (g.L.TreeLog.lines c.take_turn.new.log) c.nodes.asker c.tidy_by_turns.new.asker c.take_turn.new.asker c.tidy_by_turns.ensures.kept c.take_turn.ensures.leads);
       log = log_ok_as _ _ c.args.log.now c.take_turn.new.log (log_joins _ _ c.args.log.now c.nodes.log c.take_turn.new.log (g.met.L.TreeLog.steady_joins c.args.log.now c.nodes.log c.take_turn.new.log) (g.met.L.TreeLog.quiet_joins c.args.log.now c.nodes.log c.take_turn.new.log) c.nodes.invariant.log c.in_ok-family.ensures.log);
     }
+
+pub returns-in_err-walk-clause-leads : goal.returns-in_err-walk-clause-leads
+returns-in_err-walk-clause-leads g c =
+    led_still (g.L.TreeLog.lines c.args.log.now) c.args.asker.now
+
+pub returns-in_err-turns-clause-leads : goal.returns-in_err-turns-clause-leads
+returns-in_err-turns-clause-leads g c =
+    led_before (g.L.TreeLog.lines c.args.log.now) (g.L.TreeLog.lines c.nodes.log) c.args.asker.now c.nodes.asker c.tidy_by_turns.new.asker c.nodes.invariant.leads c.tidy_by_turns.ensures.kept
+
+pub returns-in_err-family-clause-leads : goal.returns-in_err-family-clause-leads
+returns-in_err-family-clause-leads g c =
+    led_joins (g.L.TreeLog.lines c.args.log.now) (g.L.TreeLog.lines c.nodes.log) (g.L.TreeLog.lines c.take_turn.new.log) c.args.asker.now c.nodes.asker c.take_turn.new.asker c.nodes.invariant.log.told c.nodes.invariant.leads
+    (led_after (g.L.TreeLog.lines c.nodes.log) (g.L.TreeLog.lines c.take_turn.new.log) c.nodes.asker c.tidy_by_turns.new.asker c.take_turn.new.asker c.tidy_by_turns.ensures.kept c.take_turn.ensures.leads)
+
+pub returns-in-Met-clause-leads : goal.returns-in-Met-clause-leads
+returns-in-Met-clause-leads g c =
+    led_joins (g.L.TreeLog.lines c.args.log.now) (g.L.TreeLog.lines c.nodes.log) (g.L.TreeLog.lines c.take_turn.new.log) c.args.asker.now c.nodes.asker c.take_turn.new.asker c.nodes.invariant.log.told c.nodes.invariant.leads
+    (led_after (g.L.TreeLog.lines c.nodes.log) (g.L.TreeLog.lines c.take_turn.new.log) c.nodes.asker c.tidy_by_turns.new.asker c.take_turn.new.asker c.tidy_by_turns.ensures.kept c.take_turn.ensures.leads)
+
+pub returns-in-Done-clause-leads : goal.returns-in-Done-clause-leads
+returns-in-Done-clause-leads g c =
+    led_joins (g.L.TreeLog.lines c.args.log.now) (g.L.TreeLog.lines c.nodes.log) (g.L.TreeLog.lines c.take_turn.new.log) c.args.asker.now c.nodes.asker c.take_turn.new.asker c.nodes.invariant.log.told c.nodes.invariant.leads
+    (led_after (g.L.TreeLog.lines c.nodes.log) (g.L.TreeLog.lines c.take_turn.new.log) c.nodes.asker c.tidy_by_turns.new.asker c.take_turn.new.asker c.tidy_by_turns.ensures.kept c.take_turn.ensures.leads)

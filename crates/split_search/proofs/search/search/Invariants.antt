@@ -2,6 +2,7 @@ use Rattle.std.proofs.Common.{◌≡◌, [], Some, length, Ok}
 use Rattle.constraint_set.specs.Facts.{IsBuilt}
 use Rattle.cert_rules.specs.ClaimLists.{split_pairs}
 use Rattle.search_log.specs.Logging.{LogGoes}
+use Rattle.search_log.specs.Leading.{KeepsLeading}
 use Rattle.split_search.specs.Walking.{IsWalk, KeepsTree}
 use Rattle.split_search.proofs.Whole.{NoTables}
 use Rattle.split_search.proofs.Leftover.{left}
@@ -16,6 +17,7 @@ invariant-nodes g l = record {
   none : NoTables l.problem (Some l.walk.path);
   shape : l.asker.shape ≡ l.fn.asker.shape;
   keeps : KeepsTree l.problem (g.L.TreeLog.lines l.fn.log) (g.L.TreeLog.lines l.log) l.fn.asker l.asker (Some []) (Some l.walk.path);
+  leads : KeepsLeading (g.L.TreeLog.lines l.fn.log) (g.L.TreeLog.lines l.log) l.fn.asker l.asker;
   log : LogGoes g.L.TreeLog.drops g.L.TreeLog.lines g.L.TreeLog.faults g.L.TreeLog.steady g.L.TreeLog.quiet (Ok (tt {0})) l.fn.log l.log;
 }
 

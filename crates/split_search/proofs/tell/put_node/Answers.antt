@@ -4,6 +4,7 @@ use Rattle.search_log.specs.Logging.{next_if}
 use Rattle.split_search.specs.Walking.{next_node}
 use Rattle.split_search.proofs.Told.{keeps_err, keeps_joins, keeps_put_if, keeps_flushed, tells_same}
 use Rattle.search_log.proofs.Logs.{log_joins}
+use Rattle.search_log.proofs.Leading.{led_joins}
 use Rattle.split_search.proofs.tell.put_node.Goals as goal
 
 pub returns-in_err-put_waiting-clause-keeps : goal.returns-in_err-put_waiting-clause-keeps
@@ -25,3 +26,8 @@ pub returns-clause-log : goal.returns-clause-log
 returns-clause-log g c =
     log_joins _ c.put_one.result c.args.log.now c.put_waiting.new.log c.put_one.new.log (g.met.L.TreeLog.steady_joins c.args.log.now c.put_waiting.new.log c.put_one.new.log) (g.met.L.TreeLog.quiet_joins c.args.log.now c.put_waiting.new.log c.put_one.new.log)
     c.in_ok-put_waiting.ensures.log c.put_one.ensures.log
+
+pub returns-clause-leads : goal.returns-clause-leads
+returns-clause-leads g c =
+    led_joins (g.L.TreeLog.lines c.args.log.now) (g.L.TreeLog.lines c.put_waiting.new.log) (g.L.TreeLog.lines c.put_one.new.log) c.args.asker.now c.put_waiting.new.asker c.put_waiting.new.asker c.in_ok-put_waiting.ensures.log.told c.put_waiting.ensures.leads
+    (c.put_one.ensures.leads c.put_waiting.new.asker c.requires.no_derivation)

@@ -5,6 +5,7 @@ use Rattle.search_log.specs.Logging.{next_if}
 use Rattle.split_search.specs.Walking.{next_node, KeepsPast}
 use Rattle.split_search.proofs.Told.{keeps_err, keeps_goes, keeps_after, keeps_untold}
 use Rattle.search_log.proofs.Logs.{log_stays_ok, log_memory}
+use Rattle.search_log.proofs.Leading.{led_untold, led_goes, led_after}
 use Rattle.split_search.proofs.tell.tell_dead.Goals as goal
 
 pub returns-then-is_dropping-clause-keeps : goal.returns-then-is_dropping-clause-keeps
@@ -37,3 +38,15 @@ returns-clause-keeps g c =
     (c.put_node.ensures.keeps q m (record { tells = c.in_ok-line.ensures.tells; alive = λ yes. absurd (true≢false (sym yes ∙ c.in_ok-line.ensures.leaf)) })) in
     keeps_after q (g.L.TreeLog.lines c.args.log.now) (g.L.TreeLog.lines c.put_node.new.log) c.args.asker.now c.reason_line.new.asker c.put_node.new.asker
     (Some m) (next_if r (next_node q false m) (Some m)) c.reason_line.ensures.kept past
+
+pub returns-then-is_dropping-clause-leads : goal.returns-then-is_dropping-clause-leads
+returns-then-is_dropping-clause-leads g c =
+    led_untold (g.L.TreeLog.lines c.args.log.now) (g.L.TreeLog.lines c.args.log.now) c.args.asker.now c.clear_lines.new.self (g.met.L.TreeLog.tells_none c.args.log.now (sym c.is_dropping.ensures ∙ c.if-is_dropping.true))
+
+pub returns-in_err-line-clause-leads : goal.returns-in_err-line-clause-leads
+returns-in_err-line-clause-leads g c =
+    led_goes (g.L.TreeLog.lines c.args.log.now) c.args.asker.now c.reason_line.new.asker c.reason_line.ensures.kept
+
+pub returns-clause-leads : goal.returns-clause-leads
+returns-clause-leads g c =
+    led_after (g.L.TreeLog.lines c.args.log.now) (g.L.TreeLog.lines c.put_node.new.log) c.args.asker.now c.reason_line.new.asker c.put_node.new.asker c.reason_line.ensures.kept c.put_node.ensures.leads

@@ -1,6 +1,7 @@
 use Rattle.std.proofs.Common.{◌≡◌, true, false, Some, sym, ◌∙◌}
 use Rattle.std.proofs.lemmas.Bool.{true≢false}
 use Rattle.search_log.specs.declared.fault.StepFault.TheVariants.{NoMemory}
+use Rattle.search_log.proofs.Leading.{led_goes, led_after}
 use Rattle.split_search.specs.Walking.{split_tree, next_node}
 use Rattle.split_search.proofs.Lines.{alive_here, dead_here}
 use Rattle.split_search.proofs.Told.{keeps_goes, keeps_after}
@@ -54,3 +55,23 @@ returns-clause-keeps g c =
     let q = c.args.walk.now.subject in
     keeps_after q (g.L.TreeLog.lines c.args.log.now) (g.L.TreeLog.lines c.tell_dead.new.log) c.args.asker.now c.is_alive-2.new.self c.tell_dead.new.asker
     (Some c.args.walk.now.path) (next_node q false c.args.walk.now.path) c.is_alive-2.ensures.kept c.in_ok-tell_dead.ensures.keeps
+
+pub returns-in_err-is_alive-clause-leads : goal.returns-in_err-is_alive-clause-leads
+returns-in_err-is_alive-clause-leads g c =
+    led_goes (g.L.TreeLog.lines c.args.log.now) c.args.asker.now c.is_alive-2.new.self c.is_alive-2.ensures.kept
+
+pub returns-in_err-tell_branch-clause-leads : goal.returns-in_err-tell_branch-clause-leads
+returns-in_err-tell_branch-clause-leads g c =
+    led_after (g.L.TreeLog.lines c.args.log.now) (g.L.TreeLog.lines c.tell_branch.new.log) c.args.asker.now c.is_alive-2.new.self c.tell_branch.new.asker c.is_alive-2.ensures.kept c.tell_branch.ensures.leads
+
+pub returns-then-branch-clause-leads : goal.returns-then-branch-clause-leads
+returns-then-branch-clause-leads g c =
+    led_after (g.L.TreeLog.lines c.args.log.now) (g.L.TreeLog.lines c.tell_branch.new.log) c.args.asker.now c.is_alive-2.new.self c.tell_branch.new.asker c.is_alive-2.ensures.kept c.tell_branch.ensures.leads
+
+pub returns-in_err-tell_dead-clause-leads : goal.returns-in_err-tell_dead-clause-leads
+returns-in_err-tell_dead-clause-leads g c =
+    led_after (g.L.TreeLog.lines c.args.log.now) (g.L.TreeLog.lines c.tell_dead.new.log) c.args.asker.now c.is_alive-2.new.self c.tell_dead.new.asker c.is_alive-2.ensures.kept c.tell_dead.ensures.leads
+
+pub returns-clause-leads : goal.returns-clause-leads
+returns-clause-leads g c =
+    led_after (g.L.TreeLog.lines c.args.log.now) (g.L.TreeLog.lines c.tell_dead.new.log) c.args.asker.now c.is_alive-2.new.self c.tell_dead.new.asker c.is_alive-2.ensures.kept c.tell_dead.ensures.leads

@@ -6,6 +6,6 @@ pub returns-clause-same : goal.returns-clause-same
 returns-clause-same c =
     let first = c.common_len-first.result in
     let more = c.common_len.result in
-    alike_both first more c.args.self.now.asked.items c.args.assumptions.now c.args.more.now (omega (arith, c.common_len-first.ensures.other))
-    (subst (λ (asked : List ℕ). take first asked ≡ take first c.args.assumptions.now) c.deref.ensures.value c.common_len-first.ensures.same)
-    (subst (λ (asked : List ℕ). take more (take (length asked - first) (drop first asked)) ≡ take more c.args.more.now) c.deref-2.ensures.value c.common_len.ensures.same)
+    alike_both first more c.args.self.now.assumptions.items c.args.assumptions.now c.args.more.now (omega (arith, c.common_len-first.ensures.other))
+    (subst (λ (assumptions : List ℕ). take first assumptions ≡ take first c.args.assumptions.now) c.deref.ensures.value c.common_len-first.ensures.same)
+    (subst (λ (assumptions : List ℕ). take more (take (length assumptions - first) (drop first assumptions)) ≡ take more c.args.more.now) c.deref-2.ensures.value c.common_len.ensures.same)

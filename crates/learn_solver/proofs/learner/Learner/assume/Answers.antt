@@ -10,7 +10,7 @@ use Rattle.learn_solver.proofs.learner.Learner.assume.Goals as goal
 
 pub returns-in_err-push-clause-steps : goal.returns-in_err-push-clause-steps
 returns-in_err-push-clause-steps c = Steps-kept _ _ c.requires.sound (record { records = refl; trail_variables = refl; variables = refl; analyzer = refl; order = refl; given = refl; last = refl; waiting = refl })
-    (ap (λ (marks : List ℕ). record (guide_of c.args.self.now) { marks = marks }) c.in_err-push.ensures.items)
+    (ap (λ (holding_before : List ℕ). record (guide_of c.args.self.now) { holding_before = holding_before }) c.in_err-push.ensures.items)
 
 pub returns-clause-steps : goal.returns-clause-steps
 returns-clause-steps c =
@@ -27,9 +27,9 @@ returns-clause-steps c =
       last = refl;
       waiting = refl;
     }) refl
-    (subst (λ (u : TrailState). IsGuided (by_trail u (record (guide_of c.args.self.now) { guided = c.level-self.result; marks = c.push.new.self.items }))) (sym c.assume.ensures)
-    (subst (λ (marks : List ℕ). IsGuided (by_trail (assumed t c.args.lit) (record (guide_of c.args.self.now) { guided = c.level-self.result; marks = marks }))) (sym c.in_ok-push.ensures.items)
-    (subst (λ (n : ℕ). IsGuided (by_trail (assumed t c.args.lit) (record (guide_of c.args.self.now) { guided = n; marks = c.args.self.now.marks.items ++ c.args.self.now.passed ∷ [] }))) (sym guided)
+    (subst (λ (u : TrailState). IsGuided (by_trail u (record (guide_of c.args.self.now) { guided = c.level-self.result; holding_before = c.push.new.self.items }))) (sym c.assume.ensures)
+    (subst (λ (holding_before : List ℕ). IsGuided (by_trail (assumed t c.args.lit) (record (guide_of c.args.self.now) { guided = c.level-self.result; holding_before = holding_before }))) (sym c.in_ok-push.ensures.items)
+    (subst (λ (n : ℕ). IsGuided (by_trail (assumed t c.args.lit) (record (guide_of c.args.self.now) { guided = n; holding_before = c.args.self.now.holding_before.items ++ c.args.self.now.holding ∷ [] }))) (sym guided)
     (IsGuided-assumed t (guide_of c.args.self.now) c.args.lit facts c.requires.sound.guided c.requires.next.within c.requires.next.at))))
 
 pub returns-clause-lighter : goal.returns-clause-lighter

@@ -1,9 +1,10 @@
-use Rattle.std.proofs.Common.{◌≡◌, ◌∙◌, ℕ, false, List, [], length, refl, sym, ap, subst, arith}
+use Rattle.std.proofs.Common.{◌≡◌, ◌∙◌, ℕ, false, List, [], map, length, refl, sym, ap, subst, arith}
+use Rattle.std.specs.List.{All}
 use Rattle.std.proofs.Math.ListN.{length-replicate}
 use Rattle.lits_core.specs.declared.Line.{Line}
 use Rattle.lits_core.specs.Derivation.{first_state}
 use Rattle.watch_arena.specs.Trails.{TrailState}
-use Rattle.learn_solver.specs.Solving.{SolverState}
+use Rattle.learn_solver.specs.Solving.{SolverState, FromOne}
 use Rattle.learn_solver.specs.States.{state_of, idle_of}
 use Rattle.learn_solver.specs.Learners.{AreRecords}
 use Rattle.learn_solver.proofs.Guidance.{IsGuided-none}
@@ -22,7 +23,7 @@ none-sound = record {
 }
 
 -- a trail with no clauses is seen as the first state
-first-seen : (t : TrailState) (variables : ℕ) (lines : List Line) → t ≡ record { records = []; places = []; variables = variables; level = 0; spare = 0 } → lines ≡ [] → ◌≡◌ {A = SolverState} (record { variables = t.variables; state = state_of t.records 0; waiting = lines; idle = idle_of t.places t.records 0 }) (record { variables = variables; state = first_state []; waiting = []; idle = [] })
+first-seen : (t : TrailState) (variables : ℕ) (lines : List Line) → t ≡ record { records = []; places = []; variables = variables; level = 0; spare = 0 } → lines ≡ [] → ◌≡◌ {A = SolverState} (record { variables = t.variables; state = state_of t.records 0; waiting = lines; idle = idle_of t.places t.records 0; assigned = map (λ p. p.lit) t.places }) (record { variables = variables; state = first_state []; waiting = []; idle = []; assigned = [] })
 unfolding state_of idle_of
 first-seen t variables lines e h = rw (e, h) refl
 
@@ -35,6 +36,7 @@ returns-clause-sound c =
       order = ap length c.in_ok-new-3.ensures ∙ length-replicate c.args.variables false ∙ ap (λ (t : TrailState). t.variables) (sym e);
       records = subst (λ (t : TrailState). AreRecords t.records 0) (sym e) none-sound;
       last = λ at lt. absurd (let size = ap (λ (t : TrailState). length t.records) e in omega arith);
+      waiting = subst (All FromOne) (sym c.new-4.ensures.items) (λ k d lt. absurd (omega arith));
       noted = λ at lit lt. absurd (omega arith);
       guided = IsGuided-none _ (ap (λ (t : TrailState). t.level) e) refl refl c.new-6.ensures.items;
     }

@@ -5,9 +5,9 @@ use Rattle.learn_solver.proofs.learner.Learner.next_open.Given as goal
 
 abbrev pub invariant-loop-self : goal.invariant-loop-self
 invariant-loop-self l = record {
-  same : l.self ≡ record l.fn.self { passed = l.self.passed };
+  same : l.self ≡ record l.fn.self { holding = l.self.holding };
   guided : IsGuided (guide_of l.self);
 }
 
 abbrev pub decreases-loop-self : goal.decreases-loop-self
-decreases-loop-self l = length l.self.asked.items - l.self.passed
+decreases-loop-self l = length l.self.assumptions.items - l.self.holding

@@ -18,10 +18,11 @@ returns-clause-steps c =
         order = s.order ∙ sym kept.variables;
         records = AreRecords-same l.trail.records c.propagate.new.self.records l.given s.records kept.records;
         last = AreUpTo-same l.trail.records c.propagate.new.self.records l.last s.last kept.records;
+        waiting = s.waiting;
         noted = AreNoted-same l.trail.records c.propagate.new.self.records l.given l.order s.noted kept.records;
         guided = IsGuided-propagated l.trail c.propagate.new.self (guide_of l) s.guided kept;
       };
       goes = GoesTo-same _ _ kept.variables refl (SameState-records l.trail.records c.propagate.new.self.records l.given kept.records);
       variables = kept.variables;
-      asked = refl;
+      assumptions = refl;
     }

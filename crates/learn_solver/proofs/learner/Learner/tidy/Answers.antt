@@ -4,7 +4,7 @@ use Rattle.lits_core.specs.declared.Line.TheVariants.{Forget}
 use Rattle.lits_core.proofs.LiteralSets.{same-self}
 use Rattle.watch_arena.specs.Trails.{TrailState}
 use Rattle.learn_solver.specs.declared.learner.Learner.{Learner}
-use Rattle.learn_solver.specs.Learners.{seen, guide_of}
+use Rattle.learn_solver.specs.Learners.{solver_state, guide_of}
 use Rattle.learn_solver.proofs.StepLemmas.{IsSound-kept, Steps-kept}
 use Rattle.learn_solver.proofs.Guidance.{by_trail}
 use Rattle.learn_solver.proofs.Goings.{GoesTo-same}
@@ -12,17 +12,17 @@ use Rattle.learn_solver.proofs.Tidied.{HasTidied-none, HasTidied-from, empty-lis
 use Rattle.learn_solver.proofs.learner.Learner.tidy.Goals as goal
 
 pub returns-in_err-ids-clause-kept : goal.returns-in_err-ids-clause-kept
-returns-in_err-ids-clause-kept c = GoesTo-same (seen c.args.self.now) (seen c.args.self.now) refl refl (same-self (seen c.args.self.now).state)
+returns-in_err-ids-clause-kept c = GoesTo-same (solver_state c.args.self.now) (solver_state c.args.self.now) refl refl (same-self (solver_state c.args.self.now).state)
 
 pub returns-then-is_empty-clause-kept : goal.returns-then-is_empty-clause-kept
-returns-then-is_empty-clause-kept c = GoesTo-same (seen c.args.self.now) (seen c.args.self.now) refl refl (same-self (seen c.args.self.now).state)
+returns-then-is_empty-clause-kept c = GoesTo-same (solver_state c.args.self.now) (solver_state c.args.self.now) refl refl (same-self (solver_state c.args.self.now).state)
 
 pub returns-then-is_empty-clause-ok : goal.returns-then-is_empty-clause-ok
 returns-then-is_empty-clause-ok c =
-    (HasTidied-none c.args.self.now c.requires (empty-list (seen c.args.self.now).idle c.list.result.now c.if-is_empty.ensures (c.list.ensures ∙ c.in_ok-ids.ensures))).tidied
+    (HasTidied-none c.args.self.now c.requires (empty-list (solver_state c.args.self.now).idle c.list.result.now c.if-is_empty.ensures (c.list.ensures ∙ c.in_ok-ids.ensures))).tidied
 
 pub returns-in_err-reserve-clause-kept : goal.returns-in_err-reserve-clause-kept
-returns-in_err-reserve-clause-kept c = GoesTo-same (seen c.args.self.now) _ refl c.reserve.ensures.items (same-self (seen c.args.self.now).state)
+returns-in_err-reserve-clause-kept c = GoesTo-same (solver_state c.args.self.now) _ refl c.reserve.ensures.items (same-self (solver_state c.args.self.now).state)
 
 pub returns-in_err-reserve-2-clause-sound : goal.returns-in_err-reserve-2-clause-sound
 returns-in_err-reserve-2-clause-sound c = IsSound-kept c.args.self.now _ c.requires (record { records = ap (λ (t : TrailState). t.records) c.reserve-2.ensures.same; trail_variables = ap (λ (t : TrailState). t.variables) c.reserve-2.ensures.same; variables = refl; analyzer = refl; order = refl; given = refl; last = refl; waiting = c.reserve.ensures.items }) (ap (λ (t : TrailState). by_trail t (guide_of c.args.self.now)) c.reserve-2.ensures.same)

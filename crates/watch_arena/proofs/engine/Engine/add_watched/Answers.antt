@@ -26,36 +26,36 @@ false_since-requires-2 c =
     let below = negation-below c.from_code-second.result c.args.self.now.variables range in
     let size = c.requires.sound.marked.size in omega arith
 
-pub put_front-requires-clause-range : goal.put_front-requires-clause-range
-put_front-requires-clause-range c =
+pub attach-requires-clause-range : goal.attach-requires-clause-range
+attach-requires-clause-range c =
     let two = c.requires.two in
     let range = code_range c.args.codes.now 0 c.from_code-first.result c.args.self.now.variables (omega arith) c.from_code-first.ensures c.requires.range in
     let vars = ap (λ (e : Engine). e.variables) c.lower.ensures.same in
     let lists = c.lower.ensures.sound.lists in omega arith
 
-pub put_front-requires-2-clause-range : goal.put_front-requires-2-clause-range
-put_front-requires-2-clause-range c =
+pub attach-requires-2-clause-range : goal.attach-requires-2-clause-range
+attach-requires-2-clause-range c =
     let two = c.requires.two in
     let range = code_range c.args.codes.now 1 c.from_code-second.result c.args.self.now.variables (omega arith) c.from_code-second.ensures c.requires.range in
     let vars = ap (λ (e : Engine). e.variables) c.lower.ensures.same in
     let lists = c.lower.ensures.sound.lists in
-    let size = ap (λ (e : Engine). length e.chains) c.put_front.ensures in
+    let size = ap (λ (e : Engine). length e.chains) c.attach.ensures in
     let same = length-set c.lower.new.self.chains c.from_code-first.result (Some (record { at = c.in_ok-at.at; slot = 0 })) in
     omega arith
 
 pub returns-clause-ok : goal.returns-clause-ok
 returns-clause-ok c =
-    (Added c.args.self.now c.lower.new.self c.put.new.self c.put_front.new.self c.put_front-2.new.self c.args.codes.now c.args.id c.from_code-first.result c.from_code-second.result c.in_ok-at.at c.false_since.result c.false_since-2.result c.min-since.result c.requires.sound c.requires.range c.requires.two c.requires.differ c.from_code-first.ensures c.from_code-second.ensures c.false_since.ensures c.false_since-2.ensures c.min-since.ensures c.lower.ensures.sound c.lower.ensures.lowered c.lower.ensures.same c.in_ok-at.ensures.at c.in_ok-at.ensures.ok c.put_front.ensures c.put_front-2.ensures).bodies
+    (Added c.args.self.now c.lower.new.self c.put.new.self c.attach.new.self c.attach-2.new.self c.args.codes.now c.args.id c.from_code-first.result c.from_code-second.result c.in_ok-at.at c.false_since.result c.false_since-2.result c.min-since.result c.requires.sound c.requires.range c.requires.two c.requires.differ c.from_code-first.ensures c.from_code-second.ensures c.false_since.ensures c.false_since-2.ensures c.min-since.ensures c.lower.ensures.sound c.lower.ensures.lowered c.lower.ensures.same c.in_ok-at.ensures.at c.in_ok-at.ensures.ok c.attach.ensures c.attach-2.ensures).bodies
 
 pub returns-clause-sound : goal.returns-clause-sound
 returns-clause-sound c =
-    (Added c.args.self.now c.lower.new.self c.put.new.self c.put_front.new.self c.put_front-2.new.self c.args.codes.now c.args.id c.from_code-first.result c.from_code-second.result c.in_ok-at.at c.false_since.result c.false_since-2.result c.min-since.result c.requires.sound c.requires.range c.requires.two c.requires.differ c.from_code-first.ensures c.from_code-second.ensures c.false_since.ensures c.false_since-2.ensures c.min-since.ensures c.lower.ensures.sound c.lower.ensures.lowered c.lower.ensures.same c.in_ok-at.ensures.at c.in_ok-at.ensures.ok c.put_front.ensures c.put_front-2.ensures).sound
+    (Added c.args.self.now c.lower.new.self c.put.new.self c.attach.new.self c.attach-2.new.self c.args.codes.now c.args.id c.from_code-first.result c.from_code-second.result c.in_ok-at.at c.false_since.result c.false_since-2.result c.min-since.result c.requires.sound c.requires.range c.requires.two c.requires.differ c.from_code-first.ensures c.from_code-second.ensures c.false_since.ensures c.false_since-2.ensures c.min-since.ensures c.lower.ensures.sound c.lower.ensures.lowered c.lower.ensures.same c.in_ok-at.ensures.at c.in_ok-at.ensures.ok c.attach.ensures c.attach-2.ensures).sound
 
 pub returns-clause-places : goal.returns-clause-places
 returns-clause-places c = record {
-  places = ap (λ (e : Engine). e.places.list) c.put_front-2.ensures ∙ ap (λ (e : Engine). e.places.list) c.put_front.ensures ∙ ap (λ (e : Engine). e.places.list) c.lower.ensures.same;
-  variables = ap (λ (e : Engine). e.variables) c.put_front-2.ensures ∙ ap (λ (e : Engine). e.variables) c.put_front.ensures ∙ ap (λ (e : Engine). e.variables) c.lower.ensures.same;
-  moves = ap (λ (e : Engine). e.moves) c.put_front-2.ensures ∙ ap (λ (e : Engine). e.moves) c.put_front.ensures ∙ ap (λ (e : Engine). e.moves) c.lower.ensures.same;
+  places = ap (λ (e : Engine). e.places.list) c.attach-2.ensures ∙ ap (λ (e : Engine). e.places.list) c.attach.ensures ∙ ap (λ (e : Engine). e.places.list) c.lower.ensures.same;
+  variables = ap (λ (e : Engine). e.variables) c.attach-2.ensures ∙ ap (λ (e : Engine). e.variables) c.attach.ensures ∙ ap (λ (e : Engine). e.variables) c.lower.ensures.same;
+  moves = ap (λ (e : Engine). e.moves) c.attach-2.ensures ∙ ap (λ (e : Engine). e.moves) c.attach.ensures ∙ ap (λ (e : Engine). e.moves) c.lower.ensures.same;
 }
 
 pub returns-clause-at : goal.returns-clause-at

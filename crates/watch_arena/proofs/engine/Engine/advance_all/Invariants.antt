@@ -6,4 +6,4 @@ abbrev pub invariant-loop-self : goal.invariant-loop-self
 invariant-loop-self l = Advances l.initial.self l.self
 
 abbrev pub decreases-loop-self : goal.decreases-loop-self
-decreases-loop-self l = l.self.variables - l.self.head
+decreases-loop-self l = l.self.variables - l.self.queue_head

@@ -5,7 +5,7 @@ use Rattle.watch_arena.specs.Places.{is_assumed}
 use Rattle.watch_arena.specs.Engines.{IsSound, with_place}
 use Rattle.watch_arena.proofs.Sound.{IsSound-marked}
 use Rattle.watch_arena.proofs.Visiting.{places_below}
-use Rattle.watch_arena.proofs.Meeting.{CanMark-assumed}
+use Rattle.watch_arena.proofs.Meeting.{CanAssign-assumed}
 use Rattle.watch_arena.proofs.engine.Engine.assume.Goals as goal
 
 pub overflow_add-level : goal.overflow_add-level
@@ -16,17 +16,17 @@ overflow_add-level c =
     let is = c.level-level.ensures in
     omega arith
 
-pub mark-requires-clause-can : goal.mark-requires-clause-can
-mark-requires-clause-can c =
-    CanMark-assumed c.args.self.now c.args.lit _ c.requires.range c.requires.not_true c.requires.not_false (ap (λ (n : ℕ). n + 1) c.level-level.ensures)
+pub assign-requires-clause-can : goal.assign-requires-clause-can
+assign-requires-clause-can c =
+    CanAssign-assumed c.args.self.now c.args.lit _ c.requires.range c.requires.not_true c.requires.not_false (ap (λ (n : ℕ). n + 1) c.level-level.ensures)
 
 pub returns-clause-sound : goal.returns-clause-sound
 returns-clause-sound c =
-    subst (λ (e : Engine). IsSound e) (sym c.mark.ensures)
+    subst (λ (e : Engine). IsSound e) (sym c.assign.ensures)
     (IsSound-marked c.args.self.now _ c.requires.sound
-    (CanMark-assumed c.args.self.now c.args.lit _ c.requires.range c.requires.not_true c.requires.not_false (ap (λ (n : ℕ). n + 1) c.level-level.ensures))
+    (CanAssign-assumed c.args.self.now c.args.lit _ c.requires.range c.requires.not_true c.requires.not_false (ap (λ (n : ℕ). n + 1) c.level-level.ensures))
     (places_below c.args.self.now.marks c.args.self.now.places.list c.args.self.now.variables c.args.lit c.requires.sound.marked c.requires.range c.requires.not_true c.requires.not_false))
 
 pub returns-clause-is : goal.returns-clause-is
 returns-clause-is c =
-    c.mark.ensures ∙ ap (λ (n : ℕ). with_place c.args.self.now (record { lit = c.args.lit; level = n + 1; reason = None })) c.level-level.ensures
+    c.assign.ensures ∙ ap (λ (n : ℕ). with_place c.args.self.now (record { lit = c.args.lit; level = n + 1; reason = None })) c.level-level.ensures

@@ -8,6 +8,6 @@ use Rattle.watch_arena.proofs.engine.Engine.imply.Goals as goal
 pub returns-clause-sound : goal.returns-clause-sound
 returns-clause-sound c =
     let P : ℕ → Type 0 = λ n. IsSound (with_place c.args.self.now (record { lit = c.args.lit; level = n; reason = Some c.args.at })) in
-    subst (λ (e : Engine). IsSound e) (sym c.mark.ensures)
+    subst (λ (e : Engine). IsSound e) (sym c.assign.ensures)
     (subst P (sym c.level-level.ensures)
     (IsSound-marked c.args.self.now _ c.requires.sound c.requires.can (HasRoom-from_can c.args.self.now _ c.requires.sound c.requires.can).below))

@@ -3,7 +3,7 @@ use Rattle.watch_arena.specs.declared.engine.Engine.{Engine}
 use Rattle.watch_arena.specs.Engines.{Advances, IsShortMet}
 use Rattle.watch_arena.proofs.Sound.{lit-in_range}
 use Rattle.watch_arena.proofs.Visiting.{Advances-refl}
-use Rattle.watch_arena.proofs.Meeting.{IsShortMet-true, IsFalse-from_short, CanMark-from_short, Advances-marked, IsShortMet-marked}
+use Rattle.watch_arena.proofs.Meeting.{IsShortMet-true, IsFalse-from_short, CanAssign-from_short, Advances-marked, IsShortMet-marked}
 use Rattle.watch_arena.proofs.engine.Engine.meet_first.Goals as goal
 
 pub is_true-requires : goal.is_true-requires
@@ -24,14 +24,14 @@ returns-then-is_false-clause-advances c = Advances-refl c.args.self.now c.requir
 pub returns-then-is_false-clause-outcome : goal.returns-then-is_false-clause-outcome
 returns-then-is_false-clause-outcome c = IsFalse-from_short c.args.self.now c.args.at c.lit_at-lit.result c.requires.live c.requires.short c.lit_at-lit.ensures (c.if-is_false.ensures.0 refl)
 
-pub mark-requires-clause-can : goal.mark-requires-clause-can
-mark-requires-clause-can c = CanMark-from_short c.args.self.now c.args.at c.lit_at-lit.result c.level-level.result c.requires.sound c.requires.live c.requires.short c.requires.some c.lit_at-lit.ensures c.if-is_true.ensures.1 c.if-is_false.ensures.1 c.level-level.ensures
+pub assign-requires-clause-can : goal.assign-requires-clause-can
+assign-requires-clause-can c = CanAssign-from_short c.args.self.now c.args.at c.lit_at-lit.result c.level-level.result c.requires.sound c.requires.live c.requires.short c.requires.some c.lit_at-lit.ensures c.if-is_true.ensures.1 c.if-is_false.ensures.1 c.level-level.ensures
 
 pub returns-clause-advances : goal.returns-clause-advances
 returns-clause-advances c =
-    subst (λ (e : Engine). Advances c.args.self.now e) (sym c.mark.ensures) (Advances-marked c.args.self.now _ c.requires.sound (CanMark-from_short c.args.self.now c.args.at c.lit_at-lit.result c.level-level.result c.requires.sound c.requires.live c.requires.short c.requires.some c.lit_at-lit.ensures c.if-is_true.ensures.1 c.if-is_false.ensures.1 c.level-level.ensures) refl)
+    subst (λ (e : Engine). Advances c.args.self.now e) (sym c.assign.ensures) (Advances-marked c.args.self.now _ c.requires.sound (CanAssign-from_short c.args.self.now c.args.at c.lit_at-lit.result c.level-level.result c.requires.sound c.requires.live c.requires.short c.requires.some c.lit_at-lit.ensures c.if-is_true.ensures.1 c.if-is_false.ensures.1 c.level-level.ensures) refl)
 
 pub returns-clause-outcome : goal.returns-clause-outcome
 returns-clause-outcome c =
     let P : Engine → Type 0 = λ e. IsShortMet e c.args.at in
-    subst P (sym c.mark.ensures) (IsShortMet-marked c.args.self.now c.args.at _ c.requires.sound (CanMark-from_short c.args.self.now c.args.at c.lit_at-lit.result c.level-level.result c.requires.sound c.requires.live c.requires.short c.requires.some c.lit_at-lit.ensures c.if-is_true.ensures.1 c.if-is_false.ensures.1 c.level-level.ensures) c.requires.some c.lit_at-lit.ensures)
+    subst P (sym c.assign.ensures) (IsShortMet-marked c.args.self.now c.args.at _ c.requires.sound (CanAssign-from_short c.args.self.now c.args.at c.lit_at-lit.result c.level-level.result c.requires.sound c.requires.live c.requires.short c.requires.some c.lit_at-lit.ensures c.if-is_true.ensures.1 c.if-is_false.ensures.1 c.level-level.ensures) c.requires.some c.lit_at-lit.ensures)

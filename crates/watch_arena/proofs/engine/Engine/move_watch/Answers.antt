@@ -33,15 +33,15 @@ swap_lits-requires-clause-first_in_range c =
 pub swap_lits-requires-clause-second_in_range : goal.swap_lits-requires-clause-second_in_range
 swap_lits-requires-clause-second_in_range c = (IsExchange-past c.args.self.now c.args.lit c.args.k c.args.prev.now c.args.entry c.link-next.result c.lead_past.new.self.arena c.requires.sound c.requires.range (IsAt-walking c.args.self.now c.args.lit c.args.prev.now c.args.entry c.requires.walking) c.requires.fresh c.link-next.ensures (ap (λ (e : Engine). e.arena) c.lead_past.ensures)).0.within
 
-pub put_front-requires-clause-range : goal.put_front-requires-clause-range
-put_front-requires-clause-range c =
+pub attach-requires-clause-range : goal.attach-requires-clause-range
+attach-requires-clause-range c =
     let size = ap (λ (e : Engine). length e.chains) c.lead_past.ensures ∙ length-past c.args.self.now.chains c.args.lit c.args.prev.now c.link-next.result in
     let lists = c.requires.sound.lists in
     let range = c.requires.sound.in_range c.args.entry.at c.lit_at-fresh.result (contains_at (record_at c.args.self.now.arena c.args.entry.at).lits c.args.k c.lit_at-fresh.result c.requires.fresh.within (sym c.lit_at-fresh.ensures)) in
     omega arith
 
-pub put_front-requires-clause-entry : goal.put_front-requires-clause-entry
-put_front-requires-clause-entry c =
+pub attach-requires-clause-entry : goal.attach-requires-clause-entry
+attach-requires-clause-entry c =
     let both = (IsExchange-past c.args.self.now c.args.lit c.args.k c.args.prev.now c.args.entry c.link-next.result c.lead_past.new.self.arena c.requires.sound c.requires.range (IsAt-walking c.args.self.now c.args.lit c.args.prev.now c.args.entry c.requires.walking) c.requires.fresh c.link-next.ensures (ap (λ (e : Engine). e.arena) c.lead_past.ensures)) in
     let here = IsEntry-exchanged c.lead_past.new.self.arena c.args.entry c.args.k c.args.lit both.0 in
     let there = subst (λ (rs : List Record). IsEntry rs (fresh c.lead_past.new.self.arena c.args.entry.at c.args.k) c.args.entry) (sym c.swap_lits.ensures) here in
@@ -66,4 +66,4 @@ swap_lits-requires-clause-of_the_list c =
     (IsExchange-past c.args.self.now c.args.lit c.args.k c.args.prev.now c.args.entry c.link-next.result c.lead_past.new.self.arena c.requires.sound c.requires.range (IsAt-walking c.args.self.now c.args.lit c.args.prev.now c.args.entry c.requires.walking) c.requires.fresh c.link-next.ensures (ap (λ (e : Engine). e.arena) c.lead_past.ensures)).0.entry.within
 
 pub returns : goal.returns
-returns c = rw (c.put_front.ensures, c.swap_lits.ensures, c.lead_past.ensures, c.link-next.ensures, c.lit_at-fresh.ensures) refl
+returns c = rw (c.attach.ensures, c.swap_lits.ensures, c.lead_past.ensures, c.link-next.ensures, c.lit_at-fresh.ensures) refl

@@ -4,7 +4,7 @@ use Rattle.clause_arena.specs.Records.{record_at}
 use Rattle.watch_arena.specs.declared.engine.Engine.{Engine}
 use Rattle.watch_arena.specs.Chains.{next_of}
 use Rattle.watch_arena.specs.Engines.{mark_of, HasNoFresh, Visits, IsWalking, with_place}
-use Rattle.watch_arena.proofs.Visiting.{Visits-refl, Visits-marked, CanMark-from_visit, IsFalse-from_slot, IsAgreed-true, IsAgreed-marked, slot_other-in_range}
+use Rattle.watch_arena.proofs.Visiting.{Visits-refl, Visits-marked, CanAssign-from_visit, IsFalse-from_slot, IsAgreed-true, IsAgreed-marked, slot_other-in_range}
 use Rattle.watch_arena.proofs.Leading.{IsAt-walking, IsWalking-on}
 use Rattle.watch_arena.proofs.Passing.{IsSlot-walking, IsWalking-same, Visit-moved}
 use Rattle.watch_arena.proofs.engine.Engine.settle.Goals as goal
@@ -61,21 +61,21 @@ returns-then-is_false-clause-outcome c =
     (subst (λ (o : ℕ). 0 < mark_of c.args.self.now.marks (negation_of o)) c.lit_at-other.ensures (c.if-is_false.ensures.0 refl))
     (subst (λ (o : ℕ). HasNoFresh c.args.self.now c.args.entry.at o (length (record_at c.args.self.now.arena c.args.entry.at).lits)) c.lit_at-other.ensures c.in_default.ensures.none)
 
-pub mark-requires-clause-can : goal.mark-requires-clause-can
-mark-requires-clause-can c =
+pub assign-requires-clause-can : goal.assign-requires-clause-can
+assign-requires-clause-can c =
     let s = IsSlot-walking c.args.self.now c.args.lit c.args.prev.now c.args.entry c.requires.sound c.requires.range c.requires.walking c.requires.live in
-    CanMark-from_visit c.args.self.now c.args.entry.at c.args.lit c.args.entry.slot c.lit_at-other.result c.level-level.result c.requires.sound s c.lit_at-other.ensures c.requires.lit_false c.if-is_true.ensures.1 c.if-is_false.ensures.1 c.in_default.ensures.none c.level-level.ensures
+    CanAssign-from_visit c.args.self.now c.args.entry.at c.args.lit c.args.entry.slot c.lit_at-other.result c.level-level.result c.requires.sound s c.lit_at-other.ensures c.requires.lit_false c.if-is_true.ensures.1 c.if-is_false.ensures.1 c.in_default.ensures.none c.level-level.ensures
 
 pub returns-clause-visits : goal.returns-clause-visits
 returns-clause-visits c =
     let s = IsSlot-walking c.args.self.now c.args.lit c.args.prev.now c.args.entry c.requires.sound c.requires.range c.requires.walking c.requires.live in
-    subst (λ (e : Engine). Visits c.args.self.now e c.args.lit) (sym c.mark.ensures) (Visits-marked c.args.self.now _ c.args.lit c.requires.sound (CanMark-from_visit c.args.self.now c.args.entry.at c.args.lit c.args.entry.slot c.lit_at-other.result c.level-level.result c.requires.sound s c.lit_at-other.ensures c.requires.lit_false c.if-is_true.ensures.1 c.if-is_false.ensures.1 c.in_default.ensures.none c.level-level.ensures) refl)
+    subst (λ (e : Engine). Visits c.args.self.now e c.args.lit) (sym c.assign.ensures) (Visits-marked c.args.self.now _ c.args.lit c.requires.sound (CanAssign-from_visit c.args.self.now c.args.entry.at c.args.lit c.args.entry.slot c.lit_at-other.result c.level-level.result c.requires.sound s c.lit_at-other.ensures c.requires.lit_false c.if-is_true.ensures.1 c.if-is_false.ensures.1 c.in_default.ensures.none c.level-level.ensures) refl)
 
 pub returns-clause-outcome : goal.returns-clause-outcome
 returns-clause-outcome c =
     let s = IsSlot-walking c.args.self.now c.args.lit c.args.prev.now c.args.entry c.requires.sound c.requires.range c.requires.walking c.requires.live in
-    let can = CanMark-from_visit c.args.self.now c.args.entry.at c.args.lit c.args.entry.slot c.lit_at-other.result c.level-level.result c.requires.sound s c.lit_at-other.ensures c.requires.lit_false c.if-is_true.ensures.1 c.if-is_false.ensures.1 c.in_default.ensures.none c.level-level.ensures in
-    subst (λ (e : Engine). IsWalking e c.args.lit (Some c.args.entry) (next_of c.args.self.now.arena c.args.entry)) (sym c.mark.ensures)
+    let can = CanAssign-from_visit c.args.self.now c.args.entry.at c.args.lit c.args.entry.slot c.lit_at-other.result c.level-level.result c.requires.sound s c.lit_at-other.ensures c.requires.lit_false c.if-is_true.ensures.1 c.if-is_false.ensures.1 c.in_default.ensures.none c.level-level.ensures in
+    subst (λ (e : Engine). IsWalking e c.args.lit (Some c.args.entry) (next_of c.args.self.now.arena c.args.entry)) (sym c.assign.ensures)
     (IsWalking-on c.args.self.now (with_place c.args.self.now (record { lit = c.lit_at-other.result; level = c.level-level.result; reason = Some c.args.entry.at })) c.args.lit c.args.prev.now c.args.entry (IsAt-walking c.args.self.now c.args.lit c.args.prev.now c.args.entry c.requires.walking) refl refl
     (Visits-marked c.args.self.now _ c.args.lit c.requires.sound can refl).agreed
     (IsAgreed-marked c.args.self.now c.args.entry.at c.args.lit c.args.entry.slot _ c.requires.sound s can c.lit_at-other.ensures))

@@ -6,17 +6,17 @@ use Rattle.watch_arena.proofs.Watching.{contains_at}
 use Rattle.watch_arena.proofs.Relinking.{Watched}
 use Rattle.watch_arena.proofs.engine.Engine.watch.Goals as goal
 
-pub put_front-requires-clause-range : goal.put_front-requires-clause-range
-put_front-requires-clause-range c =
+pub attach-requires-clause-range : goal.attach-requires-clause-range
+attach-requires-clause-range c =
     let long = c.if-len_of-lt2.false in let size = c.len_of.ensures in let lists = c.requires.lists in
     let range = c.requires.in_range c.args.at c.lit_at-first.result (contains_at (record_at c.args.self.now.arena c.args.at).lits 0 c.lit_at-first.result (omega arith) (sym c.lit_at-first.ensures)) in
     omega arith
 
-pub put_front-requires-2-clause-range : goal.put_front-requires-2-clause-range
-put_front-requires-2-clause-range c =
+pub attach-requires-2-clause-range : goal.attach-requires-2-clause-range
+attach-requires-2-clause-range c =
     let long = c.if-len_of-lt2.false in let size = c.len_of.ensures in let lists = c.requires.lists in
     let range = c.requires.in_range c.args.at c.lit_at-second.result (contains_at (record_at c.args.self.now.arena c.args.at).lits 1 c.lit_at-second.result (omega arith) (sym c.lit_at-second.ensures)) in
-    let chains = ap (λ (e : Engine). length e.chains) c.put_front.ensures in
+    let chains = ap (λ (e : Engine). length e.chains) c.attach.ensures in
     let same = length-set c.args.self.now.chains c.lit_at-first.result (Some (record { at = c.args.at; slot = 0 })) in
     omega arith
 
@@ -24,4 +24,4 @@ pub returns-clause-filed : goal.returns-clause-filed
 returns-clause-filed c =
     let long = c.if-len_of-lt2.false in let size = c.len_of.ensures in
     let ne : c.lit_at-first.result ≢ c.lit_at-second.result = λ e. absurd (let clash : false ≡ true = c.if-eq.ensures ∙ eq-eqb c.lit_at-first.result c.lit_at-second.result e in cc) in
-    (Watched c.args.self.now c.put_front.new.self c.put_front-2.new.self c.args.at c.lit_at-first.result c.lit_at-second.result c.requires.at c.requires.lists c.requires.in_range c.requires.filed (omega arith) c.lit_at-first.ensures c.lit_at-second.ensures ne c.put_front.ensures c.put_front-2.ensures).filed
+    (Watched c.args.self.now c.attach.new.self c.attach-2.new.self c.args.at c.lit_at-first.result c.lit_at-second.result c.requires.at c.requires.lists c.requires.in_range c.requires.filed (omega arith) c.lit_at-first.ensures c.lit_at-second.ensures ne c.attach.ensures c.attach-2.ensures).filed

@@ -1,7 +1,0 @@
-//! Laws of listings that are cut and go on.
-ghost use Rattle.align_top.specs.Resuming.{ChainsListOnce};
-
-/// Runs, each of which goes on from the cut of the one before, list together what one run would: each world once, in order.
-pub fn chains_list_once()
-    ensures { ChainsListOnce }
-{}

@@ -1,8 +1,0 @@
-use Rattle.std.proofs.Common.{arith}
-use Rattle.conflict_clause.proofs.Endings.{IsClosing-ended}
-use Rattle.conflict_clause.proofs.notes.Notes.close.Goals as goal
-
-pub returns-clause-closing : goal.returns-clause-closing
-returns-clause-closing c =
-    IsClosing-ended c.args.trail.now _ _ c.start.new.self c.walk.new.self _ _ c.facts.ensures (omega arith) c.in_ok-walk.ensures.search c.in_ok-walk.ensures.finds
-    (λ lit has. let none = (c.in_ok-start.ensures.lower lit has).below in absurd (omega arith)) c.in_ok-closing.ensures.lits c.in_ok-closing.ensures.hints

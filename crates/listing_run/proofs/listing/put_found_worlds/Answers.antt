@@ -1,0 +1,170 @@
+use Rattle.std.proofs.Common.{rules, ℕ, ◌≡◌, ◌≢◌, ◌∙◌, [], ◌∷◌, None, Some, Err, refl, ap, sym, subst}
+use Rattle.outer_store.specs.Faults.{Rose, IfFailed}
+use Rattle.listing_run.specs.Putting.{IsPutTo}
+use Rattle.world_search.specs.Told.{IsKeptIn}
+use Rattle.listing_run.specs.declared.listing.Met.{Met}
+use Rattle.world_search.specs.Searching.{SearchState, Came, IsNext}
+use Rattle.world_search.specs.Steps.{StandsBehind}
+use Rattle.world_search.specs.Logging.{KeepsOn}
+use Rattle.listing_run.proofs.ListingLemmas.{put_nothing, put_one_more, put_no_more, put_cut, put_end_met, put_stopped, partly_so_far, partly_refused}
+use Rattle.world_search.proofs.WorldsLeft.{came_fewer}
+use Rattle.world_search.proofs.Told.{begun_kept, kept_on, told_to}
+use Rattle.listing_run.proofs.LoggedLemmas.{log_rests, log_twice, log_ok_as, listed_well, log_refused, put_refused}
+use Rattle.listing_run.proofs.listing.put_found_worlds.Goals as goal
+
+pub worlds-init : goal.worlds-init
+worlds-init g c =
+    let order = c.args.order.now in
+    record {
+      problem = ap (λ (s : SearchState). s.problem) c.requires.begun;
+      from = ap (λ (s : SearchState). s.from) c.requires.begun;
+      shape = c.requires.fresh.shape;
+      unbounded = ap (λ (s : SearchState). s.to) c.requires.begun;
+      put = subst (λ (s : SearchState). IsPutTo order s.at (g.W.Sink.state c.args.out.now).bytes (g.W.Sink.state c.args.out.now).bytes 0 order.nodes order.worlds) (sym c.requires.begun)
+          (put_nothing order (g.W.Sink.state c.args.out.now).bytes);
+      faults = refl;
+      kept = subst (λ (s : SearchState). IsKeptIn order.problem order.start (g.L.TreeLog.lines c.args.log.now) (g.L.TreeLog.lines c.args.log.now) c.args.asker.now s.expects) (sym c.requires.begun)
+          (begun_kept order.problem order.start (g.L.TreeLog.lines c.args.log.now) c.args.asker.now c.requires.fresh);
+      log = log_rests (tt {0}) c.args.log.now (g.met.L.TreeLog.steady_stays c.args.log.now) (g.met.L.TreeLog.quiet_stays c.args.log.now);
+    }
+
+pub returns-in_err-table : goal.returns-in_err-table
+returns-in_err-table g c =
+    let order = c.args.order.now in
+    let valid = c.facts.ensures.built.valid in
+    let some : c.worlds.worlds ≢ Some 0 = λ e. let t = c.is_spent.ensures.1 e in cc in
+    log_refused Met _ c.from_residual.result order
+    (g.W.Sink.state c.args.out.now) (g.W.Sink.state c.worlds.out) c.args.log.now c.next_met.new.log
+    c.from_residual.ensures.1
+    (partly_so_far order valid c.next_met.new.search.at (g.W.Sink.state c.args.out.now).bytes (g.W.Sink.state c.worlds.out).bytes c.worlds.count c.next_met.new.nodes.left c.worlds.worlds
+    (put_no_more order valid c.worlds.search c.next_met.new.search c.worlds.nodes.left c.next_met.new.nodes.left c.worlds.worlds (g.W.Sink.state c.args.out.now).bytes (g.W.Sink.state c.worlds.out).bytes c.worlds.count
+    c.worlds.invariant.problem some c.worlds.invariant.put c.in_err-table.ensures.err))
+    c.worlds.invariant.faults
+    (log_twice _ _ c.args.log.now c.worlds.log c.next_met.new.log (g.met.L.TreeLog.steady_joins c.args.log.now c.worlds.log c.next_met.new.log) (g.met.L.TreeLog.quiet_joins c.args.log.now c.worlds.log c.next_met.new.log)
+    c.worlds.invariant.log c.in_err-table.ensures.log)
+
+pub returns-in_err-put_world-in-World : goal.returns-in_err-put_world-in-World
+returns-in_err-put_world-in-World g c =
+    let order = c.args.order.now in
+    let valid = c.facts.ensures.built.valid in
+    let some : c.worlds.worlds ≢ Some 0 = λ e. let t = c.is_spent.ensures.1 e in cc in
+    let met : Came c.worlds.search c.next_met.new.search c.worlds.nodes.left c.next_met.new.nodes.left (c.in-World.table ∷ []) × StandsBehind c.next_met.new.search c.in-World.table =
+    rw c.in-World.is at c.in_ok-table.ensures.met in
+    put_refused (Unit {0}) (Unit {0}) (tt {0}) c.in_err-put_world-in-World.field-0.0 c.from_residual-in_err-put_world-in-World.result order
+    (g.W.Sink.state c.args.out.now) (g.W.Sink.state c.put_world.new.out) c.args.log.now c.next_met.new.log
+    c.from_residual-in_err-put_world-in-World.ensures.1
+    (partly_refused order valid c.worlds.search c.next_met.new.search c.worlds.nodes.left c.next_met.new.nodes.left c.worlds.worlds c.in-World.table
+    (g.W.Sink.state c.args.out.now).bytes (g.W.Sink.state c.worlds.out).bytes (g.W.Sink.state c.put_world.new.out).bytes c.worlds.count
+    c.worlds.invariant.problem c.worlds.invariant.from c.worlds.invariant.put met.0 met.1 some c.in_err-put_world-in-World.ensures.err)
+    (subst (λ (n : ℕ). IfFailed {T = Unit {0}} (Err c.in_err-put_world-in-World.field-0.0) (Rose n (g.W.Sink.state c.put_world.new.out).faults) ((g.W.Sink.state c.put_world.new.out).faults ≡ n)) c.worlds.invariant.faults
+    c.in_err-put_world-in-World.ensures.cause)
+    (log_ok_as _ (tt {0}) c.args.log.now c.next_met.new.log
+    (log_twice _ _ c.args.log.now c.worlds.log c.next_met.new.log (g.met.L.TreeLog.steady_joins c.args.log.now c.worlds.log c.next_met.new.log) (g.met.L.TreeLog.quiet_joins c.args.log.now c.worlds.log c.next_met.new.log)
+    c.worlds.invariant.log c.in_ok-table.ensures.log))
+    (search rules)
+
+pub worlds-smaller : goal.worlds-smaller
+worlds-smaller g c =
+    let met : Came c.worlds.search c.next_met.new.search c.worlds.nodes.left c.next_met.new.nodes.left (c.in-World.table ∷ []) × StandsBehind c.next_met.new.search c.in-World.table =
+    rw c.in-World.is at c.in_ok-table.ensures.met in
+    came_fewer c.args.order.now.problem c.facts.ensures.built.valid c.worlds.search c.next_met.new.search c.worlds.nodes.left c.next_met.new.nodes.left c.in-World.table
+    c.worlds.invariant.problem met.0
+
+pub worlds-preserved : goal.worlds-preserved
+worlds-preserved g c =
+    let order = c.args.order.now in
+    let valid = c.facts.ensures.built.valid in
+    let some : c.worlds.worlds ≢ Some 0 = λ e. let t = c.is_spent.ensures.1 e in cc in
+    let met : Came c.worlds.search c.next_met.new.search c.worlds.nodes.left c.next_met.new.nodes.left (c.in-World.table ∷ []) × StandsBehind c.next_met.new.search c.in-World.table =
+    rw c.in-World.is at c.in_ok-table.ensures.met in
+    record {
+      problem = met.0.problem ∙ c.worlds.invariant.problem;
+      from = met.0.from ∙ c.worlds.invariant.from;
+      shape = search rules;
+      unbounded = met.0.to ∙ c.worlds.invariant.unbounded;
+      put =
+          subst (λ count. IsPutTo order c.next_met.new.search.at (g.W.Sink.state c.args.out.now).bytes (g.W.Sink.state c.put_world.new.out).bytes count c.next_met.new.nodes.left c.one_less-worlds.result)
+          (sym c.saturating_add-count.ensures) (put_one_more order valid c.worlds.search c.next_met.new.search c.worlds.nodes.left c.next_met.new.nodes.left c.worlds.worlds c.one_less-worlds.result c.in-World.table
+          (g.W.Sink.state c.args.out.now).bytes (g.W.Sink.state c.worlds.out).bytes (g.W.Sink.state c.put_world.new.out).bytes c.worlds.count
+          c.worlds.invariant.problem c.worlds.invariant.from c.worlds.invariant.put met.0 met.1 some c.one_less-worlds.ensures c.in_ok-put_world-in-World.ensures.ok);
+      faults = search rules;
+      kept =
+          kept_on order.problem order.start (g.L.TreeLog.lines c.args.log.now) (g.L.TreeLog.lines c.worlds.log) (g.L.TreeLog.lines c.next_met.new.log) c.worlds.asker c.next_met.new.asker c.worlds.search.expects c.next_met.new.search.expects
+          c.worlds.invariant.kept c.in_ok-table.ensures.told
+          (subst (λ from. KeepsOn order.problem from (g.L.TreeLog.lines c.worlds.log) (g.L.TreeLog.lines c.next_met.new.log) c.worlds.asker c.next_met.new.asker c.worlds.search.expects c.next_met.new.search.expects) c.worlds.invariant.from
+          c.in_ok-table.ensures.keeps);
+      log =
+          log_ok_as _ _ c.args.log.now c.next_met.new.log
+          (log_twice _ _ c.args.log.now c.worlds.log c.next_met.new.log (g.met.L.TreeLog.steady_joins c.args.log.now c.worlds.log c.next_met.new.log) (g.met.L.TreeLog.quiet_joins c.args.log.now c.worlds.log c.next_met.new.log)
+          c.worlds.invariant.log c.in_ok-table.ensures.log);
+    }
+
+pub returns-in-Cut : goal.returns-in-Cut
+returns-in-Cut g c =
+    let order = c.args.order.now in
+    let valid = c.facts.ensures.built.valid in
+    let some : c.worlds.worlds ≢ Some 0 = λ e. let t = c.is_spent.ensures.1 e in cc in
+    let met : Came c.worlds.search c.next_met.new.search c.worlds.nodes.left c.next_met.new.nodes.left [] × (c.next_met.new.nodes.left ≡ Some 0) × IsNext c.next_met.new.search c.in-Cut.node =
+    rw c.in-Cut.is at c.in_ok-table.ensures.met in
+    listed_well order (record { count = c.worlds.count; cut = Some c.in-Cut.node })
+    (g.W.Sink.state c.args.out.now) (g.W.Sink.state c.worlds.out) c.args.log.now c.next_met.new.log
+    (put_cut order valid c.worlds.search c.next_met.new.search c.worlds.nodes.left c.next_met.new.nodes.left c.worlds.worlds c.in-Cut.node (g.W.Sink.state c.args.out.now).bytes (g.W.Sink.state c.worlds.out).bytes c.worlds.count
+    c.worlds.invariant.problem c.worlds.invariant.from some c.worlds.invariant.put met.0 met.1 met.2)
+    (told_to order.problem order.start (g.L.TreeLog.lines c.args.log.now) (g.L.TreeLog.lines c.worlds.log) (g.L.TreeLog.lines c.next_met.new.log) c.worlds.asker c.next_met.new.asker c.worlds.search.expects c.next_met.new.search.expects (Some c.in-Cut.node)
+    c.worlds.invariant.kept c.in_ok-table.ensures.told
+    (subst (λ from. KeepsOn order.problem from (g.L.TreeLog.lines c.worlds.log) (g.L.TreeLog.lines c.next_met.new.log) c.worlds.asker c.next_met.new.asker c.worlds.search.expects c.next_met.new.search.expects) c.worlds.invariant.from
+    c.in_ok-table.ensures.keeps)
+    c.in_ok-table.ensures.none_waits (rw c.in-Cut.is at c.in_ok-table.ensures.at))
+    c.worlds.invariant.faults
+    (log_ok_as _ _ c.args.log.now c.next_met.new.log
+    (log_twice _ _ c.args.log.now c.worlds.log c.next_met.new.log (g.met.L.TreeLog.steady_joins c.args.log.now c.worlds.log c.next_met.new.log) (g.met.L.TreeLog.quiet_joins c.args.log.now c.worlds.log c.next_met.new.log)
+    c.worlds.invariant.log c.in_ok-table.ensures.log))
+
+pub returns-in-End : goal.returns-in-End
+returns-in-End g c =
+    let order = c.args.order.now in
+    let valid = c.facts.ensures.built.valid in
+    let some : c.worlds.worlds ≢ Some 0 = λ e. let t = c.is_spent.ensures.1 e in cc in
+    let met : Came c.worlds.search c.next_met.new.search c.worlds.nodes.left c.next_met.new.nodes.left [] × (c.next_met.new.search.at ≡ None) =
+    rw c.in-End.is at c.in_ok-table.ensures.met in
+    listed_well order (record { count = c.worlds.count; cut = None })
+    (g.W.Sink.state c.args.out.now) (g.W.Sink.state c.worlds.out) c.args.log.now c.next_met.new.log
+    (put_end_met order valid c.worlds.search c.next_met.new.search c.worlds.nodes.left c.next_met.new.nodes.left c.worlds.worlds (g.W.Sink.state c.args.out.now).bytes (g.W.Sink.state c.worlds.out).bytes c.worlds.count
+    c.worlds.invariant.problem some c.worlds.invariant.put met.0 met.1)
+    (told_to order.problem order.start (g.L.TreeLog.lines c.args.log.now) (g.L.TreeLog.lines c.worlds.log) (g.L.TreeLog.lines c.next_met.new.log) c.worlds.asker c.next_met.new.asker c.worlds.search.expects c.next_met.new.search.expects None
+    c.worlds.invariant.kept c.in_ok-table.ensures.told
+    (subst (λ from. KeepsOn order.problem from (g.L.TreeLog.lines c.worlds.log) (g.L.TreeLog.lines c.next_met.new.log) c.worlds.asker c.next_met.new.asker c.worlds.search.expects c.next_met.new.search.expects) c.worlds.invariant.from
+    c.in_ok-table.ensures.keeps)
+    c.in_ok-table.ensures.none_waits (rw c.in-End.is at c.in_ok-table.ensures.at))
+    c.worlds.invariant.faults
+    (log_ok_as _ _ c.args.log.now c.next_met.new.log
+    (log_twice _ _ c.args.log.now c.worlds.log c.next_met.new.log (g.met.L.TreeLog.steady_joins c.args.log.now c.worlds.log c.next_met.new.log) (g.met.L.TreeLog.quiet_joins c.args.log.now c.worlds.log c.next_met.new.log)
+    c.worlds.invariant.log c.in_ok-table.ensures.log))
+
+pub returns-in_err-cut : goal.returns-in_err-cut
+returns-in_err-cut g c =
+    log_refused _ _ c.from_residual-in_err-cut.result c.args.order.now
+    (g.W.Sink.state c.args.out.now) (g.W.Sink.state c.worlds.out) c.args.log.now c.put_stop.new.log
+    c.from_residual-in_err-cut.ensures.1
+    (partly_so_far c.args.order.now c.facts.ensures.built.valid c.worlds.search.at (g.W.Sink.state c.args.out.now).bytes (g.W.Sink.state c.worlds.out).bytes c.worlds.count c.worlds.nodes.left c.worlds.worlds
+    c.worlds.invariant.put)
+    c.worlds.invariant.faults
+    (log_twice _ _ c.args.log.now c.worlds.log c.put_stop.new.log (g.met.L.TreeLog.steady_joins c.args.log.now c.worlds.log c.put_stop.new.log) (g.met.L.TreeLog.quiet_joins c.args.log.now c.worlds.log c.put_stop.new.log)
+    c.worlds.invariant.log c.in_err-cut.ensures.log)
+
+pub returns : goal.returns
+returns g c =
+    let order = c.args.order.now in
+    listed_well order (record { count = c.worlds.count; cut = c.in_ok-cut.cut })
+    (g.W.Sink.state c.args.out.now) (g.W.Sink.state c.worlds.out) c.args.log.now c.put_stop.new.log
+    (put_stopped order c.worlds.search c.put_stop.new.search c.worlds.nodes.left c.worlds.worlds c.in_ok-cut.cut (g.W.Sink.state c.args.out.now).bytes (g.W.Sink.state c.worlds.out).bytes c.worlds.count
+    c.worlds.invariant.problem c.worlds.invariant.from (c.is_spent.ensures.0 (search rules)) c.worlds.invariant.put c.in_ok-cut.ensures.stop)
+    (told_to order.problem order.start (g.L.TreeLog.lines c.args.log.now) (g.L.TreeLog.lines c.worlds.log) (g.L.TreeLog.lines c.put_stop.new.log) c.worlds.asker c.put_stop.new.asker c.worlds.search.expects c.put_stop.new.search.expects c.in_ok-cut.cut
+    c.worlds.invariant.kept c.in_ok-cut.ensures.told
+    (subst (λ from. KeepsOn order.problem from (g.L.TreeLog.lines c.worlds.log) (g.L.TreeLog.lines c.put_stop.new.log) c.worlds.asker c.put_stop.new.asker c.worlds.search.expects c.put_stop.new.search.expects) c.worlds.invariant.from
+    c.in_ok-cut.ensures.keeps)
+    c.in_ok-cut.ensures.none_waits c.in_ok-cut.ensures.at)
+    c.worlds.invariant.faults
+    (log_ok_as _ _ c.args.log.now c.put_stop.new.log
+    (log_twice _ _ c.args.log.now c.worlds.log c.put_stop.new.log (g.met.L.TreeLog.steady_joins c.args.log.now c.worlds.log c.put_stop.new.log) (g.met.L.TreeLog.quiet_joins c.args.log.now c.worlds.log c.put_stop.new.log)
+    c.worlds.invariant.log c.in_ok-cut.ensures.log))

@@ -1,0 +1,59 @@
+-- What a listing leaves in a log and in the file of a certificate.
+use Rattle.std.specs.Prelude.{◌≡◌, ◌≤◌, ℕ, List, Option, Some, None, IfSome, IfOk, OnErr, Result, ◌⊎◌, ⊤}
+use Rattle.std.specs.Option.{option_to_list}
+use Rattle.outer_store.specs.Contents.{Contents}
+use Rattle.outer_store.specs.Faults.{Rose, IfFailed}
+use Rattle.outer_store.specs.declared.fault.StoreFault.{StoreFault}
+use Rattle.rcc5_core.specs.declared.Rel.{Rel}
+use Rattle.world_model.specs.Problem.{Problem}
+use Rattle.world_model.specs.Listing.{IsListing}
+use Rattle.cert_text.specs.Logs.{Told}
+use Rattle.outer_store.specs.States.{StoreState, SinkState, IsQuiet}
+use Rattle.run_ends.specs.Runs.{AreKeptBut, IsWriteCause}
+use Rattle.listing_run.specs.declared.listing.Listed.{Listed}
+use Rattle.listing_run.specs.declared.listing.Met.{Met}
+use Rattle.listing_run.specs.declared.listing.Met.TheVariants as met
+use Rattle.listing_run.specs.declared.Order.{Order}
+use Rattle.listing_run.specs.Certs.{IsCertOf}
+use Rattle.listing_run.specs.Putting.{IsPutToCut, IsPutPartly}
+
+-- what a step leaves of a log: a failure only where its count rose, and else no count that moved
+pub record LogMoves {L T : Type 0} (faults : L → ℕ) (steady quiet : L → L → Type 0) (result : Result T StoreFault) (old new : L) : Type 0 where
+  pub cause : IfFailed result (Rose (faults old) (faults new)) ((faults new ≡ faults old) × quiet old new)
+  pub comes : steady old new
+
+-- the place at which a search that is logged stands, by what it met
+abbrev pub MetAt : Met → Option (List Rel) → Type 0
+MetAt (met.World table) at = ⊤
+MetAt (met.Cut node) at = at ≡ Some node
+MetAt met.End at = at ≡ None
+
+-- a put failed and no call of the log, or a call of the log and no put
+abbrev pub IsEitherFailed : {L : Type 0} → (L → ℕ) → (L → L → Type 0) → SinkState → SinkState → L → L → Type 0
+IsEitherFailed faults quiet sink sink' old new =
+    (Rose sink.faults sink'.faults × quiet old new) ⊎ (Rose (faults old) (faults new) × (sink'.faults ≡ sink.faults))
+
+-- what a listing leaves on a sink and in a log: a line for each world up to the cut, or after a fault a first part of its text, and
+-- what is told of the log then; and which calls failed
+pub record IsListedIn {L : Type 0} (lines : L → Told) (faults : L → ℕ) (steady quiet : L → L → Type 0) (IsTold : Option (List Rel) → Told → Type 0)
+    (order : Order) (result : Result Listed StoreFault) (sink sink' : SinkState) (old new : L) : Type 0 where
+  pub ok : IfOk result (λ listed. IsPutToCut order sink.bytes sink'.bytes listed.cut listed.count)
+  pub err : OnErr result (IsPutPartly order sink.bytes sink'.bytes)
+  pub told : IfOk result (λ listed. IsTold listed.cut (lines new))
+  pub cause : IfFailed result (IsEitherFailed faults quiet sink sink' old new) ((sink'.faults ≡ sink.faults) × (faults new ≡ faults old) × quiet old new)
+  pub later : sink.faults ≤ sink'.faults
+  pub comes : steady old new
+
+-- a name that told its bytes tells the certificate of a listing
+abbrev pub IsCertLeft : Problem → List Rel → Option (List Rel) → Option (List ℕ) → Contents → Contents → Type 0
+IsCertLeft p from to None held held' = ⊤
+IsCertLeft p from to (Some name) held held' =
+    IfSome (held name) (λ _. (bytes : List ℕ) × (held' name ≡ Some bytes) × ((worlds : List (List Rel)) → IsListing p from to worlds → IsCertOf p from to worlds bytes))
+
+-- what a listing leaves on a sink and in a store, with the name of its certificate, if there is one
+pub record IsListedWith (order : Order) (cert : Option (List ℕ)) (result : Result Listed StoreFault) (store store' : StoreState) (sink sink' : SinkState) : Type 0 where
+  pub ok : IfOk result (λ listed. IsPutToCut order sink.bytes sink'.bytes listed.cut listed.count)
+  pub err : OnErr result (IsPutPartly order sink.bytes sink'.bytes)
+  pub left : IfOk result (λ listed. IsCertLeft order.problem order.start listed.cut cert store.held store'.held)
+  pub kept : AreKeptBut (option_to_list cert) store.held store'.held
+  pub cause : IfFailed result (IsWriteCause (option_to_list cert) store store' sink sink') (IsQuiet store store' × (sink'.faults ≡ sink.faults))

@@ -1,0 +1,99 @@
+-- What a listing answers.
+use Rattle.std.specs.Prelude.{◌≡◌, ℕ, List, [], ◌∷◌, ◌++◌, flat_map, Option, Some, None, IfSome, option_map, Result, Ok, Err, codes, decimal}
+use Rattle.std.specs.Option.{option_to_list}
+use Rattle.outer_store.specs.Contents.{Contents}
+use Rattle.rcc5_core.specs.declared.Rel.{Rel}
+use Rattle.world_model.specs.Problem.{Problem}
+use Rattle.world_model.specs.Listing.{IsListing}
+use Rattle.world_model.specs.Node.{IsCut}
+use Rattle.cleantax_text.specs.declared.TextKind.{TextKind}
+use Rattle.cleantax_text.specs.Reading.{text_result}
+use Rattle.resume_token.specs.declared.TokenKind.{TokenKind}
+use Rattle.resume_token.specs.Token.{token_text, token_result}
+use Rattle.world_watch.specs.Held.{count_of}
+use Rattle.run_ends.specs.declared.Status.{Status}
+use Rattle.run_ends.specs.declared.Status.TheVariants.{Done, RefusedText, Cut, NoWorld, RefusedToken}
+use Rattle.run_ends.specs.Ends.{line_of, world_line, complete_line, end_line}
+use Rattle.run_ends.specs.Reads.{AreHeld}
+use Rattle.run_ends.specs.Runs.{File, Names}
+use Rattle.run_ends.specs.Runs.{file_under}
+use Rattle.listing_run.specs.declared.Asking.{Asking}
+use Rattle.listing_run.specs.declared.Order.{Order}
+use Rattle.listing_run.specs.Certs.{IsCertOf}
+
+-- the last line of a listing of so many worlds that stopped before its end
+abbrev pub cut_line : ℕ → List ℕ
+cut_line count = line_of (codes "cut " ++ decimal count)
+
+-- the last line of a listing, by where it stopped
+abbrev pub last_line : Option (List Rel) → ℕ → List ℕ
+last_line None count = complete_line count
+last_line (Some cut) count = cut_line count
+
+-- the text of a listing: a line for each world, and how many they are
+abbrev pub listing_text : Option (List Rel) → List (List Rel) → List ℕ
+listing_text cut worlds = flat_map world_line worlds ++ last_line cut (count_of worlds)
+
+-- a good end: where the listing was cut; NoWorld where it began at the empty position and there is no world
+abbrev pub listing_status : List Rel → Option (List Rel) → List (List Rel) → Status
+listing_status start (Some cut) worlds = Cut cut
+listing_status [] None [] = NoWorld
+listing_status [] None (world ∷ worlds) = Done
+listing_status (rel ∷ rels) None worlds = Done
+
+-- the token of a cut under its name, told where the name tells its bytes
+abbrev pub token_under : Problem → Option (List ℕ) → Option (List Rel) → Contents → List File
+token_under p None cut held = []
+token_under p (Some name) None held = []
+token_under p (Some name) (Some cut) held = record { name = name; bytes = option_map (λ _. token_text p cut) (held name) } ∷ []
+
+-- the listing up to the cut is what is put; the token of the cut is what is written, and its certificate, under a name that told its bytes
+pub record IsListed (order : Order) (cert token : Option (List ℕ)) (held : Contents) (status : Status) (text : List ℕ) (files : List File) : Type 0 where
+  pub cut : Option (List Rel)
+  pub cut_is : IsCut order.problem order.start order.nodes order.worlds cut
+  pub worlds : List (List Rel)
+  pub exactly : IsListing order.problem order.start cut worlds
+  pub put : text ≡ listing_text cut worlds
+  pub ended : status ≡ listing_status order.start cut worlds
+  pub bytes : Option (List ℕ)
+  pub certified : IfSome cert (λ name. IfSome (held name) (λ _. IfSome bytes (IsCertOf order.problem order.start cut worlds)))
+  pub written : files ≡ file_under cert bytes ++ token_under order.problem token cut held
+
+-- the start of a listing: the position of the token, if one is given, and else the empty one
+abbrev pub start_of : Problem → Option (List ℕ) → Result (List Rel) TokenKind
+start_of p None = Ok []
+start_of p (Some token) = token_result p token
+
+-- an order from a problem's start, or how a run ends whose token is refused
+abbrev pub order_from : Problem → Option ℕ → Option ℕ → Result (List Rel) TokenKind → Result Order Status
+order_from p nodes worlds (Ok start) = Ok (record { problem = p; start = start; nodes = nodes; worlds = worlds })
+order_from p nodes worlds (Err kind) = Err (RefusedToken kind)
+
+-- an order from a text and a token, or how a run ends whose text is refused
+abbrev pub order_by : Result Problem (ℕ × TextKind) → Option ℕ → Option ℕ → Option (List ℕ) → Result Order Status
+order_by (Ok p) nodes worlds token = order_from p nodes worlds (start_of p token)
+order_by (Err fault) nodes worlds token = Err (RefusedText fault.0 fault.1)
+
+-- what comes of an order: its listing; and of a refusal: its last line
+abbrev pub IsOrderAnswer : Result Order Status → Option (List ℕ) → Option (List ℕ) → Contents → Status → List ℕ → List File → Type 0
+IsOrderAnswer (Ok order) cert token held status text files = IsListed order cert token held status text files
+IsOrderAnswer (Err refusal) cert token held status text files = (status ≡ refusal) × (text ≡ end_line refusal) × (files ≡ [])
+
+-- what a listing comes to that is asked for: an order, or how the run ends that is refused, where its names hold what the store tells
+pub record ComesTo (asking : Asking) (held : Contents) (outcome : Result Order Status) : Type 0 where
+  pub bytes : List ℕ → List ℕ
+  pub told : AreHeld bytes held
+  pub is : order_by (text_result (bytes asking.input) asking.switches) asking.nodes asking.worlds (option_map bytes asking.resume) ≡ outcome
+
+-- the answers to it
+pub record IsListingAnswer (asking : Asking) (held : Contents) (status : Status) (text : List ℕ) (files : List File) : Type 0 where
+  pub outcome : Result Order Status
+  pub comes : ComesTo asking held outcome
+  pub answer : IsOrderAnswer outcome asking.cert asking.token held status text files
+
+-- the names that a listing reads and writes
+abbrev pub written_names : Option (List ℕ) → Option (List ℕ) → List (List ℕ)
+written_names cert token = option_to_list cert ++ option_to_list token
+
+abbrev pub listing_names : Asking → Names
+listing_names asking = record { read = asking.input ∷ option_to_list asking.resume; written = written_names asking.cert asking.token }

@@ -1,0 +1,158 @@
+//! An order carried out: its listing, the token of its cut, and the last line.
+ghost use Rattle.std.specs.Prelude.{◌≡◌, ◌≤◌, ◌++◌, [], ◌∷◌, length, None, Some, option_map, string_bytes, IfOk, IfNone, OnOk};
+ghost use Rattle.outer_store.specs.Bytes.{GrownInPart, added};
+ghost use Rattle.outer_store.specs.Contents.{OthersKept};
+ghost use Rattle.outer_store.specs.Faults.{Rose, IfFailed};
+ghost use Rattle.world_model.specs.Problem.{pair_count};
+ghost use Rattle.world_model.specs.Node.{IsCut};
+ghost use Rattle.constraint_set.specs.Facts.{IsAsRead};
+ghost use Rattle.resume_token.specs.Token.{token_text};
+ghost use Rattle.listing_run.specs.Output.{cut_line, written_names};
+ghost use Rattle.run_ends.specs.Ends.{complete_line};
+ghost use Rattle.outer_store.specs.States.{IsQuiet};
+ghost use Rattle.run_ends.specs.Runs.{LeavesPiece, IsCarriedOut};
+ghost use Rattle.listing_run.specs.Steps.{status_at, IsReady, IsCutEnded, IsEnded, order_answers};
+
+use crate::Order;
+use crate::certified::put_listing;
+use crate::listing::Listed;
+use command_line::Word;
+use constraint_set::Problem;
+use outer_store::{Sink, Store, StoreFault};
+use rcc5_core::Position;
+use resume_token::print_token;
+use run_ends::{Status, put_line};
+use std::alloc::{AllocError, Global};
+
+fn complete_words(alloc: Global, count: u64) -> Result<String, AllocError>
+    ensures { IfOk result (λ words. string_bytes words ++ 10 ∷ [] ≡ complete_line count) }
+{
+    format!(in alloc; "complete {count}")
+}
+
+fn cut_words(alloc: Global, count: u64) -> Result<String, AllocError>
+    ensures { IfOk result (λ words. string_bytes words ++ 10 ∷ [] ≡ cut_line count) }
+{
+    format!(in alloc; "cut {count}")
+}
+
+// How a whole listing of so many worlds ends.
+fn whole_status(start: &Position, count: u64) -> Status
+    ensures { result ≡ status_at start.now None count }
+{
+    if start.is_empty() && count == 0 {
+        Status::NoWorld
+    } else {
+        Status::Done
+    }
+}
+
+// Puts the last line of a whole listing.
+fn end_whole<W: Sink>(
+    alloc: Global,
+    out: &mut W,
+    start: &Position,
+    count: u64,
+) -> Result<Status, StoreFault>
+    ensures ended { IfOk result (λ status. status ≡ status_at start.now None count) }
+    ensures put { LeavesPiece result (complete_line count) (W.state out.old) (W.state out.new) }
+{
+    let words = complete_words(alloc, count)?;
+    put_line(alloc, out, words.as_bytes())?;
+    Ok(whole_status(start, count))
+}
+
+// Makes a name hold these bytes alone.
+#[tactic(auto, using(crate::proofs::CarryLemmas::write_rules))]
+fn write_file<S: Store>(store: &mut S, name: &str, bytes: &[u8]) -> Result<(), StoreFault>
+    ensures ok { OnOk result ((S.state store.new).held name.now ≡ option_map (λ _. bytes.now) ((S.state store.old).held name.now)) }
+    ensures others { OthersKept name.now (S.state store.old).held (S.state store.new).held }
+    ensures cause { IfFailed result (Rose ((S.state store.old).writes name.now) ((S.state store.new).writes name.now)) (IsQuiet (S.state store.old) (S.state store.new)) }
+{
+    store.create(name)?;
+    store.append(name, bytes)
+}
+
+// Writes the token of a position.
+fn write_token<S: Store>(
+    alloc: Global,
+    store: &mut S,
+    name: &str,
+    problem: &Problem,
+    position: &Position,
+) -> Result<(), StoreFault>
+    requires problem { IsAsRead problem.now }
+    requires position { length position.now ≤ pair_count problem.now }
+    ensures ok { OnOk result ((S.state store.new).held name.now ≡ option_map (λ _. token_text problem.now position.now) ((S.state store.old).held name.now)) }
+    ensures others { OthersKept name.now (S.state store.old).held (S.state store.new).held }
+    ensures cause { IfFailed result (Rose ((S.state store.old).writes name.now) ((S.state store.new).writes name.now)) (IsQuiet (S.state store.old) (S.state store.new)) }
+{
+    let token = print_token(alloc, problem, position)?;
+    write_file(store, name, &token)
+}
+
+// Writes the token of a cut, and then puts the last line.
+fn end_cut<S: Store, W: Sink>(
+    alloc: Global,
+    store: &mut S,
+    out: &mut W,
+    problem: &Problem,
+    name: &str,
+    cut: Position,
+    count: u64,
+) -> Result<Status, StoreFault>
+    requires problem { IsAsRead problem.now }
+    requires cut { length cut ≤ pair_count problem.now }
+    ensures { IsCutEnded result problem.now cut count name.now (S.state store.old) (S.state store.new) (W.state out.old) (W.state out.new) }
+{
+    write_token(alloc, store, name, problem, &cut)?;
+    let words = cut_words(alloc, count)?;
+    put_line(alloc, out, words.as_bytes())?;
+    Ok(Status::Cut(cut))
+}
+
+// Ends a listing, by whether it was cut. One that was has a limit, and so a name for its token.
+fn end_listing<S: Store, W: Sink>(
+    alloc: Global,
+    store: &mut S,
+    out: &mut W,
+    order: &Order,
+    token: &Option<Word>,
+    listed: Listed,
+) -> Result<Status, StoreFault>
+    requires limited { IfNone token.now ((order.now.nodes ≡ None) × (order.now.worlds ≡ None)) }
+    requires as_read { IsAsRead order.now.problem }
+    requires cut { IsCut order.now.problem order.now.start order.now.nodes order.now.worlds listed.cut }
+    ensures { IsEnded result order.now listed.cut listed.count token.now (S.state store.old) (S.state store.new) (W.state out.old) (W.state out.new) }
+{
+    match (listed.cut, token) {
+        (None, _) => end_whole(alloc, out, &order.start, listed.count),
+        (Some(cut), Some(name)) => end_cut(
+            alloc,
+            store,
+            out,
+            &order.problem,
+            name.text(),
+            cut,
+            listed.count,
+        ),
+        (Some(_), None) => unreachable!(),
+    }
+}
+
+/// Puts the listing of an order and writes its certificate, if one is asked for; then writes the token of its cut, if there is
+/// one, and puts the last line.
+pub(crate) fn carry_out<S: Store, W: Sink>(
+    alloc: Global,
+    store: &mut S,
+    out: &mut W,
+    order: &Order,
+    cert: &Option<Word>,
+    token: &Option<Word>,
+) -> Result<Status, StoreFault>
+    requires { IsReady order.now cert.now token.now }
+    ensures { IsCarriedOut (order_answers order.now cert.now token.now) result (written_names cert.now token.now) (S.state store.old) (S.state store.new) (W.state out.old) (W.state out.new) }
+{
+    let listed = put_listing(alloc, store, out, order, cert)?;
+    end_listing(alloc, store, out, order, token, listed)
+}
