@@ -8,14 +8,12 @@ screenshots are kept, for people to look at.
 """
 
 import argparse
-import importlib.util
 import json
 import os
 import re
 import shutil
 import subprocess
 import sys
-import tempfile
 import unittest
 from html import unescape
 
@@ -26,49 +24,10 @@ sys.path[:0] = [os.path.join(ROOT, "tools"), HERE]
 import browser  # noqa: E402
 import taxa  # noqa: E402
 from page_parts import worlds  # noqa: E402
-
-# by its file, since the tools may have a module of this name too
-SPEC = importlib.util.spec_from_file_location("bench_problems", os.path.join(ROOT, "bench/problems.py"))
-problems = importlib.util.module_from_spec(SPEC)
-SPEC.loader.exec_module(problems)
+from page_problems import FOLDER, example, pages, problems, wrong, written  # noqa: E402
 
 PROGRAM = os.path.join(ROOT, "crates/euler_align/out/euler_align")
 PICTURES = None
-FOLDER = tempfile.mkdtemp(prefix="euler_align_page_test_")
-ODD = """taxonomy a<b Left & "right"
-(R&D <script> "x" שלום 'y')
-taxonomy 2 </title>
-(Root <b>bold</b> &amp; עולם z)
-articulation
-[a<b.R&D equals 2.Root]   # said by <i>Ana</i> & "Ben"
-[a<b.<script> {equals includes} 2.<b>bold</b>]
-[a<b.שלום {equals includes} 2.עולם]
-"""
-
-
-LONG = "taxonomy {1}\n({0}a {0}b {0}c)\ntaxonomy z\n(Z{0} x{0} w{0})\narticulation\n[{1}.{0}a equals z.Z{0}]\n".format("N" * 120, "t" * 120)
-
-
-def example(name):
-    return os.path.join(ROOT, "examples", name)
-
-
-def written(name, text):
-    path = os.path.join(FOLDER, name)
-    with open(path, "w", encoding="utf-8") as file:
-        file.write(text)
-    return path
-
-
-def wrong():
-    with open(example("furniture.txt"), encoding="utf-8") as file:
-        return written("wrong.txt", file.read() + "[2023.Bench disjoint 2024.Wooden]\n")
-
-
-def large():
-    return written("large.txt", "\n".join(problems.generated(7, 512)) + "\n")
-
-
 MADE = {}
 
 
@@ -97,23 +56,6 @@ def plain(text):
     text = re.sub(r"<(script|style)\b.*?</\1>", " ", text, flags=re.S)
     text = re.sub(r"<[^>]*>", " ", text)
     return re.sub(r"\s+", " ", unescape(text))
-
-
-def pages():
-    return {
-        "furniture": (example("furniture.txt"),),
-        "genus": (example("genus.txt"),),
-        "catalogue": (example("catalogue.txt"),),
-        "conflict": (wrong(),),
-        "odd names": (written("odd.txt", ODD),),
-        "no statements": (example("five_answers.txt"),),
-        "a sum": (example("sum.txt"),),
-        "one world, a rule off": (example("one_world.txt"), "coverage=off"),
-        "too many worlds": (written("loose.txt", "\n".join(problems.loose(3, 1)) + "\n"), "--worlds", "20"),
-        "256 beside 256": (large(),),
-        "a taxonomy without concepts": (written("with blank.txt", "taxonomy a\ntaxonomy z\n(Z y x)\n"),),
-        "long names": (written("long.txt", LONG),),
-    }
 
 
 class Pages(unittest.TestCase):
@@ -150,7 +92,7 @@ class Pages(unittest.TestCase):
             "nonempty=off (concepts may be empty) would not end it",
         )
         # the line in the file, and not the number of the statement
-        self.assertTrue(re.search(r'<td class="num"><a [^>]*>18</a></td><td class="stated"><code><bdi>\[2023\.Sofa \{equals includes\}', text_of(wrong())))
+        self.assertTrue(re.search(r'<td class="num"><a [^>]*>18</a></td><td class="stated"><code><bdi dir="ltr">\[2023\.Sofa \{equals includes\}', text_of(wrong())))
 
     def test_independent_questions(self):
         path = written("three.txt", "\n".join(problems.loose(3, 1)) + "\n")
@@ -170,7 +112,7 @@ class Pages(unittest.TestCase):
         for words in ("<b>bold", "<i>Ana", "</title> Root"):
             self.assertFalse(words in text, words)
         self.assertEqual(text.count("<script"), 2)
-        for words in ("&lt;b&gt;bold&lt;/b&gt;", '<bdi class="cn">שלום</bdi>', "&amp;amp;", "said by &lt;i&gt;Ana&lt;/i&gt;"):
+        for words in ("&lt;b&gt;bold&lt;/b&gt;", '<bdi class="cn">שלום</bdi>', "&amp;amp;", "said by &lt;i&gt;Ana&lt;/i&gt;", '<code><bdi dir="ltr">[a&lt;b.שלום {equals'):
             self.assertTrue(words in text, words)
 
     def test_they_need_nothing_else(self):
@@ -195,13 +137,14 @@ class Pages(unittest.TestCase):
             self.assertTrue("Graphviz isn't installed" in plain(done.stdout.decode()), done.stderr.decode())
             self.assertFalse("<svg" in done.stdout.decode())
 
-    def slow(self, command, *words):
-        """A page by a program that takes very long for one command."""
-        text = f"import os, sys, time\nif sys.argv[1] == {command!r}:\n    time.sleep(60)\nos.execv({PROGRAM!r}, [{PROGRAM!r}, *sys.argv[1:]])\n"
+    def slow(self, command, *words, switch="", problem=example("genus.txt")):
+        """A page by a program that takes very long for one command, or for this one with a switch."""
+        is_slow = f"sys.argv[1] == {command!r} and {switch!r} in [*sys.argv, '']"
+        text = f"import os, sys, time\nif {is_slow}:\n    time.sleep(60)\nos.execv({PROGRAM!r}, [{PROGRAM!r}, *sys.argv[1:]])\n"
         path = written(f"slow_{command}", f"#!{sys.executable}\n{text}")
         os.chmod(path, 0o755)
         environment = dict(os.environ, EULER_ALIGN=path)
-        tool = [sys.executable, os.path.join(ROOT, "tools/page"), example("genus.txt"), "--seconds", "3", "--extra", "1", *words]
+        tool = [sys.executable, os.path.join(ROOT, "tools/page"), problem, "--seconds", "3", "--extra", "1", *words]
         done = subprocess.run(tool, capture_output=True, env=environment, check=False)
         self.assertEqual((done.returncode, done.stderr.decode()), (0, ""))
         return plain(done.stdout.decode())
@@ -215,6 +158,16 @@ class Pages(unittest.TestCase):
         read = self.slow("mir", "--worlds", "1")
         self.assertTrue("more may be possible" in read and "33 of 36" not in read)
         self.assertTrue("2 possible worlds" in self.slow("report"))
+
+    def test_without_time_to_try(self):
+        read = plain(run_page(pages()["too many worlds"][0], "--worlds", "20", "--extra", "0"))
+        self.assertRegex(read, r"There was no time to try [\d,]+ open pairs; more is given by --extra SECONDS")
+
+    def test_a_switch_whose_worlds_are_slow_to_list(self):
+        read = self.slow("align", "--extra", "5", switch="coverage=off", problem=wrong())
+        self.assertTrue("coverage=off (a parent may have something beside its children) would end it: 1 world or more" in read, read)
+        read = self.slow("align", "--extra", "5", switch="nonempty=off", problem=wrong())
+        self.assertTrue("nonempty=off (concepts may be empty) would not end it" in read, read)
 
     def test_what_is_refused(self):
         with open(example("furniture.txt"), encoding="utf-8") as file:
@@ -290,6 +243,15 @@ class InABrowser(unittest.TestCase):
         self.assertEqual(self.page.value("[rows.shown.length, columns.shown.length]"), [4, 4])
         self.page.value("document.getElementById('next').click()")
         self.assertIn("equals or includes", self.told())
+
+    def test_names_that_are_cut(self):
+        self.open("paths")
+        cut = lambda name, most: self.page.value(f"(() => {{ pen.font = `13px ${{FONT}}`; return clip({name!r}, {most}, rows.all); }})()")
+        one, other = (cut(f"Tools > Accessories > Drills > {end}", 130) for end in ("Wood", "Steel"))
+        self.assertTrue(one.startswith("Tools") and "…" in one and one.endswith("Wood"), one)
+        self.assertTrue(other.startswith("Tools") and "…" in other and other.endswith("Steel"), other)
+        self.assertRegex(cut("Garden furniture and all that goes with it", 130), "^Garden fur.*…$")
+        self.assertEqual(cut("Goods", 130), "Goods")
 
     def test_mouse(self):
         self.open("furniture")

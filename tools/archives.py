@@ -10,7 +10,7 @@ from tables import Fault, Reader, Row, Table, Value, decoded, end_of, read_bytes
 
 SPACE = "{http://rs.tdwg.org/dwc/text/}"
 MOST_BYTES = 1 << 30  # more than any table that is read; a damaged archive may promise anything
-PLAIN = ("taxon.txt", "Taxon.tsv", "taxon.tsv", "Taxon.txt", "taxon.csv", "taxa.txt")
+PLAIN = ("taxon.txt", "taxon.tsv", "taxon.csv", "taxa.txt", "taxa.tsv", "taxa.csv")  # whatever the case of their letters
 WORKBOOKS = {"[Content_Types].xml", "content.xml"}  # what Excel's and LibreOffice's have in them
 ESCAPES = {"\\t": "\t", "\\n": "\n", "\\r": "\r"}
 
@@ -29,12 +29,17 @@ class Archive:
                 self.zip = zipfile.ZipFile(file)
             found = self.zip.namelist() if self.zip else os.listdir(file)
         except (OSError, zipfile.BadZipFile) as error:
-            raise Fault(f"{file}: this archive can't be read: {getattr(error, 'strerror', None) or error}")
+            why = getattr(error, "strerror", None) or f"{error}; fetch it once more, or give the table in it"
+            raise Fault(f"{file}: this archive can't be read: {why}")
         self.members = {name.rsplit("/", 1)[-1]: name for name in reversed(found)}
+
+    def names(self):
+        """The names of some files, in words for a fault."""
+        return ", ".join(sorted(name for name in self.members if name)[:8]) or "nothing"
 
     def read(self, name):
         if name not in self.members:
-            raise Fault(f"{self.file}: the archive has no {name}")
+            raise Fault(f"{self.file}: the archive has no {name}, which meta.xml names, but {self.names()}")
         try:
             if not self.zip:
                 return read_bytes(os.path.join(self.file, name))
@@ -96,11 +101,12 @@ def read_archive(file, layout):
     """The core table of an archive; without `meta.xml`, its taxon.txt as any table."""
     archive = Archive(file)
     if "meta.xml" not in archive.members:
-        plain = next((name for name in PLAIN if name in archive.members), None)
+        lower = {name.lower(): name for name in archive.members}
+        plain = next((lower[name] for name in PLAIN if name in lower), None)
         if WORKBOOKS & set(archive.members):
             raise Fault(f"{file}: this is a workbook; save each of its tables as CSV")
         if plain is None:
-            raise Fault(f"{file}: the archive has neither meta.xml nor taxon.txt")
+            raise Fault(f"{file}: the archive has neither meta.xml nor taxon.txt, but {archive.names()}; give the table of taxa itself, unpacked")
         place = f"{file}/{plain}"
         return table_of(decoded(archive.read(plain), place, layout.encoding), place, layout, ("taxonID", "scientificName"))
     core = core_of(archive.read("meta.xml"), file)

@@ -71,11 +71,20 @@ def meanings_with(changes):
     """The table of meanings with what the caller says, each as `PREDICATE=RELATIONS`."""
     table = dict(MEANINGS)
     for change in changes:
-        predicate, equals, relations = change.partition("=")
-        if not equals or not predicate.strip():
-            raise Fault(f"{change!r} is not PREDICATE=RELATIONS")
-        table[short(predicate)] = relations_of(relations)
+        predicate, relations = change_of(change)
+        table[short(predicate)] = relations
     return table
+
+
+def change_of(change):
+    """The two sides of `PREDICATE=RELATIONS`; the predicate may be words of somebody's own that have a `=` too, like `= or <`."""
+    fault = Fault(f"{change!r} is not PREDICATE=RELATIONS")
+    for at in [at for at, letter in enumerate(change) if letter == "=" and change[:at].strip()]:
+        try:
+            return change[:at], relations_of(change[at + 1 :])
+        except Fault as found:
+            fault = found
+    raise fault
 
 
 def in_words(relations):

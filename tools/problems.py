@@ -17,15 +17,16 @@ class Options:
     def __init__(self, tool, words, taxonomies):
         self.tool, self.notes, self.left_out = tool, [], {}
         given = lambda name, usual: getattr(words, name, usual)
-        self.layout, self.separator = Layout(), given("path_separator", ">")
+        self.layout, self.separators = Layout(), separators_of(given("path_separator", None) or [], taxonomies)
         self.apart, self.loose, self.remarks = given("apart", False), given("loose", False), not given("no_comments", False)
         self.meanings = meanings.meanings_with(given("predicate", None) or [])
-        self.under = {}  # for a taxonomy the concepts that are taken, with what is below them
-        for word in given("under", None) or []:
-            name, colon, concept = word.partition(":")
-            if name not in taxonomies or not concept:
-                raise Fault(f"--under: {word!r} is not NAME:CONCEPT with one of the taxonomies {', '.join(taxonomies)}")
-            self.under.setdefault(name, []).append(concept)
+        # for a taxonomy the concepts that are taken, with what is below them
+        self.under = of_taxonomies(given("under", None), "--under", "NAME:CONCEPT", taxonomies)
+
+    def separator(self, taxonomy):
+        """What stands between the names of a path in the table of a taxonomy, and whether the caller said so."""
+        said = self.separators.get(taxonomy, self.separators.get(None))
+        return said or ">", said is not None
 
     def tell(self, note):
         self.notes.append(note)
@@ -38,6 +39,31 @@ class Options:
             self.tell(f"{counted(count, 'statement')} left out for {predicate}" + ("" if predicate == said.NO_TERM else "; --predicate gives it a meaning"))
         for note in self.notes:
             print(f"{self.tool}: note: {note}", file=sys.stderr)
+
+
+def of_taxonomies(words, key, form, taxonomies):
+    """For each taxonomy what stands behind its name and a colon in the words of a key."""
+    out = {}
+    for word in words or []:
+        name, _, rest = word.partition(":")
+        if name not in taxonomies or not rest:
+            raise Fault(f"{key}: {word!r} is not {form} with one of the taxonomies {', '.join(taxonomies)}")
+        out.setdefault(name, []).append(rest)
+    return out
+
+
+def separators_of(words, taxonomies):
+    """What --path-separator says: TEXT for all tables, or NAME:TEXT for that of one taxonomy."""
+    out = {}
+    for word in words:
+        name, _, text = word.partition(":")
+        if name in taxonomies and text:
+            out[name] = text
+        else:
+            out[None] = word
+    if "" in out.values():
+        raise Fault("--path-separator: something must stand between the names of a path")
+    return out
 
 
 def add_words(parser):
@@ -85,21 +111,19 @@ def put(text):
 
 
 def taxonomy_words(words, parser):
-    """What stands as NAME=FILE, and the file of the statements; the parser tells what is wrong."""
-    tables, last = [], {}
+    """What stands as NAME=FILE, and the files of statements, which are called mappings too; the parser tells what is wrong."""
+    tables, files = [], []
     for word in words:
         name, equals, file = word.partition("=")
         if not equals or not file or not name:
-            parser.error(f"{word!r} is not NAME=FILE")
+            parser.error(f"{word!r} is not NAME=FILE; write the name of the taxonomy and = before the file")
         if name not in ("statements", "mappings"):
             tables.append((name, file))
-        elif name in last:
-            parser.error(f"there are two files of {name}")
         else:
-            last[name] = file
+            files.append(file)
     if not 2 <= len(tables) <= MOST_TAXONOMIES:
         parser.error(f"a problem has two to eight taxonomies; these are {len(tables)}")
-    return tables, last
+    return tables, files
 
 
 class Problem:

@@ -5,6 +5,7 @@ import os
 import re
 import subprocess
 import sys
+from xml.sax.saxutils import escape
 
 import meanings
 from tables import Fault, read_bytes, text_of
@@ -47,21 +48,48 @@ def predicate(short):
 
 def form_of(file, data):
     """The form by the end of the name, else by what the file begins with."""
-    end = file.rsplit(".", 1)[-1].lower()
+    end, begin = file.rsplit(".", 1)[-1].lower(), data[:200].lstrip().lower()
+    # JSON-LD may name a context in the network, which this doesn't ask
+    other = "JSON-LD" if end == "jsonld" or begin.startswith(b"{") else "a web page" if begin.startswith((b"<!doctype html", b"<html")) else None
+    if other:
+        raise Fault(f"{file}: this is {other}; Turtle, RDF/XML or N-Triples is wanted")
     if end in FORMS:
         return FORMS[end]
     return "xml" if data.lstrip().startswith(b"<?xml") or b"<rdf:RDF" in data[:4096] else "turtle"
 
 
-def graph_of(file):
-    data = read_bytes(file)
-    text = text_of(data, file, "utf-8")
-    form, graph = form_of(file, data), rdflib.Graph()
-    try:
-        graph.parse(data=text if form != "xml" else data, format=form, publicID="urn:file")
-    except Exception as error:  # each of rdflib's parsers has errors of its own
-        raise Fault(f"{file}{place_of(error, text, form)}")
-    return graph
+class Source:
+    """A file with its graph. Where an address stands in the file is looked up in its text: a graph has no lines."""
+
+    def __init__(self, file):
+        data = read_bytes(file)
+        self.file, self.graph = file, rdflib.Graph()
+        self.form = form_of(file, data)
+        self.text = text_of(data, file, "utf-8", "; save it as UTF-8" if self.form != "xml" else "; save it as UTF-8, and say so in its first line")
+        try:
+            self.graph.parse(data=self.text if self.form != "xml" else data, format=self.form, publicID="urn:file")
+        except Exception as error:  # each of rdflib's parsers has errors of its own
+            raise Fault(f"{file}{place_of(error, self.text, self.form)}")
+        self.prefixes = re.findall(r"(?im)^\s*@?prefix\s+([\w.-]*:)\s*<([^>]*)>", self.text) if self.form in ("turtle", "n3") else []
+
+    def written(self, address):
+        """The ways in which an address may be written in the file."""
+        address = str(address)
+        if self.form == "xml":
+            return [f'"{escape(address)}"']
+        return [f"<{address}>"] + [prefix + address[len(space) :] for prefix, space in self.prefixes if space and address.startswith(space)]
+
+    def place(self, address, as_subject=True):
+        """File, line and column of the first place at which something is said of an address, or else at which it stands; the file alone
+        where that wasn't found."""
+        some = "|".join(map(re.escape, self.written(address)))
+        front = r"\babout\s*=\s*" if self.form == "xml" else r"(?m)^"
+        found = re.search(f"{front}({some})(?![\\w-])", self.text) if as_subject else None
+        found = found or re.search(f"(?<![\\w-])({some})(?![\\w-])", self.text)
+        if not found:
+            return self.file
+        at = found.start(1)
+        return f"{self.file}:{self.text.count(chr(10), 0, at) + 1}:{at - self.text.rfind(chr(10), 0, at)}"
 
 
 def place_of(error, text, form):

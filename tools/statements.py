@@ -34,17 +34,16 @@ class Statement:
 class Concepts:
     """Finds the concepts that a table of statements speaks of."""
 
-    def __init__(self, taxonomies, ways, separator=">", sides=()):
-        self.taxonomies, self.ways, self.separator = taxonomies, ways, separator
+    def __init__(self, taxonomies, ways, sides=()):
+        self.taxonomies, self.ways = taxonomies, ways
         self.by_text = {taxonomy.text: taxonomy for taxonomy in taxonomies}
         self.sides = [self.by_text[side] for side in sides]  # of which taxonomy a name is on the left, and on the right, if none is named
 
     def within(self, taxonomy, text, value):
         """The concept of this text or id in a taxonomy; None where there is none."""
         found = taxonomy.texts.get(text) or taxonomy.ids.get(text)
-        if not found and self.separator in text:
-            path = f" {self.separator} ".join(" ".join(part.split()) for part in text.split(self.separator))
-            found = taxonomy.ids.get(path)
+        if not found and taxonomy.separator and taxonomy.separator in text:
+            found = taxonomy.ids.get(f" {taxonomy.separator} ".join(" ".join(part.split()) for part in text.split(taxonomy.separator)))
         if not found and self.ways.blanks:
             name = self.ways.concept_name(text, value)
             found = name if name in taxonomy.children else None
@@ -56,7 +55,7 @@ class Concepts:
             name = taxonomy.ids.get(accepted)
             now = f" of {taxonomy.origins[name][0]!r}" if name else ""
             raise value.fault(f"{text!r} is a synonym{now} in the taxonomy {taxonomy.text}; name the accepted one")
-        raise Missing(f"{value.place()}: the taxonomy {taxonomy.text} has no concept {text!r}{hint or nearest(text, taxonomy.texts)}")
+        raise Missing(f"{value.place()}: the taxonomy {taxonomy.text} has no concept {text!r}{hint or taxonomy.like(text)}")
 
     def named(self, value, side, hint=""):
         """The concept of TAXONOMY.CONCEPT, or of a name alone where the caller said which taxonomy each side is of."""
@@ -73,6 +72,19 @@ class Concepts:
         if before not in self.by_text:
             raise value.fault(f"there is no taxonomy {before!r}; there are {', '.join(self.by_text)}")
         return self.refused(self.by_text[before], rest, value, hint)
+
+    def unidentified(self, value, prefixes):
+        """The fault of an id or name that no taxonomy has."""
+        text = value.bare()
+        before, colon, rest = text.partition(":")
+        homes = [taxonomy.text for taxonomy in self.taxonomies if rest and self.within(taxonomy, rest, value)]
+        if before in self.by_text:
+            taxonomy = self.by_text[before]
+            hint = f"; the taxonomy {homes[0]} has it" if homes else nearest(rest, [*taxonomy.ids, *taxonomy.texts])
+            return Missing(f"{value.place()}: the taxonomy {before} has no concept with the id or name {rest!r}{hint}")
+        hint = f"; is it {' or '.join(f'{home}:{rest}' for home in homes)}?" if colon and homes else ""
+        hint = hint or nearest(prefixes.get(before, before + colon) + rest, [one for taxonomy in self.taxonomies for one in [*taxonomy.ids, *taxonomy.texts]])
+        return Missing(f"{value.place()}: no taxonomy has a concept with the id or name {text!r}{hint}")
 
     def identified(self, value, prefixes):
         """The concept of an id, with the taxonomy before it (`old:17`, `old.Salix alba`) or alone; None where there is none."""
@@ -145,7 +157,7 @@ def relations_at(value, table):
     try:
         return meanings.relations_of(text)
     except Fault as fault:
-        raise value.fault(str(fault))
+        raise value.fault(f"{fault}; other words get a meaning by --predicate '{text}=RELATIONS'")
 
 
 def remark_of(row, table, author):
@@ -201,7 +213,7 @@ def sssom_statement(row, columns, concepts, options, remark, prefixes):
     for value in (subject, thing):
         ends.append(concepts.identified(value, prefixes))
         if ends[-1] is None:
-            raise Missing(f"{value.place()}: no taxonomy has a concept with the id or name {value.bare()!r}")
+            raise concepts.unidentified(value, prefixes)
     check_two(ends[0], ends[1], thing)
     return Statement(ends[0], relations, [ends[1]], remark)
 
@@ -229,10 +241,11 @@ def statements_of(table, concepts, options):
     plain, sssom = (chosen(table, layout, "statements", columns) for columns in (PLAIN_COLUMNS, SSSOM_COLUMNS))
     if not table.has(plain["relation"]) and table.has(sssom["predicate"]):
         for key in ("subject", "predicate", "object"):
-            table.need(sssom[key])
+            table.need(sssom[key], f"; if yours has another name, give --columns {key}=NAME")
         return each_row(table, options, lambda row, remark: sssom_statement(row, sssom, concepts, options, remark, table.prefixes))
+    hint = "; if yours have other names, give --columns left=NAME,relation=NAME,right=NAME"
     for key in PLAIN_COLUMNS:
-        table.need(plain[key])
+        table.need(plain[key], hint)
     return each_row(table, options, lambda row, remark: plain_statement(row, plain, concepts, options, remark))
 
 

@@ -8,6 +8,13 @@ import unicodedata
 
 DELIMITERS = {"tab": "\t", "comma": ",", "semicolon": ";"}
 GUESSED = ",;\t|"
+# what files begin with that people take for tables
+NO_TEXT = {
+    b"PK\x03\x04": "this is a workbook or a zip file; save each of its tables as CSV, or unpack it",
+    b"\xd0\xcf\x11\xe0": "this is a workbook; save each of its tables as CSV",
+    b"\x1f\x8b": "this file is packed by gzip; unpack it",
+    b"%PDF": "this is a PDF; the table itself is wanted",
+}
 
 
 class Fault(Exception):
@@ -53,9 +60,13 @@ class Layout:
 def read_bytes(file):
     try:
         with open(file, "rb") as opened:
-            return opened.read()
+            data = opened.read()
     except OSError as error:
         raise Fault(f"{file}: this file can't be read: {error.strerror}")
+    for mark, says in NO_TEXT.items():
+        if data.startswith(mark):
+            raise Fault(f"{file}: {says}")
+    return data
 
 
 def text_of(data, file, encoding, hint=""):
@@ -81,8 +92,10 @@ def is_utf8(data):
 def decoded(data, file, encoding):
     """The text of the bytes, by the mark at their front, as UTF-8 where they are that, or else in the encoding that was named."""
     marked = data.startswith((codecs.BOM_UTF16_LE, codecs.BOM_UTF16_BE))
+    if b"\0" in data[:256] and not marked and encoding is None:
+        raise Fault(f"{file}:1:1: each other byte is zero here, as in UTF-16; give --encoding utf-16-{'be' if data[:1] == bytes(1) else 'le'}")
     name = "utf-16" if marked else "utf-8-sig" if encoding is None or is_utf8(data) else encoding
-    hint = "" if encoding else "; save the table as UTF-8, or give --encoding, cp1252 say for tables of Windows"
+    hint = "; --encoding names the one of the table, which may be another" if encoding else "; save the table as UTF-8, or give --encoding, cp1252 say for tables of Windows"
     # letters with marks are composed, so that a name is the same whichever program saved it
     return unicodedata.normalize("NFC", text_of(data, file, name, hint))
 
@@ -107,7 +120,7 @@ class Reader:
         while True:
             letter = self.next_letter()
             if not letter:
-                raise value.fault("this quote is not closed")
+                raise value.fault("this quote is not closed; a quote within a value is written twice, or give --quote none if no value is quoted")
             self.at += 1
             if letter == self.quote:
                 if self.next_letter() != self.quote:
@@ -171,9 +184,9 @@ class Table:
     def has(self, column):
         return column in self.columns
 
-    def need(self, column):
+    def need(self, column, hint=""):
         if not self.has(column):
-            raise self.head[0].fault(f"the first row has no column `{column}`; the columns are {', '.join(self.columns)}")
+            raise self.head[0].fault(f"the first row has no column `{column}`; the columns are {', '.join(self.columns)}{hint}")
         if self.columns.count(column) > 1:
             raise self.head[0].fault(f"the first row names the column `{column}` {self.columns.count(column)} times")
         return column

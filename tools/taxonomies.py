@@ -1,8 +1,9 @@
-"""Taxonomies from tables: rows of a child and its parent, rows with ids as in Darwin Core, or rows with the path of a category."""
+"""Taxonomies from tables: rows of a child and its parent, or rows with ids as in Darwin Core; of paths paths.py tells."""
 
 import difflib
 
 import names
+import paths
 from tables import Fault, counted
 
 # the columns that are looked for, by the key that --columns may give another name
@@ -15,6 +16,7 @@ ID_COLUMNS = {
     "accepted": "acceptedNameUsageID",
     "status": "taxonomicStatus",
 }
+RANKS = ["kingdom", "phylum", "class", "order", "family", "genus"]  # columns that Darwin Core has for them, from the top
 WANTED = [*CHILD_COLUMNS.values(), *PATH_COLUMNS.values(), *ID_COLUMNS.values()]
 
 
@@ -33,6 +35,7 @@ class Taxonomy:
         self.parents, self.children, self.origins = {}, {}, {}
         self.texts, self.ids, self.synonyms = {}, {}, {}  # names by text, names by id, accepted ids by what a synonym is called
         self.id_of = {}
+        self.separator = None  # what stands between the names of a path, where the table has paths
 
     def add(self, text, value):
         """The name for a text, which becomes a concept where it is none yet."""
@@ -44,17 +47,19 @@ class Taxonomy:
         self.texts[text] = name
         return name
 
+    def said(self, name):
+        """A name in a fault, as people write it."""
+        return repr(self.origins[name][0])
+
     def put_under(self, child, parent, value):
         if child in self.parents:
             above, at = self.parents[child]
-            says = "stands under" if above == parent else "has another parent,"
-            hint = "" if above == parent else "; a name is one concept, so call two concepts by two names (or give their paths, or ids)"
-            raise value.fault(f"{child} {says} {above} already, at {at.place()}{hint}")
-        up = parent
-        while up is not None:
-            if up == child:
-                raise value.fault(f"{child} would stand under itself")
-            up = self.parents[up][0] if up in self.parents else None
+            hint = "a name is one concept, so call two concepts by two names (or give their paths, or ids)"
+            raise value.fault(f"{self.said(child)} has another parent, {self.said(above)}, at {at.place()}; {hint}")
+        way = self.above(parent)
+        if child in way:
+            names = [self.origins[name][0] for name in [child, *way[: way.index(child) + 1]]]
+            raise value.fault(f"these would stand in a circle: {' under '.join(names)}; give one of them another parent, or none")
         self.parents[child] = (parent, value)
         self.children[parent].append(child)
 
@@ -78,13 +83,18 @@ class Taxonomy:
         for text in texts:
             name = self.texts.get(text) or self.ids.get(text)
             if name is None:
-                raise Fault(f"{table.name}: the taxonomy {self.text} has no concept {text!r} to take what is under it{nearest(text, self.texts)}")
+                raise Fault(f"{table.name}: the taxonomy {self.text} has no concept {text!r} to take what is under it{self.like(text)}")
             kept += [one for one in self.below(name) if one not in kept]
         inside = set(kept)
         self.children = {name: kids for name, kids in self.children.items() if name in inside}
         self.parents = {name: above for name, above in self.parents.items() if name in inside and above[0] in inside}
         self.texts = {text: name for text, name in self.texts.items() if name in inside}
         self.ids = {key: name for key, name in self.ids.items() if name in inside}
+
+    def like(self, text):
+        """What is most like a name that there is not, in words for a fault; of a name that ends several paths these paths."""
+        paths = [path for path in self.ids if self.separator and path.endswith(f" {self.separator} {text}")]
+        return f"; write the whole path, {' or '.join(map(repr, paths[:3]))}" if paths else nearest(text, self.texts)
 
     def lines(self):
         out = [f"taxonomy {self.name}"]
@@ -142,14 +152,16 @@ def chosen(table, layout, taxonomy, columns):
 
 
 def form_of(table, layout, taxonomy):
-    """How a table is to be read, with its columns: by a form that is there whole, one that the caller named first, else by the first named."""
+    """How a table is to be read, with its columns: by a form that is there whole, one that the caller named first, else by the form of
+    which it has the most columns, and of equals by the first."""
     forms = [(CHILD_COLUMNS, ("child", "parent")), (PATH_COLUMNS, ("path",)), (ID_COLUMNS, ("id", "parent_id", "name"))]
     found = []
     for usual, needed in forms:
         columns = chosen(table, layout, taxonomy, usual)
-        is_whole = all(table.has(columns[key]) for key in needed)
+        is_whole = all(table.has(part) for key in needed for part in paths.levels(table, columns[key]))
         is_asked = any(layout.column(taxonomy, key) for key in usual)
-        found.append(((is_whole, is_asked), usual, columns))
+        count = sum(table.has(column) for column in columns.values())
+        found.append(((is_whole, is_asked, count), usual, columns))
     best = max(found, key=lambda one: one[0])  # the first of equals
     return best[1], best[2]
 
@@ -162,18 +174,24 @@ def taxonomy_of(text, table, layout, ways, options):
         from_ids(taxonomy, table, columns, options)
         return taxonomy
     if form is PATH_COLUMNS:
-        from_paths(taxonomy, table, table.need(columns["path"]), options)
+        ids = chosen(table, layout, text, ID_COLUMNS)
+        rows = [row for row in table.rows if not is_synonym(row, ids)]
+        paths.from_paths(taxonomy, table, rows, paths.levels(table, columns["path"]), ids["id"], options)
+        tell_synonyms(taxonomy, len(table.rows) - len(rows), options)
     else:
-        from_parents(taxonomy, table, columns)
+        from_parents(taxonomy, table, columns, options)
     if text in options.under:
         taxonomy.keep_below(options.under[text], table)
     return taxonomy
 
 
-def need_parents(table, columns):
+def need_parents(taxonomy, table, columns):
     for key in ("child", "parent"):
         if not table.has(columns[key]):
             hint = "; with other names of columns, give --columns child=NAME,parent=NAME (or path=NAME, or id=NAME,parent_id=NAME,name=NAME)"
+            of_paths = paths.looks_like_paths(table)
+            if of_paths:
+                hint = f"; {of_paths} looks like paths: give --columns '{taxonomy.text}:path={of_paths}'"
             if len(table.columns) == 1:
                 hint = "; if it is not commas that separate the values, give --delimiter"
             if key == "child" and ("relation" in table.columns or "predicate_id" in table.columns):
@@ -183,10 +201,10 @@ def need_parents(table, columns):
         table.need(columns[key])
 
 
-def from_parents(taxonomy, table, columns):
-    """A row for each concept with its parent, also for the roots, whose parent is left empty."""
-    need_parents(table, columns)
-    roots = {}
+def from_parents(taxonomy, table, columns, options):
+    """A row for each concept with its parent, also for the roots, whose parent is left empty; a row may be there several times."""
+    need_parents(taxonomy, table, columns)
+    roots, again = {}, 0
     for row in table.rows:
         child, parent = row.get(columns["child"]), row.get(columns["parent"])
         if not child.bare():
@@ -195,18 +213,24 @@ def from_parents(taxonomy, table, columns):
             above = taxonomy.add(parent.bare(), parent)
             here = taxonomy.add(child.bare(), child)
             if here in roots:
-                raise parent.fault(f"{here} is a root already, at {roots[here].place()}")
-            taxonomy.put_under(here, above, parent)
+                raise parent.fault(f"{taxonomy.said(here)} has a row without a parent already, at {roots[here].place()}")
+            if taxonomy.parents.get(here, (None, None))[0] == above:
+                again += 1
+            else:
+                taxonomy.put_under(here, above, parent)
         else:
             here = taxonomy.add(child.bare(), child)
-            if here in taxonomy.parents or here in roots:
-                at = roots[here] if here in roots else taxonomy.parents[here][1]
-                raise child.fault(f"{here} has a row already, at {at.place()}")
-            roots[here] = child
+            if here in taxonomy.parents:
+                parent, at = taxonomy.parents[here]
+                raise child.fault(f"{taxonomy.said(here)} has a parent already, {taxonomy.said(parent)}, at {at.place()}")
+            again += here in roots
+            roots.setdefault(here, child)
+    if again:
+        options.tell(f"{taxonomy.text}: {counted(again, 'row')} left out, of concepts that have the same row already")
     for above in taxonomy.children:
         if above not in taxonomy.parents and above not in roots:
             # most likely it is misspelled
-            says = f"the parent {above} has no row of its own; correct its spelling, or add a row in which it is the child and no parent stands"
+            says = f"the parent {taxonomy.said(above)} has no row of its own; correct its spelling, or add a row in which it is the child and no parent stands"
             raise taxonomy.origins[above][1].fault(says)
 
 
@@ -214,6 +238,11 @@ def is_synonym(row, columns):
     accepted, here = row.get(columns["accepted"]).bare(), row.get(columns["id"]).bare()
     status = row.get(columns["status"]).bare().lower()
     return (accepted and accepted != here) or "synonym" in status or "misapplied" in status
+
+
+def tell_synonyms(taxonomy, count, options):
+    if count:
+        options.tell(f"{taxonomy.text}: {counted(count, 'synonym')} left out")
 
 
 def accepted_rows(taxonomy, table, columns):
@@ -288,8 +317,12 @@ def rows_under(texts, taxonomy, table, columns, rows, synonyms):
 
 def from_ids(taxonomy, table, columns, options):
     """Rows with an id, the id of the parent and a name, as in Darwin Core."""
+    ranks = [rank for rank in RANKS if table.has(rank)]
     for key in ("id", "parent_id", "name"):
-        table.need(columns[key])
+        hint = f"; if yours has another name, give --columns '{taxonomy.text}:{key}=NAME'"
+        if key == "parent_id" and ranks and table.has(columns["name"]):
+            hint = f"; by its columns of ranks it is read with --columns '{taxonomy.text}:path={'+'.join([*ranks, columns['name']])}'"
+        table.need(columns[key], hint)
     rows, synonyms = accepted_rows(taxonomy, table, columns)
     asked = options.under.get(taxonomy.text)
     if asked:
@@ -304,37 +337,4 @@ def from_ids(taxonomy, table, columns, options):
             taxonomy.put_under(taxonomy.ids[key], taxonomy.ids[above], parent)
         elif above and not options.loose and not asked:
             raise parent.fault(f"no row has the id {above} of this parent; give --loose to take such concepts for roots")
-    if synonyms:
-        options.tell(f"{taxonomy.text}: {counted(len(synonyms), 'synonym')} left out")
-
-
-def path_of(value, separator):
-    parts = [part.strip() for part in value.bare().split(separator)]
-    if parts and not parts[0]:
-        parts = parts[1:]  # as in a path that begins at the top
-    if "" in parts:
-        raise value.fault(f"a name of this path is missing between two {separator!r}")
-    return tuple(parts)
-
-
-def from_paths(taxonomy, table, column, options):
-    """Rows with a path, as `Office > Chairs`; those above are made too, and a path may stand in many rows."""
-    found = {}
-    for row in table.rows:
-        value = row.get(column)
-        path = path_of(value, options.separator) if value.bare() else ()
-        for k in range(1, len(path) + 1):
-            found.setdefault(path[:k], value)
-    ends = {}
-    for path in found:
-        ends.setdefault(path[-1], []).append(path)
-    twice = sorted(end for end, paths in ends.items() if len(paths) > 1)
-    made = {}
-    for path, value in found.items():
-        whole = f" {options.separator} ".join(path)
-        made[path] = taxonomy.add(whole if path[-1] in twice else path[-1], value)
-        taxonomy.ids[whole], taxonomy.id_of[made[path]] = made[path], whole
-        if len(path) > 1:
-            taxonomy.put_under(made[path], made[path[:-1]], value)
-    if twice:
-        options.tell(f"{taxonomy.text}: these end several paths, so their names are the whole paths: {', '.join(twice)}")
+    tell_synonyms(taxonomy, len(synonyms), options)

@@ -96,4 +96,5 @@ class Damaged(unittest.TestCase):
 
 
 if __name__ == "__main__":
+    rdf_files.take_debians_python()
     unittest.main(argv=sys.argv[:1])

@@ -97,9 +97,27 @@ class Draw(unittest.TestCase):
         self.assertIn(r'[label="1.c\\d", ', out)
         self.assertIn("w1c2 -> w1c3 [style=dashed", out)
 
+    def test_names_are_drawn_as_people_write_them(self):
+        out = draw('{"classes":[["1.Salix_alba_%28L.%29","2.a&b"]],"splits":[],"under":[]}\n')[1]
+        self.assertIn('[label="1.Salix alba (L.)\\n2.a&amp;b", ', out)
+
+    def test_worlds_that_align_listed(self):
+        with tempfile.TemporaryDirectory() as folder:
+            path = os.path.join(folder, "p.txt")
+            with open(path, "w", encoding="utf-8") as file:
+                file.write("taxonomy 1\n(A B)\ntaxonomy 2\n(A B)\narticulation\n")
+            # the pairs are 1.A 2.A, 1.A 2.B, 1.B 2.A, 1.B 2.B, then 1.A 1.B and 2.A 2.B; the first world is the first of TWO_WORLDS
+            code, out, err = draw("=><x>>\n=><=>>\ncut 2\n", "--problem", path)
+            self.assertEqual((code, out, err), (0, draw(TWO_WORLDS)[1], ""))
+            code, out, err = draw("=><x>>\n=><\ncut 2\n", "--problem", path)
+            self.assertEqual((code, out), (1, ""))
+            self.assertEqual(err, f"draw: line 2: this is no world of {path}, which has 6 pairs of concepts; give what `align in={path}` prints\n")
+            self.assertIn("there is no world to draw", draw("complete 0\n", "--problem", path)[2])
+
     def test_what_it_refuses(self):
         for text, says in [
-            ("report json\ncomplete 0\n", "no world to draw"),
+            ("report json\ncomplete 0\n", "there is no world to draw; where none is possible, `euler_align conflict` names statements"),
+            ("report json\n", "no world to draw: give the output of"),
             ("report json\n{\n", "line 2: not JSON"),
             ('{"classes":[["1.A"]],"splits":[]}\n', "line 1: not a merged taxonomy"),
             ('{"classes":[["1.A"]],"splits":[],"under":[[1,2]]}\n', "line 1: not a merged taxonomy"),

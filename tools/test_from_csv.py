@@ -81,16 +81,20 @@ class FromCsv(unittest.TestCase):
 
     def test_rows_that_are_no_forest(self):
         for rows, says in [
-            ("b,a\nb,c\n", "old:3:3: b has another parent, a already, at old:2:3; a name is one concept, so call two concepts by two names (or give their paths, or ids)"),
-            ("a,\nb,A\n", "old:3:3: the parent A has no row of its own; correct its spelling, or add a row in which it is the child and no parent stands"),
-            ("b,a\nb,a\n", "old:3:3: b stands under a already, at old:2:3"),
-            ("b,a\na,b\n", "old:3:3: a would stand under itself"),
-            ("a,a\n", "old:2:3: a would stand under itself"),
-            ("a,\na,\n", "old:3:1: a has a row already, at old:2:1"),
+            ("b,a\nb,c\n", "old:3:3: 'b' has another parent, 'a', at old:2:3; a name is one concept, so call two concepts by two names (or give their paths, or ids)"),
+            ("a,\nb,A\n", "old:3:3: the parent 'A' has no row of its own; correct its spelling, or add a row in which it is the child and no parent stands"),
+            ("a,\nb,a\nb,\n", "old:4:1: 'b' has a parent already, 'a', at old:3:3"),
+            ("a,\nb,\nb,a\n", "old:4:3: 'b' has a row without a parent already, at old:3:1"),
+            ("b,a\na,b\n", "old:3:3: these would stand in a circle: a under b under a; give one of them another parent, or none"),
+            ("a,a\n", "old:2:3: these would stand in a circle: a under a; give one of them another parent, or none"),
             (",a\n", "old:2:1: a name is missing here"),
             ("b\n,a\n", "old:3:1: a name is missing here"),
         ]:
             self.refused(says, "1=old", "2=new", old="child,parent\n" + rows, new=NEW)
+        # what an export says of each article, it says several times
+        code, out, err = self.make("1=old", "2=new", old="child,parent\na,\nb,a\nb,a\na,\n", new=NEW)
+        self.assertIn("taxonomy 1\n(a b)\n", out)
+        self.assertIn("note: 1: 2 rows were left out, of concepts that have the same row already\n", err)
 
     def test_tables_that_cannot_be_read(self):
         for text, says in [
@@ -102,7 +106,7 @@ class FromCsv(unittest.TestCase):
                 "give --columns child=NAME,parent=NAME (or path=NAME, or id=NAME,parent_id=NAME,name=NAME)",
             ),
             ("child,parent,parent\na,,\n", "old:1:1: the first row names the column `parent` 2 times"),
-            ('child,parent\n"a,b\n', "old:2:1: this quote is not closed"),
+            ('child,parent\n"a,b\n', "old:2:1: this quote is not closed; a quote within a value is written twice, or give --quote none if no value is quoted"),
             ('child,parent\n"a"b,c\n', "old:2:4: a quoted value ends here; a quote within one is written twice, or give --quote none if no value is quoted"),
             (b"child,parent\nab\xff,c\n", "old:2:3: these bytes are not UTF-8; save the table as UTF-8, or give --encoding, cp1252 say for tables of Windows"),
         ]:
@@ -110,7 +114,11 @@ class FromCsv(unittest.TestCase):
 
     def test_statements_that_cannot_be_taken(self):
         for row, says in [
-            ("1.Chair,equal,2.Seats", "links:2:9: 'equal' is no relation; write equals, includes, is_included_in, overlaps, disjoint or sums"),
+            (
+                "1.Chair,equal,2.Seats",
+                "links:2:9: 'equal' is no relation; write equals, includes, is_included_in, overlaps, disjoint or sums; other words get a meaning by "
+                "--predicate 'equal=RELATIONS'",
+            ),
             ("1.Chair,,2.Seats", "links:2:9: a relation is missing here"),
             ("Chair,equals,2.Seats", "links:2:1: 'Chair' is not TAXONOMY.CONCEPT; if the taxonomy is always the same, give --sides LEFT,RIGHT"),
             ("1.Chair,equals,3.Seats", "links:2:16: there is no taxonomy '3'; there are 1, 2"),
@@ -137,7 +145,6 @@ class FromCsv(unittest.TestCase):
         for words, says in [
             (["1=old"], "a problem has two to eight taxonomies; these are 1"),
             (["1=old", "new"], "'new' is not NAME=FILE"),
-            (["1=old", "2=new", "statements=a", "statements=b"], "there are two files of statements"),
             (["1=old", "2=new", "--delimiter", ";;"], "the delimiter is one character"),
             (["1=old", "2=new", "--blanks", "#"], "--blanks takes one character"),
         ]:

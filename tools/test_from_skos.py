@@ -75,22 +75,74 @@ class FromSkos(unittest.TestCase):
     @unittest.skipUnless(THERE, "rdflib is not there")
     def test_schemes_that_are_none(self):
         two = HEAD + "e:a a skos:Concept .\ne:b a skos:Concept .\ne:c a skos:Concept ; skos:broader e:a, e:b .\n"
-        says = "x.ttl: a concept stands under one other at the most; keep one broader concept of c <https://e.org/c> under a and b\n"
+        says = "x.ttl:5:1: c stands under a and under b\nfrom_skos: a concept stands under one other at the most; say which one by --broader 'x:c=a', for each"
         self.refused(says, "x=x.ttl", "y=y.ttl", x__ttl=two, y__ttl=ONE)
+        for kept in ("x:c=b", "x:https://e.org/c=https://e.org/b"):
+            code, out, err = self.make("x=x.ttl", "y=y.ttl", "--broader", kept, x__ttl=two, y__ttl=ONE.replace("e:a", "e:z"))
+            self.assertIn("taxonomy x\n(a)\n(b c)\n", out)
+            self.assertIn("x: 1 broader concept was left out, as --broader says", err)
+        self.refused("x.ttl:5:1: c has no broader concept 'd' to keep; it has a and b", "x=x.ttl", "y=y.ttl", "--broader", "x:c=d")
+        self.refused("x.ttl: --broader x:d=a names no concept; write x:CONCEPT=PARENT", "x=x.ttl", "y=y.ttl", "--broader", "x:d=a")
+        self.refused("--broader: 'c=a' is not NAME:CONCEPT=PARENT with one of the taxonomies x, y", "x=x.ttl", "y=y.ttl", "--broader", "c=a")
+        # a broader concept of a broader one says nothing more
+        far = HEAD + "e:a a skos:Concept .\ne:b a skos:Concept ; skos:broader e:a .\ne:c a skos:Concept ; skos:broader e:a, e:b .\n"
+        self.assertIn("taxonomy x\n(a b)\n(b c)\n", self.make("x=x.ttl", "y=y.ttl", x__ttl=far, y__ttl=ONE.replace("e:a", "e:z"))[1])
         part = two + "e:d a skos:Concept ; skos:broader e:c .\ne:d skos:exactMatch e:z .\ne:a skos:exactMatch e:z .\n"
         code, out, err = self.make("x=x.ttl", "y=y.ttl", "--under", "x:c", "--no-comments", x__ttl=part, y__ttl=ONE.replace("e:a", "e:z"))
         self.assertEqual((code, out), (0, "taxonomy x\n(c d)\ntaxonomy y\n(A)\narticulation\n[x.d equals y.A]\n"), err)
         self.assertIn("1 mapping was left out, with concepts of none of the taxonomies", err)
         around = HEAD + "e:a a skos:Concept ; skos:broader e:b .\ne:b a skos:Concept ; skos:broader e:a .\n"
-        self.refused("x.ttl: a <https://e.org/a> stands under itself, or under one that does", "x=x.ttl", "y=y.ttl", x__ttl=around, y__ttl=ONE)
+        says = "x.ttl:3:1: these stand in a circle: a under b under a; take one skos:broader (or skos:narrower) of them out"
+        self.refused(says, "x=x.ttl", "y=y.ttl", x__ttl=around, y__ttl=ONE)
         same = HEAD + 'e:a a skos:Concept ; skos:prefLabel "A" .\ne:b a skos:Concept ; skos:prefLabel "A" .\n'
         other = ONE.replace("e:a", "e:z")
-        says = "x.ttl: 'A' is the label of <https://e.org/a> and <https://e.org/b>; give --apart"
+        says = "x.ttl:4:1: 'A' is the label of <https://e.org/a> and <https://e.org/b>; give --apart"
         self.refused(says, "x=x.ttl", "y=y.ttl", x__ttl=same, y__ttl=other)
         out = self.make("x=x.ttl", "y=y.ttl", "--apart", x__ttl=same, y__ttl=other)[1]
         self.assertIn("(A_%5Ba%5D)\n(A_%5Bb%5D)\n", out)
         self.refused("y.ttl: <https://e.org/a> is a concept of x and y", "x=x.ttl", "y=y.ttl", x__ttl=ONE, y__ttl=ONE)
-        self.refused("x.ttl: there is no skos:Concept", "x=x.ttl", "y=y.ttl", x__ttl=HEAD, y__ttl=ONE)
+        self.refused("x.ttl: there is no skos:Concept; concepts are those with this type\n", "x=x.ttl", "y=y.ttl", x__ttl=HEAD, y__ttl=ONE)
+
+    @unittest.skipUnless(THERE, "rdflib is not there")
+    def test_mappings_to_what_is_not_there(self):
+        links = "e:a skos:exactMatch e:y1 .\ne:a skos:exactMatch e:y2 .\ne:a skos:exactMatch <http://www.wikidata.org/entity/Q1> .\n"
+        one, other = ONE, ONE.replace("e:a", "e:y1")
+        code, out, err = self.make("x=x.ttl", "y=y.ttl", "mappings=m.ttl", x__ttl=one, y__ttl=other, m__ttl=HEAD + links)
+        self.assertTrue(out.endswith("articulation\n[x.A equals y.A]  # m.ttl, skos:exactMatch\n"), out + err)
+        self.assertIn("note: m.ttl:4:21: no scheme has the concept <https://e.org/y2>; the nearest is 'https://e.org/y1'\n", err)
+        self.assertIn("note: 2 mappings were left out, with concepts of none of the taxonomies\n", err)
+        self.assertEqual(err.count("no scheme has"), 1)
+        rdf = '<?xml version="1.0"?>\n<rdf:RDF xmlns:rdf="http://www.w3.org/1999/02/22-rdf-syntax-ns#" xmlns:s="http://www.w3.org/2004/02/skos/core#">\n'
+        rdf += ' <rdf:Description rdf:about="https://e.org/a"><s:exactMatch rdf:resource="https://e.org/y3"/></rdf:Description></rdf:RDF>'
+        # of several files, and of a table, all are read
+        table = "subject_id,predicate_id,object_id\nhttps://e.org/a,skos:broadMatch,y:A\n"
+        words = ["x=x.ttl", "y=y.ttl", "mappings=m.ttl", "mappings=m.rdf", "mappings=m.csv", "--no-comments"]
+        code, out, err = self.make(*words, m__rdf=rdf, m__csv=table)
+        self.assertIn("note: m.rdf:3:74: no scheme has the concept <https://e.org/y3>", err)
+        self.assertTrue(out.endswith("articulation\n[x.A equals y.A]\n[x.A is_included_in y.A]\n"), out + err)
+        # what the prefixes of a table stand for, where it doesn't say so itself, the schemes say
+        table = "subject_id,predicate_id,object_id\ne:a,skos:broadMatch,e:y1\n"
+        code, out, err = self.make("x=x.ttl", "y=y.ttl", "statements=m.csv", "--no-comments", m__csv=table)
+        self.assertTrue(out.endswith("articulation\n[x.A is_included_in y.A]\n"), out + err)
+        says = "m.csv:2:21: no taxonomy has a concept with the id or name 'e:y2'; the nearest is 'https://e.org/y1'"
+        self.refused(says, "x=x.ttl", "y=y.ttl", "mappings=m.csv", m__csv=table.replace("e:y1", "e:y2"))
+
+    @unittest.skipUnless(THERE, "rdflib is not there")
+    def test_languages(self):
+        label = lambda *labels: "skos:prefLabel " + ", ".join(f'"{text}"@{tag}' for text, tag in labels)
+        one = HEAD + "".join(f"e:{k} a skos:Concept ; {label((f'B{k}', 'de'), (f'A{k}', 'en'))} .\n" for k in "ab")
+        one += f"e:c a skos:Concept ; {label(('Cc', 'de-AT'))} .\n"
+        other = ONE.replace("e:a", "e:z").replace('"A"', '"Aa"@en')
+        for words, concepts, says in [
+            ([], "(Ba)\n(Bb)\n(Cc)\n", "note: x: the labels in de were taken; --language takes others, of de, en, de-at\n"),
+            (["--language", "de"], "(Ba)\n(Bb)\n(Cc)\n", "note: y: 1 concept has no label in de, so another one was taken; there are labels in en\n"),
+            (["--language", "en"], "(Aa)\n(Ab)\n(Cc)\n", "note: x: 1 concept has no label in en, so another one was taken; there are labels in de, en, de-at\n"),
+        ]:
+            code, out, err = self.make("x=x.ttl", "y=y.ttl", *words, x__ttl=one, y__ttl=other)
+            self.assertTrue(out.startswith(f"taxonomy x\n{concepts}taxonomy y\n(Aa)\n"), out + err)
+            self.assertIn(says, err)
+        err = self.make("x=x.ttl", "y=y.ttl", x__ttl=HEAD + "e:a a skos:Concept .\n", y__ttl=other)[2]
+        self.assertIn("note: x: 1 concept has no skos:prefLabel, so the end of the address was taken\n", err)
 
     @unittest.skipUnless(THERE, "rdflib is not there")
     def test_two_schemes_in_one_file(self):
@@ -105,7 +157,9 @@ class FromSkos(unittest.TestCase):
             ("x.ttl", ONE + 'e:b a "c .\n', "x.ttl:4:11: this is not Turtle: newline found in string literal"),
             ("x.nt", "<u:a> <u:b> <u:c> .\n<u:a> <u:b> .\n", "x.nt:2:13: this is no triple: <u:a> <u:b> ."),
             ("x.rdf", '<?xml version="1.0"?>\n<rdf:RDF xmlns:rdf="http://www.w3.org/1999/02/22-rdf-syntax-ns#">\n <a>', "x.rdf:3:5: this is not RDF/XML"),
-            ("x.ttl", b"# \xff\n", "x.ttl:1:3: these bytes are not UTF-8"),
+            ("x.jsonld", '{"@context": {}}', "x.jsonld: this is JSON-LD; Turtle, RDF/XML or N-Triples is wanted\n"),
+            ("x.rdf", "<!DOCTYPE html>\n<html>", "x.rdf: this is a web page; Turtle, RDF/XML or N-Triples is wanted\n"),
+            ("x.ttl", b"# \xff\n", "x.ttl:1:3: these bytes are not UTF-8; save it as UTF-8\n"),
         ]:
             self.folder.write({name: text})
             self.refused(says, f"x={name}", "y=y.ttl", y__ttl=ONE)

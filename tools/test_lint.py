@@ -108,6 +108,12 @@ class Lint(unittest.TestCase):
         self.says(rows + FINE.replace("[old.Lamps equals new.Lights]\n", ""), "p.txt:2: note: no statement speaks of old.Lamps, nor of any of the 2 under it", "p.txt:5: note: no statement speaks of new.Lights")
         # what is under a concept that is apart from all of the other side needs no statement
         self.says(rows + FINE.replace("[old.Lamps equals new.Lights]", "[old.Lamps disjoint new.Goods]\n[new.Lights disjoint old.Things]"))
+        # nor does what is within a concept that has nothing under it
+        for word in ("equals", "is_included_in", "{equals is_included_in}"):
+            self.says(rows + FINE.replace("[old.Lamps equals new.Lights]", f"[old.Lamps {word} new.Lights]"))
+        self.says(rows + FINE.replace("[old.Lamps equals new.Lights]", "[new.Lights {equals includes} old.Lamps]"))
+        wanted = [f"p.txt:3: note: no statement speaks of old.{name}" for name in ("Table_lamps", "Candles")]
+        self.says(rows + FINE.replace("[old.Lamps equals new.Lights]", "[old.Lamps {equals overlaps} new.Lights]"), *wanted)
         self.says(ROWS, "p.txt:2: note: old.Tables and new.Tables have one name, and no statement is about the two", "p.txt:5: note: there are no statements: any two concepts may have any relation that the rows allow")
 
     def test_many_notes_of_one_kind(self):

@@ -89,7 +89,7 @@ class DarwinCore(Case):
             ("1\t\t\ta\n1\t\t\tb\n", "old:3:1: the id 1 has a row already, at old:2:1"),
             ("1\t\t\ta\n2\t7\t\tb\n", "old:3:3: no row has the id 7 of this parent; give --loose to take such concepts for roots"),
             ("1\t\t\ta\n2\t1\t\ta\n", "old:3:6: 'a' is the name of two concepts, here and at old:2:5; give --apart to put the ids behind such names"),
-            ("1\t2\t\ta\n2\t1\t\tb\n", "old:3:3: b would stand under itself"),
+            ("1\t2\t\ta\n2\t1\t\tb\n", "old:3:3: these would stand in a circle: b under a under b; give one of them another parent, or none"),
             ("\t\t\ta\n", "old:2:1: an id is missing here"),
             ('1\t\t\ta\n2\t1\t\t"b" c\n', "old:3:9: a quoted value ends here; a quote within one is written twice, or give --quote none if no value is quoted"),
         ]:
@@ -101,17 +101,24 @@ class DarwinCore(Case):
 
     def test_archives_that_are_damaged(self):
         for data, says in [
-            (b"PK\x03\x04 no more", "o.zip: this archive can't be read: File is not a zip file"),
-            (zipped(a="b"), "o.zip: the archive has neither meta.xml nor taxon.txt"),
+            (b"PK\x03\x04 no more", "o.zip: this archive can't be read: File is not a zip file; fetch it once more, or give the table in it"),
+            (zipped(a="b", c="d"), "o.zip: the archive has neither meta.xml nor taxon.txt, but a, c; give the table of taxa itself, unpacked"),
             (zipped(meta__xml="<archive>\n <core"), "o.zip/meta.xml:2:2: this is not XML: unclosed token"),
             (zipped(meta__xml="<archive/>"), "o.zip/meta.xml: there is no core table"),
-            (zipped(meta__xml=META), "o.zip: the archive has no t.csv"),
+            (zipped(meta__xml=META), "o.zip: the archive has no t.csv, which meta.xml names, but meta.xml"),
             (zipped(meta__xml=META.replace('index="2"', 'index="x"'), t__csv="1,,a\n"), "o.zip/meta.xml: the index of scientificName 'x' is no number"),
             (zipped(meta__xml=META, t__csv="1,,a\n2,1\n"), "o.zip/t.csv:2:4: the row has no column 2, in which meta.xml puts scientificName; columns are counted from 0"),
-            (zipped(meta__xml=META, t__csv=b"1,,a\n2,1,\xff\n"), "o.zip/t.csv:2:5: these bytes are not UTF-8"),
-            (zipped(meta__xml=META, t__csv='1,,a\n2,1,"b\n'), "o.zip/t.csv:2:5: this quote is not closed"),
+            (zipped(meta__xml=META, t__csv=b"1,,a\n2,1,\xff\n"), "o.zip/t.csv:2:5: these bytes are not UTF-8; --encoding names the one of the table, which may be another"),
+            (zipped(meta__xml=META, t__csv='1,,a\n2,1,"b\n'), "o.zip/t.csv:2:5: this quote is not closed; a quote within a value is written twice, or give --quote none if no value is quoted"),
         ]:
             self.refused(says, "x=o.zip", "y=new", **{"o.zip": data, "new": PLAIN})
+        out, _ = self.made("x=o.zip", "y=new", **{"o.zip": zipped(Taxon__CSV=TAXA.replace("\t", ",") + "1,,,a\n2,1,,b\n")})
+        self.assertIn("taxonomy x\n(a b)\n", out)
+
+    def test_columns_that_are_missing(self):
+        says = "old:1:1: the first row has no column `parentNameUsageID`; the columns are taxonID, parentID, scientificName; if yours has another name, "
+        says += "give --columns 'x:parent_id=NAME'"
+        self.refused(says, "x=old", "y=new", old="taxonID\tparentID\tscientificName\n1\t\ta\n", new=PLAIN)
 
     def test_a_thousand_concepts(self):
         rows = "".join(f"t{k}\t{'' if k == 0 else f't{(k - 1) // 3}'}\t\tName no. {k} (L.)\n" for k in range(512))
@@ -132,7 +139,13 @@ class Sssom(Case):
 
     def test_faults_have_their_place(self):
         self.refused_row("x:A\tskos:matches\ty:A", "5: the predicate 'skos:matches' has no meaning; give it one by --predicate skos:matches=RELATIONS, none to leave it out")
-        self.refused_row("x:C\tskos:exactMatch\ty:A", "1: no taxonomy has a concept with the id or name 'x:C'")
+        self.refused_row("x:C\tskos:exactMatch\ty:A", "1: the taxonomy x has no concept with the id or name 'C'")
+        self.refused_row("y:A\tskos:exactMatch\tz:A", "21: no taxonomy has a concept with the id or name 'z:A'; is it x:A or y:A?")
+        self.refused_row("x:AA\tskos:exactMatch\ty:A", "1: the taxonomy x has no concept with the id or name 'AA'")
+        one = {"old": PLAIN + "Alba,B\n", "new": PLAIN, "links": "subject_id,predicate_id,object_id\ny:Alba,skos:exactMatch,x:A\n"}
+        self.refused("links:2:1: the taxonomy y has no concept with the id or name 'Alba'; the taxonomy x has it", "x=old", "y=new", "statements=links", **one)
+        one["links"] = "subject_id,predicate_id,object_id\nx:Albo,skos:exactMatch,y:A\n"
+        self.refused("links:2:1: the taxonomy x has no concept with the id or name 'Albo'; the nearest is 'Alba'", "x=old", "y=new", "statements=links", **one)
         self.refused_row("A\tskos:exactMatch\ty:A", "1: 'A' is in the taxonomies x and y; put the taxonomy and a colon before it")
         self.refused_row("x:A\tskos:exactMatch\tx:B", "21: a statement is on concepts of two taxonomies; both are of x")
 
@@ -204,6 +217,10 @@ class Spreadsheets(Case):
         self.assertEqual(out.count("(Büro Stühle)\n"), 2)
         says = "old:1:11: these bytes are not UTF-8; save the table as UTF-8, or give --encoding, cp1252 say for tables of Windows"
         self.refused(says, "x=old", "y=old", *columns, old=text.encode("cp1252"))
+        for encoding in ("utf-16-le", "utf-16-be"):  # without the mark at the front
+            data = text.encode(encoding)
+            self.refused(f"old:1:1: each other byte is zero here, as in UTF-16; give --encoding {encoding}", "x=old", "y=old", *columns, old=data)
+            self.assertIn("(Büro Stühle)\n", self.made("x=old", "y=old", *columns, "--encoding", encoding, old=data)[0])
         code, _, err = self.make("x=old", "y=old", "--encoding", "klingon", old=text)
         self.assertEqual(code, 2)
         self.assertIn("there is no encoding 'klingon'", err)
@@ -216,7 +233,7 @@ class Spreadsheets(Case):
             "sep=|\nchild|parent\nA|\nB, or C|A\n",
         ]:
             self.assertIn("(A B,_or_C)\n", self.made("x=old", "y=new", old=text, new=PLAIN)[0])
-        says = "old:4:3: the parent Z has no row of its own; correct its spelling, or add a row in which it is the child and no parent stands"
+        says = "old:4:3: the parent 'Z' has no row of its own; correct its spelling, or add a row in which it is the child and no parent stands"
         self.refused(says, "x=old", "y=new", old="sep=;\nchild;parent\nA;\nB;Z\n", new=PLAIN)
 
     def test_paths(self):
@@ -227,6 +244,49 @@ class Spreadsheets(Case):
         out, _ = self.made("x=old", "y=new", "--path-separator", "/", old="path\n/a/b/c\na/d\n", new="path\nz\n")
         self.assertIn("(a b d)\n(b c)\n", out)
         self.refused("old:3:1: a name of this path is missing between two '>'", "x=old", "y=new", old="path\na > b\na > > c\n", new=PLAIN)
+
+    def test_paths_with_other_separators(self):
+        old, new = "path\nA > B\n", "Gruppe;Preis\nC/D;1,99\nC/E;2,49\n"
+        columns = ["--columns", "new:path=Gruppe"]
+        says = "new:2:1: no path of this table has '>' in it, and most have '/'; give --path-separator 'new:/' (or 'new:>' if each is one name)"
+        self.refused(says, "old=old", "new=new", *columns, old=old, new=new)
+        links = "left,relation,right\nold.A > B,equals,new.C/E\n"
+        out, _ = self.made("old=old", "new=new", "statements=links", *columns, "--path-separator", "new:/", "--no-comments", links=links)
+        self.assertTrue(out.endswith("taxonomy new\n(C D E)\narticulation\n[old.B equals new.E]\n"), out)
+        self.assertIn("(C/D)\n(C/E)\n", self.made("old=old", "new=new", *columns, "--path-separator", "new:>")[0])
+        says = "new:1:1: the first row has no column `child`; it has Gruppe, Preis; Gruppe looks like paths: give --columns 'new:path=Gruppe'"
+        self.refused(says, "old=old", "new=new")
+        self.refused("--path-separator: something must stand between the names of a path", "old=old", "new=new", "--path-separator", "")
+
+    def test_a_column_for_each_level(self):
+        old = "Nr;Ebene 1;Ebene 2;Ebene 3\n1;A;B;C\n2;A;B;\n3;A;D;C\n4;E;;\n"
+        out, err = self.made("x=old", "y=new", "statements=links", "--columns", "x:path=Ebene 1+Ebene 2+Ebene 3", "--no-comments", old=old, new=PLAIN,
+                             links="left,relation,right\nx.A > D > C,equals,y.A\n")
+        self.assertIn("taxonomy x\n(A B D)\n(B A_>_B_>_C)\n(D A_>_D_>_C)\n(E)\n", out)
+        self.assertIn("[x.A_>_D_>_C equals y.A]\n", out)
+        self.refused("old:1:1: the first row has no column `Ebene 4`; the columns are Nr, Ebene 1, Ebene 2, Ebene 3", "x=old", "y=new", "--columns", "x:path=Ebene 1+Ebene 4")
+        says = "links:2:1: the taxonomy x has no concept 'C'; write the whole path, 'A > B > C' or 'A > D > C'"
+        self.refused(says, "x=old", "y=new", "statements=links", "--columns", "x:path=Ebene 1+Ebene 2+Ebene 3", links="left,relation,right\nx.C,equals,y.A\n")
+
+    def test_a_column_for_each_rank(self):
+        old = "taxonID,genus,scientificName,taxonomicStatus\n1,Parus,Parus major L.,accepted\n2,Poecile,Poecile montanus (C.),accepted\n3,Poecile,Poecile borealis S.,synonym\n"
+        links = "subject_id,predicate_id,object_id\nx:2,skos:exactMatch,y:A\n"
+        out, err = self.made("x=old", "y=new", "statements=links", "--columns", "x:path=genus+scientificName", "--no-comments", old=old, new=PLAIN, links=links)
+        self.assertIn("taxonomy x\n(Parus Parus_major_L.)\n(Poecile Poecile_montanus_%28C.%29)\n", out)
+        self.assertIn("[x.Poecile_montanus_%28C.%29 equals y.A]\n", out)
+        self.assertIn("note: x: 1 synonym was left out\n", err)
+        says = "old:1:1: the first row has no column `parentNameUsageID`; the columns are taxonID, genus, scientificName, taxonomicStatus; by its columns of "
+        self.refused(says + "ranks it is read with --columns 'x:path=genus+scientificName'", "x=old", "y=new")
+
+    def test_statements_in_several_tables(self):
+        links, more = "left,relation,right\nx.A,equals,y.A\n", "subject_id\tpredicate_id\tobject_id\nx:B\tskos:exactMatch\ty:B\n"
+        out, _ = self.made("x=old", "y=new", "statements=links", "statements=more", old=PLAIN, new=PLAIN, links=links, more=more)
+        self.assertTrue(out.endswith("[x.A equals y.A]  # links row 2\n[x.B equals y.B]  # more row 2\n"), out)
+        says = "links:1:1: the first row has no column `left`; the columns are a, b, c; if yours have other names, give --columns left=NAME,relation=NAME,right=NAME"
+        self.refused(says, "x=old", "y=new", "statements=more", "statements=links", links="a,b,c\n")
+        says = "more:1:1: the first row has no column `object_id`; the columns are subject_id, predicate_id, obj; if yours has another name, give --columns object=NAME"
+        self.refused(says, "x=old", "y=new", "statements=more", more=more.replace("object_id", "obj"))
+        self.assertIn("[x.B equals y.B]", self.made("x=old", "y=new", "statements=more", "--columns", "object=obj")[0])
 
     def test_sums_with_commas_in_names(self):
         old = 'child,parent\nr,\n"a, b",r\nc (d),r\n'
@@ -248,6 +308,11 @@ class Spreadsheets(Case):
         ]:
             links = f"Left;Relation;Right\nx.A;{words};y.A\n"
             out, _ = self.made("x=old", "y=new", "statements=links", "--no-comments", old=PLAIN, new=PLAIN, links=links)
+            self.assertIn(f"[x.A {shown} y.A]\n", out)
+        for words, shown in [("gleich", "equals"), ("= oder <", "{equals is_included_in}"), ("a==b", "disjoint")]:
+            meanings = ["gleich===", "= oder <=equals is_included_in", "a==b=!"]
+            out, _ = self.made("x=old", "y=new", "statements=links", *(word for one in meanings for word in ("--predicate", one)), "--no-comments",
+                               old=PLAIN, new=PLAIN, links=f"left,relation,right\nx.A,{words},y.A\n")
             self.assertIn(f"[x.A {shown} y.A]\n", out)
 
     def test_what_is_unstated(self):
@@ -285,6 +350,18 @@ class Spreadsheets(Case):
         says = "taxa: the taxonomy x has no concept 'Salix repen'; give its whole name, or its id; the nearest is 'Salix repens'"
         self.refused(says, "x=taxa", "y=new", "--under", "x:Salix repen")
         self.refused("taxa: the taxonomy x has 2 concepts 'Salix'; give the id of one", "x=taxa", "y=new", "--under", "x:Salix")
+
+    def test_files_that_are_no_tables(self):
+        for data, says in [
+            (b"PK\x03\x04 and more", "this is a workbook or a zip file; save each of its tables as CSV, or unpack it"),
+            (b"\xd0\xcf\x11\xe0 and more", "this is a workbook; save each of its tables as CSV"),
+            (b"\x1f\x8b and more", "this file is packed by gzip; unpack it"),
+            (b"%PDF-1.7", "this is a PDF; the table itself is wanted"),
+        ]:
+            self.refused(f"links: {says}", "x=old", "y=new", "statements=links", old=PLAIN, new=PLAIN, links=data)
+        # statements may be called mappings
+        links = "left,relation,right\nx.A,equals,y.A\n"
+        self.assertIn("[x.A equals y.A]", self.made("x=old", "y=new", "mappings=links", links=links)[0])
 
     def test_workbooks(self):
         self.refused("w.xlsx: this is a workbook; save each of its tables as CSV", "x=w.xlsx", "y=new", **{"w.xlsx": zipped(**{"[Content_Types]__xml": "x"}), "new": PLAIN})

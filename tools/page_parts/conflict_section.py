@@ -3,7 +3,7 @@
 from taxa import WORD_OF, counted
 
 from .conflicts import MOST, some
-from .html import Markup, rows, section, tag
+from .html import Markup, code, rows, section, tag
 from .sections import line_link, remark
 
 WITHOUT = {
@@ -17,7 +17,7 @@ def how_many(worlds):
     if worlds is None:
         return "not known: it took too long"
     count, whole = worlds
-    return counted(count, "world") if whole else f"{count} worlds or more"
+    return counted(count, "world") if whole else f"{counted(count, 'world')} or more"
 
 
 def conflict(a):
@@ -45,7 +45,7 @@ def card(a, one, title):
     names = ["line", "statement"] + (["remark"] if remarks else []) + ["without it", "what weaker one would do"]
     body = []
     for s in one.statements:
-        row = [("num", line_link(a, s)), ("stated", tag("code", tag("bdi", s.text)))] + ([remark(s)] if remarks else [])
+        row = [("num", line_link(a, s)), ("stated", code(s.text))] + ([remark(s)] if remarks else [])
         body.append(row + [without(one, s), weaker(one, s)])
     return tag("article", head, said, rows(names, body, "conflicts", "statements in conflict"), class_="card bad")
 
@@ -69,7 +69,7 @@ def weaker(one, statement):
     for change in found[:4]:
         # of a statement on two concepts the relations are enough; a sum becomes several statements
         said = change.lines if statement.is_sum else [braces(change.letters)]
-        text = Markup("<br>".join(tag("code", tag("bdi", line)) for line in said))
+        text = Markup("<br>".join(map(code, said)))
         items.append(tag("li", text, " ", tag("span", how_many(change.worlds), class_="small")))
     return tag("ul", *items, class_="plain")
 

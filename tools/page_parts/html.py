@@ -26,6 +26,11 @@ def tag(name, *inside, **attributes):
     return Markup(f"<{name}{words}>{''.join(esc(part) for part in inside)}</{name}>")
 
 
+def code(text):
+    """A line of a problem file, which runs from left to right whatever names it has."""
+    return tag("code", tag("bdi", text, dir="ltr"))
+
+
 def lines(*parts):
     return Markup("\n".join(esc(part) for part in parts if part))
 

@@ -154,7 +154,7 @@ function layOut() {
   size = columns.shown.length > 60 || rows.shown.length > 60 ? 19 : 24;
   const wide = at("matrix").clientWidth;
   headWidth = headSize(rows, Math.max(110, Math.min(260, wide * 0.38)));
-  headHeight = headSize(columns, 190);
+  headHeight = headSize(columns, 220);
   const width = headWidth + columns.shown.length * size + 1, height = headHeight + rows.shown.length * size + 1;
   stage.style.height = printing ? `${height}px` : `${Math.min(height + 18, Math.max(340, window.innerHeight * 0.76))}px`;
   stage.style.width = `${width + 18}px`;
@@ -278,12 +278,20 @@ function headName(one, item, x, y, most, chosen) {
     pen.fillText(isFolded(one, item) ? "▸" : "▾", x + indent, y);
   }
   pen.font = `${chosen || item.depth === 0 ? "bold " : ""}13px ${FONT}`;
-  pen.fillText(clip(data.names[item.concept], most - indent - 13), x + indent + 13, y);
+  pen.fillText(clip(data.names[item.concept], most - indent - 13, one.all), x + indent + 13, y);
 }
 
-function clip(text, most) {
+// The front of a text that is too long, or where another name has the same front, both its ends.
+function clip(text, most, others = []) {
   if (pen.measureText(text).width <= most) return text;
-  const signs = [...text];
-  while (signs.length > 1 && pen.measureText(signs.join("") + "…").width > most) signs.pop();
-  return signs.join("") + "…";
+  const signs = [...text], fits = (cut) => pen.measureText(cut).width <= most;
+  const front = longest(signs.length, (count) => signs.slice(0, count).join("") + "…", fits);
+  const same = others.filter((item) => data.names[item.concept].startsWith(front.slice(0, -1)));
+  if (same.length < 2) return front;
+  return longest(signs.length, (count) => `${signs.slice(0, Math.ceil(count / 2)).join("")}…${signs.slice(signs.length - Math.floor(count / 2)).join("")}`, fits);
+}
+
+function longest(count, cut, fits) {
+  while (count > 1 && !fits(cut(count))) count--;
+  return cut(count);
 }

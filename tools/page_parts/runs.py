@@ -65,10 +65,14 @@ class Runs:
         return self.run([command, f"in={path}", *words, *given], seconds or self.seconds)
 
     def worlds_of(self, text, most, seconds, switches=None):
-        """How many worlds a changed copy has, counted up to a limit, and whether these are all; None where the time was over."""
+        """How many worlds a changed copy has, counted up to a limit, and whether these are all; None where the time was over. Where the
+        listing takes too long, `conflict` may still tell whether there is one at least: it lists none."""
         token = os.path.join(self.folder.name, "tried_token")
         ran = self.try_out(text, "align", f"worlds={most}", f"token={token}", switches=switches, seconds=seconds)
-        if ran.stopped or ran.code not in (0, 5, 6):
+        if ran.stopped:
+            first = self.try_out(text, "conflict", switches=switches, seconds=seconds).lines[:1]
+            return (1, False) if first == ["consistent"] else (0, True) if first and first[0].startswith("conflict ") else None
+        if ran.code not in (0, 5, 6):
             return None
         return int(ran.last.split(" ")[1]), ran.last.startswith("complete")
 

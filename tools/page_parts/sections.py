@@ -2,7 +2,7 @@
 
 from taxa import SAID, SWITCHES, counted, entry, in_words, joined, shown
 
-from .html import Markup, answer, badge, folded, question, rows, section, sentence, shown_of, tag, words_of
+from .html import Markup, answer, badge, code, folded, question, rows, section, sentence, shown_of, tag, words_of
 from .questions import ordered
 from .reasons import TURN
 
@@ -90,7 +90,7 @@ def options(a, namer, asked, total):
     for letter in asked.letters:
         left = f"leaves {counted(asked.counts[letter], 'world')} of {total:,}" if asked.counts else None
         # what to add to the file; two concepts of one taxonomy have no statements
-        line = tag("code", tag("bdi", entry(one.full, letter, other.full))) if asked.place < a.pairs.across else None
+        line = code(entry(one.full, letter, other.full)) if asked.place < a.pairs.across else None
         more = [Markup(" " + tag("span", part, class_="small")) for part in (left, line) if part]
         items.append(tag("li", badge(letter), " ", answer(letter, *names), *more))
     return tag("ul", *items, class_="options")
@@ -150,7 +150,7 @@ def untried_card(a, namer):
     for place in sorted((p for p in a.tried.untried if "!" in a.possible[p] and below[p] > 0), key=lambda p: (-below[p], p)):
         if len(chosen) < MOST_QUESTIONS and not any(covers(a, other, place) for other in chosen):
             chosen.append(place)
-    untried = counted(len(a.tried.untried), "further open pair")
+    untried = counted(len(a.tried.untried), "further open pair" if a.tried.questions else "open pair")
     says = f"There was no time to try {untried}; more is given by --extra SECONDS. All are in the list below the matrix."
     if not chosen:
         return tag("p", says, class_="small")
@@ -295,7 +295,7 @@ def statements(a):
     wrong = {s.number for conflict in a.conflicts for s in conflict.statements}
     body = []
     for s in a.problem.statements:
-        row = [("num", line_link(a, s)), (("stated wrong" if s.number in wrong else "stated"), tag("code", tag("bdi", s.text)))]
+        row = [("num", line_link(a, s)), (("stated wrong" if s.number in wrong else "stated"), code(s.text))]
         row += [stays(a, s) or ("in the conflict" if s.number in wrong else "")] if a.answered or wrong else []
         body.append(row + ([remark(s)] if remarks else []))
     head = ["line", "statement"] + (["in the answer"] if a.answered or wrong else []) + (["remark"] if remarks else [])
@@ -306,7 +306,7 @@ def notes(a):
     """What tools/lint says of the file."""
     if not a.notes:
         return None
-    items = [tag("li", f"line {note.line}: ", tag("bdi", note.says)) for note in a.notes[:40]]
+    items = [tag("li", f"line {note.line}: ", tag("bdi", note.says, dir="ltr")) for note in a.notes[:40]]
     said = tag("p", "What is often a slip, and often meant (", tag("code", f"tools/lint {a.problem.path}"), " tells it too):")
     return section("notes", "To look over", said, tag("ul", *items, class_="plain"), shown_of(len(items), len(a.notes), "note"))
 
