@@ -48,6 +48,7 @@ part "tools: damaged tables" python3 ../tools/test_damaged.py
 part "tools/to_table" env EULER_ALIGN="$program" python3 ../tools/test_to_table.py
 part "tools/list, tools/watch" env EULER_ALIGN="$program" python3 ../tools/test_long_work.py
 part "completions" python3 completions.py "$program"
+part "messages" python3 messages.py "$program"
 part "figures" python3 figures.py
 part "package" ./package.sh "$program"
 part "rows" python3 rows.py "$program"

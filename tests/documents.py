@@ -8,7 +8,8 @@ PROGRAM is the built program; where none is given, `crates/euler_align/out/euler
 A command line of README.md, docs/GUIDE.md or examples/README.md stands in a block that is indented by four spaces, behind `$ `; further
 lines of the command stand behind `> `. What follows up to the next `$ ` is what it puts, on standard output and standard error. There,
 `...` stands for any text: within a line for a part of it, and on a line of its own for lines, or none. The command lines of a page
-are run one after the other by bash, in a folder of their own that has the examples and tools, with the program on the path.
+are run one after the other by bash, in a folder of their own that has the examples and tools, with the program on the path. A block with
+`tools/from_skos` is skipped, and the last line says so, where no Python that the tool would take has `rdflib`.
 
 Besides: each relative link of each page leads to a file, and to a heading of it; what stands between backticks is there, where it looks
 like a path or, on the pages about the proof, like a name in the code; each crate stands in docs/CODE.md once, and stands on
@@ -18,6 +19,7 @@ docs/FORMATS.md, the manual page and the completion have the commands and keys o
 
 import os
 import re
+import shutil
 import subprocess
 import sys
 import tempfile
@@ -34,19 +36,30 @@ def lines_of(page):
 
 
 def commands_of(page):
-    """The command lines of a page: each its line, its words, and what the page says that it puts."""
-    found, current = [], None
+    """The blocks of command lines of a page: of each line its number, its words, and what the page says that it puts."""
+    blocks, current = [[]], None
     for number, line in enumerate(lines_of(page), 1):
         if not line.startswith("    "):
             current = None
+            blocks.append([])
         elif line.startswith("    $ "):
             current = [number, line[6:], []]
-            found.append(current)
+            blocks[-1].append(current)
         elif current and line.startswith("    > ") and not current[2]:
             current[1] += "\n" + line[6:]
         elif current:
             current[2].append(line[4:])
-    return found
+    return [block for block in blocks if block]
+
+
+def has_rdflib():
+    """Whether tools/from_skos can work: by the Python on the path, or else by Debian's, which it takes then."""
+    pythons = [python for python in (shutil.which("python3"), "/usr/bin/python3") if python and os.path.exists(python)]
+    return any(subprocess.run([python, "-c", "import rdflib"], capture_output=True, check=False).returncode == 0 for python in pythons)
+
+
+def can_run(block, rdflib):
+    return rdflib or not any("from_skos " in words for _, words, _ in block)
 
 
 def is_line(shown, got):
@@ -67,13 +80,15 @@ def first_difference(shown, got):
     return None if len(got) in reached else (len(shown), max(reached))
 
 
-def run_page(page, program, folder):
+def run_page(page, program, folder, rdflib):
+    """How many command lines of a page were run and how many were not, and what is wrong."""
     for name in ("examples", "tools", "docs", "tests"):
         os.symlink(os.path.abspath(os.path.join(ROOT, name)), os.path.join(folder, name))
     programs = os.path.join(folder, ".programs")
     os.mkdir(programs)
     os.symlink(os.path.abspath(program), os.path.join(programs, "euler_align"))
-    commands = commands_of(page)
+    blocks = commands_of(page)
+    commands = [command for block in blocks if can_run(block, rdflib) for command in block]
     script = ["exec 2>&1"]
     for _, words, _ in commands:
         script += [words, f"__code=$?; printf '{MARK}'; (exit $__code)"]
@@ -96,7 +111,7 @@ def run_page(page, program, folder):
                 f"{page}:{number}: $ {words}\n  shown: {shown[wanted] if wanted < len(shown) else 'nothing more'}"
                 f"\n  put:   {got[at] if at < len(got) else 'nothing more'}"
             )
-    return len(commands), faults
+    return len(commands), sum(map(len, blocks)) - len(commands), faults
 
 
 def pages():
@@ -191,6 +206,7 @@ def crate_faults():
     every = set(under)
     ruled_out = {crate: every - set(layer["subject"]) - {"lits_core", "proof_text"} for crate in layer["subject"]}
     ruled_out.update({crate: every - set(layer["derivations"]) for crate in layer["derivations"]})
+    ruled_out["proof_text"] -= {"rcc5_core"}
     ruled_out.update({crate: every - set(layer["solver"]) - set(layer["derivations"]) for crate in layer["solver"]})
     ruled_out.update({crate: asks for crate in ("bit_rows", "point_table", "point_ladder", "table_walk")})
     ruled_out.update({crate: asks | set(layer["search"]) for crate in layer["certificates"] + ["check_run"]})
@@ -239,13 +255,13 @@ def main():
     program = sys.argv[1] if len(sys.argv) > 1 else os.path.join(ROOT, "crates/euler_align/out/euler_align")
     faults, told = [], []
     if os.path.exists(program):
-        count = 0
+        count, skipped, rdflib = 0, 0, has_rdflib()
         for page in SHOWN:
             with tempfile.TemporaryDirectory() as folder:
-                ran, wrong = run_page(page, program, folder)
-            count += ran
+                ran, left, wrong = run_page(page, program, folder, rdflib)
+            count, skipped = count + ran, skipped + left
             faults += wrong
-        told.append(f"{count} command lines run")
+        told.append(f"{count} command lines run" + (f", {skipped} skipped for want of rdflib" if skipped else ""))
     else:
         told.append(f"no program at {os.path.relpath(program)}, so no command line was run")
     for name, look in [("links", link_faults), ("quotes", quote_faults), ("crates", crate_faults), ("rows of what must be read", reading_faults), ("commands", word_faults)]:

@@ -42,7 +42,7 @@ request_named : {W : Type 0} (name : W → List ℕ) (text : W → Texts) (ws : 
     → request_by (watched name text ws) words ≡ r
 request_named name text ws words r e = ap (λ names. request_of names words) (watched_names name text ws) ∙ e
 
--- the same of watchers as they are handed in
+-- what is asked for, of watchers as they are handed in
 pub made_by : {W : Type 0} (name : W → List ℕ) (text : W → Texts) (ws : List W) (words : List (List ℕ)) (r : Request) → request_of (map name ws) words ≡ Ok r → IsMade (watched name text ws) r
 made_by name text ws words r e = made (watched name text ws) words r (request_named name text ws words (Ok r) e)
 

@@ -4,7 +4,9 @@
 mod top;
 mod words;
 
-pub use command_line::{UsageKind, WordsFault, fault_place, usage_help};
+pub use command_line::{
+    Command, Key, UsageKind, WordsFault, command_help, fault_place, key_help, usage_help,
+};
 pub use run_ends::{Status, TEXT_LIMIT, read_front, text_help};
 pub use top::run;
 pub use words::read_words;

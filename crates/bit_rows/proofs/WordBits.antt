@@ -169,24 +169,28 @@ meets_none one other left right cells i none long some = elim (cases_lt some.pla
       true≢false (sym some.passes ∙ ap (λ a. (a && has_bit other some.place) && in_cells cells (has_bit left some.place) (has_bit right some.place)) off)
 ]
 
-pub meets_by : (one other left right : List ℕ) (cells : Cells) (i o l r word : ℕ) → o ≡ get_or other i 0 → l ≡ get_or left i 0 → r ≡ get_or right i 0 →
-    ((j : ℕ) → j < 64 → word_bit word j ≡ in_cells cells (word_bit l j) (word_bit r j)) →
+-- the words of three rows at a place, and the word of the bits that the last two have in some cells
+pub record AreWords (other left right : List ℕ) (cells : Cells) (i o l r word : ℕ) : Type 0 where
+  pub other_is : o ≡ get_or other i 0
+  pub left_is : l ≡ get_or left i 0
+  pub right_is : r ≡ get_or right i 0
+  pub in_cells_is : (j : ℕ) → j < 64 → word_bit word j ≡ in_cells cells (word_bit l j) (word_bit r j)
+
+pub meets_by : (one other left right : List ℕ) (cells : Cells) (i o l r word : ℕ) → AreWords other left right cells i o l r word →
     (j : ℕ) → j < 64 → meets_at one other left right cells (64 * i + j) ≡ word_bit (bit_and (bit_and (get_or one i 0) o) word) j
-meets_by one other left right cells i o l r word eo el er is j within =
-    meets_word one other left right cells i word (λ j h. is j h ∙ ap (λ x. in_cells cells (word_bit x j) (word_bit r j)) el ∙ ap (λ x. in_cells cells (word_bit (get_or left i 0) j) (word_bit x j)) er) j within ∙
-    ap (λ x. word_bit (bit_and (bit_and (get_or one i 0) x) word) j) (sym eo)
+meets_by one other left right cells i o l r word are j within =
+    meets_word one other left right cells i word (λ j h. are.in_cells_is j h ∙ ap (λ x. in_cells cells (word_bit x j) (word_bit r j)) are.left_is ∙ ap (λ x. in_cells cells (word_bit (get_or left i 0) j) (word_bit x j)) are.right_is) j within ∙
+    ap (λ x. word_bit (bit_and (bit_and (get_or one i 0) x) word) j) (sym are.other_is)
 
-pub meets_here : (one other left right : List ℕ) (cells : Cells) (i o l r word : ℕ) → get_or one i 0 < 2 ^ 64 → o ≡ get_or other i 0 → l ≡ get_or left i 0 → r ≡ get_or right i 0 →
-    ((j : ℕ) → j < 64 → word_bit word j ≡ in_cells cells (word_bit l j) (word_bit r j)) → bit_and (bit_and (get_or one i 0) o) word ≢ 0 → SomePlace (meets_at one other left right cells)
-meets_here one other left right cells i o l r word fits eo el er is some =
+pub meets_here : (one other left right : List ℕ) (cells : Cells) (i o l r word : ℕ) → get_or one i 0 < 2 ^ 64 → AreWords other left right cells i o l r word → bit_and (bit_and (get_or one i 0) o) word ≢ 0 → SomePlace (meets_at one other left right cells)
+meets_here one other left right cells i o l r word fits are some =
     some_here (meets_at one other left right cells) i (bit_and (bit_and (get_or one i 0) o) word)
-    (fits_and (bit_and (get_or one i 0) o) word (fits_and (get_or one i 0) o fits)) (meets_by one other left right cells i o l r word eo el er is) some
+    (fits_and (bit_and (get_or one i 0) o) word (fits_and (get_or one i 0) o fits)) (meets_by one other left right cells i o l r word are) some
 
-pub meets_more : (one other left right : List ℕ) (cells : Cells) (i o l r word : ℕ) → o ≡ get_or other i 0 → l ≡ get_or left i 0 → r ≡ get_or right i 0 →
-    ((j : ℕ) → j < 64 → word_bit word j ≡ in_cells cells (word_bit l j) (word_bit r j)) → NoneBelow (meets_at one other left right cells) (64 * i) →
+pub meets_more : (one other left right : List ℕ) (cells : Cells) (i o l r word : ℕ) → AreWords other left right cells i o l r word → NoneBelow (meets_at one other left right cells) (64 * i) →
     bit_and (bit_and (get_or one i 0) o) word ≡ 0 → NoneBelow (meets_at one other left right cells) (64 * (i + 1))
-meets_more one other left right cells i o l r word eo el er is below none =
-    none_more (meets_at one other left right cells) i (bit_and (bit_and (get_or one i 0) o) word) below (meets_by one other left right cells i o l r word eo el er is) none
+meets_more one other left right cells i o l r word are below none =
+    none_more (meets_at one other left right cells) i (bit_and (bit_and (get_or one i 0) o) word) below (meets_by one other left right cells i o l r word are) none
 
 pub shifted_has : (word place : ℕ) → (bit_and (word / 2 ^ place) 1 == 1) ≡ word_bit word place
 unfolding word_bit

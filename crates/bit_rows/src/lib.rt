@@ -5,4 +5,6 @@ mod rows;
 mod words;
 
 pub use rows::Rows;
-pub use words::{Cells, first_place, has_bit, has_single, have_common, is_inside, meets, with_bit};
+pub use words::{
+    Cells, Sides, first_place, has_bit, has_single, have_common, is_inside, meets, with_bit,
+};

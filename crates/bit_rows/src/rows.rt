@@ -2,7 +2,7 @@
 ghost use Rattle.std.specs.Prelude.{◌≡◌, ℕ, ◌+◌, ◌*◌, ◌<◌, ◌≤◌, ◌||◌, ◌==◌, false, length, OnOk};
 ghost use Rattle.bit_rows.specs.Rows.{has_bit, meets_at, bit_in, IsPushed, IsPut, IsPopped};
 
-use crate::words::{Cells, with_bit, word_at};
+use crate::words::{Cells, Sides, with_bit, word_at};
 use std::alloc::{AllocError, Global};
 use std::marker::Model;
 
@@ -76,23 +76,16 @@ impl Rows {
     }
 
     // Writes into a row what two others have in common in some cells of two sets.
-    fn write(
-        &mut self,
-        row: usize,
-        one: &[u64],
-        other: &[u64],
-        left: &[u64],
-        right: &[u64],
-        cells: Cells,
-    )
+    fn write(&mut self, row: usize, one: &[u64], other: &[u64], sides: &Sides, cells: Cells)
         requires row { row < self.old.count }
         requires width { length one.now ≤ self.old.width }
-        ensures { IsPut self.old self.new row (meets_at one.now other.now left.now right.now cells) }
+        ensures { IsPut self.old self.new row (meets_at one.now other.now sides.now.left.now sides.now.right.now cells) }
     {
         let start = row * self.width;
         for i in 0..self.width {
             let common = word_at(one, i) & word_at(other, i);
-            self.words[start + i] = common & cells.word(word_at(left, i), word_at(right, i));
+            self.words[start + i] = common
+                & cells.word(word_at(sides.left, i), word_at(sides.right, i));
         }
     }
 
@@ -143,17 +136,16 @@ impl Rows {
         &mut self,
         one: &[u64],
         other: &[u64],
-        left: &[u64],
-        right: &[u64],
+        sides: &Sides,
         cells: Cells,
     ) -> Result<(), AllocError>
         requires some { 0 < self.old.width }
         requires width { length one.now ≤ self.old.width }
-        ensures { OnOk result (IsPushed self.old self.new (meets_at one.now other.now left.now right.now cells)) }
+        ensures { OnOk result (IsPushed self.old self.new (meets_at one.now other.now sides.now.left.now sides.now.right.now cells)) }
     {
         self.push_empty()?;
         let last = self.count - 1;
-        self.write(last, one, other, left, right, cells);
+        self.write(last, one, other, sides, cells);
         Ok(())
     }
 }

@@ -2,6 +2,13 @@
 ghost use Rattle.std.specs.Prelude.{◌≡◌, ℕ, ◌<◌, ◌==◌, ◌&&◌, ◌||◌, ◌↔◌, true, false, IsTrue, IfSome, slice_index_or};
 ghost use Rattle.bit_rows.specs.Rows.{word_bit, has_bit, SomePlace, HasSingle, IsFirst, in_cells, meets_at, all_cells, neither_cell, other_cells};
 
+/// Two sets of places, by their rows.
+#[derive(Clone, Copy)]
+pub struct Sides<'a> {
+    pub left: &'a [u64],
+    pub right: &'a [u64],
+}
+
 /// Some of the four cells into which two sets divide all places.
 #[derive(Clone, Copy)]
 pub struct Cells {
@@ -125,12 +132,12 @@ pub fn has_single(row: &[u64]) -> bool
 /// Whether two rows have a place in common that two sets have in one of some cells.
 // Most callers know the cells, and the loop is much shorter for them.
 #[inline(always)]
-pub fn meets(one: &[u64], other: &[u64], left: &[u64], right: &[u64], cells: Cells) -> bool
-    ensures { IsTrue result ↔ SomePlace (meets_at one.now other.now left.now right.now cells) }
+pub fn meets(one: &[u64], other: &[u64], sides: &Sides, cells: Cells) -> bool
+    ensures { IsTrue result ↔ SomePlace (meets_at one.now other.now sides.now.left.now sides.now.right.now cells) }
 {
     for i in 0..one.len() {
         let common = one[i] & word_at(other, i);
-        if common & cells.word(word_at(left, i), word_at(right, i)) != 0 {
+        if common & cells.word(word_at(sides.left, i), word_at(sides.right, i)) != 0 {
             return true;
         }
     }
@@ -141,14 +148,22 @@ pub fn meets(one: &[u64], other: &[u64], left: &[u64], right: &[u64], cells: Cel
 pub fn have_common(one: &[u64], other: &[u64]) -> bool
     ensures { IsTrue result ↔ SomePlace (λ k. has_bit one.now k && has_bit other.now k) }
 {
-    meets(one, other, one, other, Cells::all())
+    let sides = Sides {
+        left: one,
+        right: other,
+    };
+    meets(one, other, &sides, Cells::all())
 }
 
 /// Whether a row's places are all in another.
 pub fn is_inside(one: &[u64], other: &[u64]) -> bool
     ensures { IsTrue result ↔ ((k : ℕ) → has_bit one.now k ≡ true → has_bit other.now k ≡ true) }
 {
-    !meets(one, one, other, other, Cells::neither())
+    let sides = Sides {
+        left: other,
+        right: other,
+    };
+    !meets(one, one, &sides, Cells::neither())
 }
 
 /// The first place of a row.

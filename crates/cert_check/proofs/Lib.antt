@@ -1,3 +1,4 @@
+pub mod AnswerLemmas
 pub mod ReadLemmas
 pub mod SourceLemmas
 pub mod WholeLemmas

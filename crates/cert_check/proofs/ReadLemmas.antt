@@ -1,5 +1,5 @@
 -- A certificate has fewer lines than bytes.
-use Rattle.std.proofs.Common.{◌≡◌, ℕ, ◌+◌, ◌^◌, ◌≤◌, inl, inr, cond, List, [], ◌∷◌, length, Option, Some, None, option_map, IfSome, Result, Ok, Err, refl, sym, ap, subst, ◌∙◌, arith}
+use Rattle.std.proofs.Common.{◌≡◌, ℕ, ◌+◌, ◌^◌, ◌≤◌, inl, inr, cond, List, [], ◌∷◌, length, Option, Some, None, Result, Ok, Err, refl, sym, ap, subst, ◌∙◌, arith}
 use Rattle.std.proofs.lemmas.Bool.{cases_Bool, ltb-false}
 use Rattle.proof_text.specs.Words.{words_of}
 use Rattle.proof_text.specs.declared.fault.LineTextFault.{LineTextFault}
@@ -8,11 +8,7 @@ use Rattle.cert_reader.specs.declared.spot.Spot.{Spot}
 use Rattle.cert_reader.specs.declared.fault.CertTextKind.{CertTextKind}
 use Rattle.cert_reader.specs.declared.fault.CertTextKind.TheVariants.{TooLong}
 use Rattle.cert_reader.specs.Reading.{Reading, first_spot, spot_after, is_too_long, line_read, line_in, line_at, rest_fault, ending, going_on, reading_of}
-use Rattle.cert_reader.specs.Reader.{Reader, to_read}
-use Rattle.cert_rules.specs.Files.{Answer}
-use Rattle.cert_check.specs.declared.accepted.Accepted.{Accepted}
-use Rattle.cert_check.specs.declared.fault.CheckFault.{CheckFault}
-use Rattle.cert_check.specs.Answers.{Tells}
+use Rattle.cert_reader.specs.Reader.{Reader, MayRead}
 use Rattle.cert_check.specs.Whole.{AreFew}
 
 -- the next line begins behind a line, and within the greatest length
@@ -48,13 +44,6 @@ lines_few spot (bytes ∷ (next ∷ pieces)) short =
     (λ read e. let places = place_after spot bytes read e in let more = lines_few read.1 (next ∷ pieces) places.1 in omega (arith, more, places.0))
 
 -- so at the top of a text
-pub few_at_first : (left : Option (List ℕ)) (reader : Reader) → reader ≡ record { spot = first_spot; pending = []; refusal = None } → AreFew 0 (to_read reader left)
-few_at_first None reader is = subst (λ reader. AreFew 0 (to_read reader None)) (sym is) tt
-few_at_first (Some bytes) reader is = subst (λ reader. AreFew 0 (to_read reader (Some bytes))) (sym is) (omega (arith, lines_few first_spot (words_of 10 bytes) (omega arith)))
-
--- an answer to one reading is one to another that has the same
-pub tells_across : {A B : Type 0} (f : A → Answer CertTextKind) (g : B → Answer CertTextKind) (one : Option A) (other : Option B) (result : Result Accepted CheckFault) →
-    option_map f one ≡ option_map g other → IfSome other (λ b. Tells (g b) result) → IfSome one (λ a. Tells (f a) result)
-tells_across f g None other result same told = tt
-tells_across f g (Some a) None result same told = cc
-tells_across f g (Some a) (Some b) result same told = let equal : f a ≡ g b = cc in subst (λ answer. Tells answer result) (sym equal) told
+pub few_at_first : (left : Option (List ℕ)) (reader : Reader) → reader ≡ record { spot = first_spot; pending = []; refusal = None } → AreFew 0 (MayRead reader left)
+few_at_first left reader is = subst (λ reader. AreFew 0 (MayRead reader left)) (sym is)
+    (λ read may. omega (arith, ap (λ (read : Reading). length read.lines) may.1.1, lines_few first_spot (words_of 10 may.0) (omega arith)))

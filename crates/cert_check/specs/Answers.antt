@@ -1,5 +1,5 @@
 -- What a check answers, by what there was to read, and what it leaves of a source.
-use Rattle.std.specs.Prelude.{◌≡◌, ℕ, ◌≤◌, [], Option, Some, None, option_map, Result, Ok, Err, IfSome, ⊤}
+use Rattle.std.specs.Prelude.{◌≡◌, ℕ, ◌≤◌, [], Option, Some, None, Result, Ok, Err, ⊤}
 use Rattle.outer_store.specs.Faults.{Rose}
 use Rattle.world_model.specs.Problem.{Problem}
 use Rattle.cert_text.specs.declared.line.CertLine.{CertLine}
@@ -45,10 +45,10 @@ pub record SourceGoes {S T : Type 0} (faults : S → ℕ) (steady quiet : S → 
   pub still : IfReadFault result ⊤ (quiet old new)
 
 -- the next line was read: the first of those that there were to read, or none where the text is whole, or it has a fault
-abbrev pub IsNextLine : Result (Option CertLine) CheckFault → Option Reading → Option Reading → Type 0
-IsNextLine (Ok (Some line)) old new = old ≡ option_map (λ read. with_first line read) new
-IsNextLine (Ok None) old new = IfSome old (λ read. read ≡ whole)
-IsNextLine (Err (Text line kind)) old new = IfSome old (λ read. read ≡ record { lines = []; ends = Faulty line kind })
+abbrev pub IsNextLine : Result (Option CertLine) CheckFault → Reading → Reading → Type 0
+IsNextLine (Ok (Some line)) old new = old ≡ with_first line new
+IsNextLine (Ok None) old new = old ≡ whole
+IsNextLine (Err (Text line kind)) old new = old ≡ record { lines = []; ends = Faulty line kind }
 IsNextLine (Err (Rejected line kind)) old new = ⊥
 IsNextLine (Err ReadFault) old new = ⊤
 IsNextLine (Err NoMemory) old new = ⊤

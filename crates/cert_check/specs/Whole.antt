@@ -1,10 +1,11 @@
 -- How a whole certificate is taken, of either kind.
-use Rattle.std.specs.Prelude.{◌≡◌, ℕ, ◌+◌, ◌^◌, ◌≤◌, List, ◌∷◌, length, Option, option_map, Result, Ok, Err, IfSome, ⊤}
+use Rattle.std.specs.Prelude.{◌≡◌, ℕ, ◌+◌, ◌^◌, ◌≤◌, List, ◌∷◌, length, Option, Result, Ok, Err, ⊤}
 use Rattle.rcc5_core.specs.declared.Rel.{Rel}
 use Rattle.world_model.specs.Problem.{Problem}
 use Rattle.cert_text.specs.declared.line.CertLine.{CertLine}
 use Rattle.cert_text.specs.Ends.{TextEnd, Whole, Faulty}
 use Rattle.cert_reader.specs.declared.fault.CertTextKind.{CertTextKind}
+use Rattle.cert_reader.specs.Bytes.{ForSome}
 use Rattle.cert_reader.specs.Reading.{Reading, with_first}
 use Rattle.cert_rules.specs.Listings.{Going, Ended, steps}
 use Rattle.cert_rules.specs.ClaimLists.{claim_steps}
@@ -56,27 +57,27 @@ Starts p first (Err (fault.Text line kind)) = ⊥
 Starts p first (Err fault.ReadFault) = ⊥
 Starts p first (Err fault.NoMemory) = ⊤
 
--- the answer to what there was to read is given, where it is told
-abbrev pub TellsFrom : Checker → ℕ → Option Reading → Result Accepted CheckFault → Type 0
-TellsFrom checker n told result = IfSome told (λ read. Tells (answer_from checker n read) result)
+-- the answer to something that there may have been to read is given
+abbrev pub TellsFrom : Checker → ℕ → (Reading → Type 0) → Result Accepted CheckFault → Type 0
+TellsFrom checker n may result = ForSome may (λ read. Tells (answer_from checker n read) result)
 
--- so many lines more than were read are few
-abbrev pub AreFew : ℕ → Option Reading → Type 0
-AreFew n told = IfSome told (λ read. n + length read.lines ≤ 2 ^ 36)
+-- so many lines more than there may be to read are few
+abbrev pub AreFew : ℕ → (Reading → Type 0) → Type 0
+AreFew n may = (read : Reading) → may read → n + length read.lines ≤ 2 ^ 36
 
 -- one more line was read and taken, or there is an answer
-abbrev pub IsTurn : Checker → ℕ → Option Reading → Checker → Option Reading → Result Turn CheckFault → Type 0
-IsTurn old n told new left (Ok turn.Further) = option_map (λ read. answer_from old n read) told ≡ option_map (λ read. answer_from new (n + 1) read) left
-IsTurn old n told new left (Ok (turn.Ended to)) = option_map (λ read. answer_from old n read) told ≡ option_map (λ read. ended_answer (verdict_from new to) read.ends) left
-IsTurn old n told new left (Err fault) = TellsFrom old n told (Err fault)
+abbrev pub IsTurn : Checker → ℕ → Reading → Checker → Reading → Result Turn CheckFault → Type 0
+IsTurn old n read new left (Ok turn.Further) = answer_from old n read ≡ answer_from new (n + 1) left
+IsTurn old n read new left (Ok (turn.Ended to)) = answer_from old n read ≡ ended_answer (verdict_from new to) left.ends
+IsTurn old n read new left (Err fault) = Tells (answer_from old n read) (Err fault)
 
 -- the lines came to their end, or to the fault that is there
-abbrev pub IsEnd : Option Reading → Result Unit CheckFault → Type 0
-IsEnd told (Ok done) = IfSome told (λ read. read.ends ≡ Whole)
-IsEnd told (Err (fault.Text line kind)) = IfSome told (λ read. read.ends ≡ Faulty line kind)
-IsEnd told (Err (fault.Rejected line kind)) = ⊥
-IsEnd told (Err fault.ReadFault) = ⊤
-IsEnd told (Err fault.NoMemory) = ⊤
+abbrev pub IsEnd : Reading → Result Unit CheckFault → Type 0
+IsEnd read (Ok done) = read.ends ≡ Whole
+IsEnd read (Err (fault.Text line kind)) = read.ends ≡ Faulty line kind
+IsEnd read (Err (fault.Rejected line kind)) = ⊥
+IsEnd read (Err fault.ReadFault) = ⊤
+IsEnd read (Err fault.NoMemory) = ⊤
 
 -- the fault of a line that is not taken
 abbrev pub fault_at : ℕ → Stop → CheckFault

@@ -1,9 +1,9 @@
 //! A certificate, checked from its first line to the end of its text.
 
-ghost use Rattle.std.specs.Prelude.{◌≡◌, ◌≤◌, ◌+◌, ◌^◌, ◌<◌, Option, None, Some, Err, option_map, IfOk, OnOk, IfSome, IfNone};
-ghost use Rattle.cert_reader.specs.Bytes.{IsSpent};
+ghost use Rattle.std.specs.Prelude.{◌≡◌, ◌≤◌, ◌+◌, ◌^◌, ◌<◌, None, Err, IfOk, OnOk, IfNone};
+ghost use Rattle.cert_reader.specs.Bytes.{IsSpent, MayHold, ForSome, GoesOn};
 ghost use Rattle.cert_reader.specs.Reading.{Reading, reading, with_first};
-ghost use Rattle.cert_reader.specs.Reader.{to_read};
+ghost use Rattle.cert_reader.specs.Reader.{MayRead};
 ghost use Rattle.cert_rules.specs.Laws.{VerdictIsSo};
 ghost use Rattle.cert_check.specs.Answers.{verdict_of, IsAnswerOf, IsNextLine, SourceGoes, Tells};
 ghost use Rattle.cert_check.specs.Whole.{IsReady, TellsFrom, AreFew, IsTurn, IsEnd, verdict_from, ended_answer, fault_at};
@@ -32,8 +32,8 @@ pub fn check<R: Source>(
     problem: &Problem,
     source: &mut R,
 ) -> Result<Accepted, CheckFault>
-    ensures answer { IfSome (R.left source.old) (λ bytes. IsAnswerOf problem.now (reading bytes) result) }
-    ensures so { IfSome (R.left source.old) (λ _. IfOk result (λ said. VerdictIsSo problem.now (verdict_of said))) }
+    ensures answer { ForSome (MayHold (R.left source.old)) (λ bytes. IsAnswerOf problem.now (reading bytes) result) }
+    ensures so { IfOk result (λ said. VerdictIsSo problem.now (verdict_of said)) }
     ensures spent { OnOk result (IsSpent (R.left source.new)) }
     ensures source { SourceGoes R.faults R.steady R.quiet result source.old source.new }
 {
@@ -50,8 +50,8 @@ fn check_lines<R: Source>(
     source: &mut R,
 ) -> Result<Accepted, CheckFault>
     requires fresh { reader.old.refusal ≡ None }
-    requires few { AreFew 0 (to_read reader.old (R.left source.old)) }
-    ensures answer { IfSome (to_read reader.old (R.left source.old)) (λ read. IsAnswerOf problem.now read result) }
+    requires few { AreFew 0 (MayRead reader.old (R.left source.old)) }
+    ensures answer { ForSome (MayRead reader.old (R.left source.old)) (λ read. IsAnswerOf problem.now read result) }
     ensures spent { OnOk result (IsSpent (R.left source.new)) }
     ensures source { SourceGoes R.faults R.steady R.quiet result source.old source.new }
 {
@@ -71,8 +71,8 @@ fn check_behind<R: Source>(
     source: &mut R,
 ) -> Result<Accepted, CheckFault>
     requires fresh { reader.old.refusal ≡ None }
-    requires few { AreFew 1 (to_read reader.old (R.left source.old)) }
-    ensures answer { IfSome (to_read reader.old (R.left source.old)) (λ read. IsAnswerOf problem.now (with_first first read) result) }
+    requires few { AreFew 1 (MayRead reader.old (R.left source.old)) }
+    ensures answer { ForSome (MayRead reader.old (R.left source.old)) (λ read. IsAnswerOf problem.now (with_first first read) result) }
     ensures spent { OnOk result (IsSpent (R.left source.new)) }
     ensures source { SourceGoes R.faults R.steady R.quiet result source.old source.new }
 {
@@ -90,8 +90,8 @@ fn check_rest<R: Source>(
 ) -> Result<Accepted, CheckFault>
     requires ready { IsReady checker }
     requires fresh { reader.old.refusal ≡ None }
-    requires few { AreFew 1 (to_read reader.old (R.left source.old)) }
-    ensures answer { TellsFrom checker 1 (to_read reader.old (R.left source.old)) result }
+    requires few { AreFew 1 (MayRead reader.old (R.left source.old)) }
+    ensures answer { TellsFrom checker 1 (MayRead reader.old (R.left source.old)) result }
     ensures spent { OnOk result (IsSpent (R.left source.new)) }
     ensures source { SourceGoes R.faults R.steady R.quiet result source.old source.new }
 {
@@ -116,10 +116,10 @@ fn take_next<R: Source>(
     requires ready { IsReady checker.old }
     requires read { read ≤ 2 ^ 36 }
     requires fresh { reader.old.refusal ≡ None }
-    ensures turn { IsTurn checker.old read (to_read reader.old (R.left source.old)) checker.new (to_read reader.new (R.left source.new)) result }
+    ensures turn { GoesOn (MayRead reader.old (R.left source.old)) (MayRead reader.new (R.left source.new)) (λ told left. IsTurn checker.old read told checker.new left result) }
     ensures ready { OnOk result (IsReady checker.new) }
     ensures fresh { OnOk result (reader.new.refusal ≡ None) }
-    ensures few { OnOk result (AreFew read (to_read reader.old (R.left source.old)) → AreFew (read + 1) (to_read reader.new (R.left source.new))) }
+    ensures few { OnOk result (AreFew read (MayRead reader.old (R.left source.old)) → AreFew (read + 1) (MayRead reader.new (R.left source.new))) }
     ensures source { SourceGoes R.faults R.steady R.quiet result source.old source.new }
 {
     match next_line(reader, source) {
@@ -136,7 +136,7 @@ fn take_next<R: Source>(
 fn take(checker: &mut Checker, read: u64, line: CertLine) -> Result<Turn, CheckFault>
     requires ready { IsReady checker.old }
     requires read { read ≤ 2 ^ 36 }
-    ensures turn { (left : Option Reading) → IsTurn checker.old read (option_map (λ read. with_first line read) left) checker.new left result }
+    ensures turn { (left : Reading) → IsTurn checker.old read (with_first line left) checker.new left result }
     ensures ready { OnOk result (IsReady checker.new) }
     ensures unread { result ≡ Err ReadFault → ⊥ }
 {
@@ -154,8 +154,8 @@ fn finish<R: Source>(
     source: &mut R,
 ) -> Result<Accepted, CheckFault>
     requires fresh { reader.old.refusal ≡ None }
-    requires few { AreFew 1 (to_read reader.old (R.left source.old)) }
-    ensures answer { IfSome (to_read reader.old (R.left source.old)) (λ read. Tells (ended_answer (verdict_from checker to) read.ends) result) }
+    requires few { AreFew 1 (MayRead reader.old (R.left source.old)) }
+    ensures answer { ForSome (MayRead reader.old (R.left source.old)) (λ read. Tells (ended_answer (verdict_from checker to) read.ends) result) }
     ensures spent { OnOk result (IsSpent (R.left source.new)) }
     ensures source { SourceGoes R.faults R.steady R.quiet result source.old source.new }
 {
@@ -167,8 +167,8 @@ fn finish<R: Source>(
 
 fn end_reading<R: Source>(reader: &mut CertReader, source: &mut R) -> Result<(), CheckFault>
     requires fresh { reader.old.refusal ≡ None }
-    requires few { AreFew 1 (to_read reader.old (R.left source.old)) }
-    ensures answer { IsEnd (to_read reader.old (R.left source.old)) result }
+    requires few { AreFew 1 (MayRead reader.old (R.left source.old)) }
+    ensures answer { ForSome (MayRead reader.old (R.left source.old)) (λ read. IsEnd read result) }
     ensures spent { OnOk result (IsSpent (R.left source.new)) }
     ensures source { SourceGoes R.faults R.steady R.quiet result source.old source.new }
 {
@@ -188,7 +188,7 @@ fn next_line<R: Source>(
     source: &mut R,
 ) -> Result<Option<CertLine>, CheckFault>
     requires { reader.old.refusal ≡ None }
-    ensures answer { IsNextLine result (to_read reader.old (R.left source.old)) (to_read reader.new (R.left source.new)) }
+    ensures answer { GoesOn (MayRead reader.old (R.left source.old)) (MayRead reader.new (R.left source.new)) (IsNextLine result) }
     ensures fresh { OnOk result (reader.new.refusal ≡ None) }
     ensures spent { IfOk result (λ line. IfNone line (IsSpent (R.left source.new))) }
     ensures source { SourceGoes R.faults R.steady R.quiet result source.old source.new }

@@ -38,7 +38,7 @@ impl OpenTree {
         subject
     }
 
-    /// The same with the pairs on which its tree branches.
+    /// The tree of the same subject, with the pairs on which it branches.
     pub(crate) fn over_splits(self, alloc: Global) -> Result<OpenTree, AllocError>
         ensures { IfOk result (λ new. new ≡ record self { walk = record self.walk { tree = tree_over self.walk.tree.subject false [] } }) }
     {

@@ -17,7 +17,7 @@ use Rattle.world_model.proofs.PointPairs.{concept_below}
 use Rattle.world_model.proofs.PointAlive.{from_needs}
 use Rattle.constraint_set.proofs.Sums.{places_counted}
 use Rattle.cert_model.specs.Clauses.{is_so, is_not, first_sum_selector, variable_count}
-use Rattle.cert_model.specs.Forced.{region_number, region_with, selectors_of, need_with, need_lits, asked_of, IsNeed}
+use Rattle.cert_model.specs.Forced.{region_number, region_with, selectors_of, need_count, need_with, need_lits, asked_of, IsNeed}
 use Rattle.cert_model.proofs.Bits.{so_true, not_true, front_agrees}
 use Rattle.cert_model.proofs.Groups.{pair_in_bounds, lies_same}
 use Rattle.cert_model.proofs.Selectors.{from_selectors}
@@ -39,18 +39,19 @@ region_numbered p k region within =
     let n = 3 * k + region_number region in
     let part = part_below region in
     let low : nat_lt n (3 * pair_count p) ≡ true = lt-ltb n (3 * pair_count p) (omega arith) in
+    let there : nat_lt n (need_count p) ≡ true = lt-ltb n (need_count p) (omega arith) in
     let turn : n ≡ k * 3 + region_number region = omega arith in
     let pair_is : n / 3 ≡ k = ap (λ x. x / 3) turn ∙ div-mul-add k 3 (region_number region) part in
     let part_is : n % 3 ≡ region_number region = ap (λ x. x % 3) turn ∙ mod-mul-add k 3 (region_number region) part in
-    rw low (ap (λ q. Some (InRegion (pair_at p q) (region_with (n % 3)))) pair_is ∙ ap (λ q. Some (InRegion (pair_at p k) (region_with q))) part_is ∙ ap (λ r. Some (InRegion (pair_at p k) r)) (region_again region))
+    rw (there, low) (ap (λ q. Some (InRegion (pair_at p q) (region_with (n % 3)))) pair_is ∙ ap (λ q. Some (InRegion (pair_at p k) (region_with q))) part_is ∙ ap (λ r. Some (InRegion (pair_at p k) r)) (region_again region))
 
 pub concept_numbered : (p : Problem) (c : ℕ) → c < concept_count p → need_with p (3 * pair_count p + c) ≡ Some (InConcept c)
 concept_numbered p c within =
     let n = 3 * pair_count p + c in
     let high : nat_lt n (3 * pair_count p) ≡ false = le-ltb n (3 * pair_count p) (omega arith) in
-    let low : nat_lt n (3 * pair_count p + concept_count p) ≡ true = lt-ltb n (3 * pair_count p + concept_count p) (omega arith) in
+    let low : nat_lt n (need_count p) ≡ true = lt-ltb n (need_count p) (omega arith) in
     let left : n - 3 * pair_count p ≡ c = omega arith in
-    rw (high, low) (ap (λ x. Some (InConcept x)) left)
+    rw (low, high) (ap (λ x. Some (InConcept x)) left)
 
 -- what a need with a number is of
 data Known (p : Problem) : Need → Type 0 where
@@ -62,19 +63,20 @@ known p need numbered = elim (cases_lt numbered.0 (3 * pair_count p)) [
   | inl low ↦
       let n = numbered.0 in
       let below : nat_lt n (3 * pair_count p) ≡ true = lt-ltb n (3 * pair_count p) low in
-      let is : need_with p n ≡ Some (InRegion (pair_at p (n / 3)) (region_with (n % 3))) = rw below refl in
+      let there : nat_lt n (need_count p) ≡ true = lt-ltb n (need_count p) (omega arith) in
+      let is : need_with p n ≡ Some (InRegion (pair_at p (n / 3)) (region_with (n % 3))) = rw (there, below) refl in
       same (InRegion (pair_at p (n / 3)) (region_with (n % 3))) (sym is ∙ numbered.1) (a_region (n / 3) (region_with (n % 3)) (omega arith))
   | inr high ↦
       let n = numbered.0 in
       let past : nat_lt n (3 * pair_count p) ≡ false = le-ltb n (3 * pair_count p) high in
-      elim (cases_lt n (3 * pair_count p + concept_count p)) [
+      elim (cases_lt n (need_count p)) [
         | inl low ↦
-            let below : nat_lt n (3 * pair_count p + concept_count p) ≡ true = lt-ltb n (3 * pair_count p + concept_count p) low in
-            let is : need_with p n ≡ Some (InConcept (n - 3 * pair_count p)) = rw (past, below) refl in
+            let below : nat_lt n (need_count p) ≡ true = lt-ltb n (need_count p) low in
+            let is : need_with p n ≡ Some (InConcept (n - 3 * pair_count p)) = rw (below, past) refl in
             same (InConcept (n - 3 * pair_count p)) (sym is ∙ numbered.1) (a_concept (n - 3 * pair_count p) (omega arith))
         | inr none ↦
-            let above : nat_lt n (3 * pair_count p + concept_count p) ≡ false = le-ltb n (3 * pair_count p + concept_count p) none in
-            let is : need_with p n ≡ None = rw (past, above) refl in
+            let above : nat_lt n (need_count p) ≡ false = le-ltb n (need_count p) none in
+            let is : need_with p n ≡ None = rw above refl in
             let found : need_with p n ≡ Some need = numbered.1 in
             absurd (cc)
       ]

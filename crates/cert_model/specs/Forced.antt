@@ -46,11 +46,18 @@ selectors_of p m =
     region_selectors (concept_count p) (forced_pairs (problem_at p m)) ++
     sum_selectors p.kept (first_sum_selector p) (sum_places p)
 
--- the need with a number: the regions of the pairs come first, then the concepts
+-- how many needs may be: three regions a pair, and the concepts
+abbrev pub need_count : Problem → ℕ
+need_count p = 3 * pair_count p + concept_count p
+
+-- the need with a number below that count: the regions of the pairs come first, then the concepts
+abbrev pub need_at : Problem → ℕ → Need
+need_at p number =
+    if nat_lt number (3 * pair_count p) then InRegion (pair_at p (number / 3)) (region_with (number % 3)) else InConcept (number - 3 * pair_count p)
+
+-- the need with a number, if there is one
 abbrev pub need_with : Problem → ℕ → Option Need
-need_with p number =
-    if nat_lt number (3 * pair_count p) then Some (InRegion (pair_at p (number / 3)) (region_with (number % 3)))
-    else (if nat_lt number (3 * pair_count p + concept_count p) then Some (InConcept (number - 3 * pair_count p)) else None)
+need_with p number = if nat_lt number (need_count p) then Some (need_at p number) else None
 
 -- the literals that say that a point is in a need
 abbrev pub need_lits : Need → List ℕ

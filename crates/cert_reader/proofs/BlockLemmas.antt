@@ -1,5 +1,5 @@
 -- Bytes of a block up to the next LF.
-use Rattle.std.proofs.Common.{◌≡◌, ℕ, ◌+◌, ◌-◌, ◌<◌, ◌≤◌, Bool, true, false, eqb, ltb, cond, List, [], ◌∷◌, ◌++◌, append-nil, append_assoc, length, length-append, length-take, get_or, take, drop, position, Option, Some, None, option_map, refl, sym, ap, ◌∙◌, arith}
+use Rattle.std.proofs.Common.{◌≡◌, ℕ, ◌+◌, ◌-◌, ◌<◌, ◌≤◌, Bool, true, false, eqb, ltb, cond, List, [], ◌∷◌, ◌++◌, append-nil, length, length-append, length-take, get_or, take, drop, position, Some, None, refl, sym, ap, ◌∙◌, arith}
 use Rattle.std.proofs.lemmas.Grind.{common_steps}
 use Rattle.std.specs.List.{position_or_len}
 use Rattle.std.proofs.lemmas.Bool.{eqb-true}
@@ -10,7 +10,7 @@ use Rattle.std.proofs.lemmas.List.Quantifiers.{position-Some}
 use Rattle.std.proofs.lemmas.List.Sums.{fails_before_first}
 use Rattle.std.proofs.Math.Seq.{drop-length}
 use Rattle.proof_text.specs.Laws.{has_byte}
-use Rattle.cert_reader.specs.Bytes.{part_of, IsMoved, to_come}
+use Rattle.cert_reader.specs.Bytes.{part_of, IsMoved}
 
 -- a part of a block without its first bytes
 pub skip_part : (block : List ℕ) (from upto count : ℕ) → count ≤ length (part_of block from upto) → part_of block (from + count) upto ≡ drop count (part_of block from upto)
@@ -61,18 +61,6 @@ moved_all text line new_line new found is_line is_new = record {
   parted = sym (append-nil text);
   all = λ e. is_new ∙ drop-length text;
 }
-
-moved_on : (old line more moved : List ℕ) (left : Option (List ℕ)) → more ≡ line ++ moved → old ≡ moved ++ [] →
-    option_map (λ rest. line ++ rest) (to_come old left) ≡ option_map (λ rest. more ++ rest) left
-moved_on old line more moved None grown all = refl
-moved_on old line more moved (Some bytes) grown all =
-    ap Some (ap (λ o. line ++ (o ++ bytes)) (all ∙ append-nil moved) ∙ sym (append_assoc line moved bytes) ∙ ap (λ t. t ++ bytes) (sym grown))
-
--- a line that took all bytes at hand, and the bytes to come behind them, are what was to come
-pub gathered_on : (found : Bool) (old new line more : List ℕ) (told left rest : Option (List ℕ)) → IsMoved found old new line more → found ≡ false →
-    told ≡ option_map (λ rest. line ++ rest) (to_come old left) → rest ≡ left → told ≡ option_map (λ rest. more ++ rest) rest
-gathered_on found old new line more told left rest is missed before kept =
-    before ∙ moved_on old line more is.moved left is.grown (is.parted ∙ ap (λ b. is.moved ++ cond b (10 ∷ new) []) missed) ∙ ap (option_map (λ rest. more ++ rest)) (sym kept)
 
 -- a line that took all bytes at hand is longer by these
 pub moved_length : (found : Bool) (old new line more : List ℕ) → IsMoved found old new line more → found ≡ false → length more ≡ length line + length old

@@ -1,3 +1,5 @@
 pub mod BlockLemmas
+pub mod GatherLemmas
+pub mod GoesOnLemmas
 pub mod ReaderLemmas
 pub mod WholeLemmas

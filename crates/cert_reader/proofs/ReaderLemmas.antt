@@ -1,5 +1,6 @@
 -- What a line, or a rest with no LF, leaves to be read.
-use Rattle.std.proofs.Common.{◌≡◌, ◌≢◌, ℕ, ◌+◌, ◌-◌, ◌^◌, ◌<◌, ◌≤◌, false, cond, eqb, List, [], ◌∷◌, ◌++◌, length, length-append, Option, Some, None, option_map, IfSome, IfNone, IfOk, OnOk, Result, Ok, Err, IsErrAnd, refl, sym, ap, subst, ◌∙◌, arith}
+use Rattle.std.proofs.Common.{◌≡◌, ◌≢◌, ℕ, ◌+◌, ◌-◌, ◌^◌, ◌<◌, ◌≤◌, false, cond, eqb, List, [], ◌∷◌, ◌++◌, length, length-append, Option, Some, None, IfNone, IfOk, OnOk, Result, Ok, Err, IsErrAnd, refl, sym, ap, subst, ◌∙◌, arith}
+use Rattle.std.specs.Prelude.{⊤}
 use Rattle.std.specs.List.{onto_first, join_with_byte}
 use Rattle.std.proofs.lemmas.Bool.{lt-ltb, or_parts}
 use Rattle.std.proofs.lemmas.List.Splits.{slice_split-cons_no, join_with_byte-slice_split}
@@ -16,9 +17,9 @@ use Rattle.cert_text.specs.Ends.{Faulty}
 use Rattle.cert_reader.specs.Reading.{Reading, faulty, with_first, is_over, rest_fault, line_read, line_in, line_at, ending, going_on, reading_of, reading_from}
 use Rattle.cert_reader.specs.declared.gather.Gathered.{Gathered}
 use Rattle.cert_reader.specs.declared.gather.Gathered.TheVariants as gathered
-use Rattle.cert_reader.specs.Bytes.{to_come}
+use Rattle.cert_reader.specs.Bytes.{MayHold, MayCome, ForSome, GoesOn}
 use Rattle.cert_reader.proofs.BlockLemmas.{none_of}
-use Rattle.cert_reader.specs.Reader.{Reader, IsGathered, to_read, IsToldAt, IsAnswer, ended_by}
+use Rattle.cert_reader.specs.Reader.{Reader, IsGathered, MayRead, IsToldAt, IsAnswer, ended_by}
 
 -- a text has words, be it empty
 words_some : (text : List ℕ) → words_of 10 text ≢ []
@@ -63,53 +64,29 @@ long_cases spot front rest (word ∷ words) clean long e =
 reading_long : (spot : Spot) (front rest : List ℕ) → has_byte 10 front ≡ false → 2 ^ 36 < spot.place + length front → reading_from spot (front ++ rest) ≡ faulty spot TooLong
 reading_long spot front rest clean long = long_cases spot front rest (words_of 10 rest) clean long refl
 
--- the answers at a line that was read
-pub answer_line : (spot after : Spot) (x : CertLine) (line : List ℕ) (old new : Option (List ℕ)) → has_byte 10 line ≡ false → old ≡ option_map (λ rest. line ++ 10 ∷ rest) new → line_at spot line ≡ Ok (x, after) →
-    option_map (λ bytes. reading_from spot bytes) old ≡ option_map (λ reading. with_first x reading) (option_map (λ bytes. reading_from after bytes) new)
-answer_line spot after x line old None clean e read = ap (option_map (λ bytes. reading_from spot bytes)) e
-answer_line spot after x line old (Some rest) clean e read =
-    ap (option_map (λ bytes. reading_from spot bytes)) e
-    ∙ ap Some (reading_line spot line rest clean ∙ ap (λ read. going_on spot read (λ after. reading_from after rest)) read)
+-- the reading where a line was read
+line_first : (spot after : Spot) (x : CertLine) (line old rest : List ℕ) → has_byte 10 line ≡ false → old ≡ line ++ 10 ∷ rest → line_at spot line ≡ Ok (x, after) →
+    reading_from spot old ≡ with_first x (reading_from after rest)
+line_first spot after x line old rest clean e read =
+    ap (reading_from spot) e ∙ reading_line spot line rest clean ∙ ap (λ read. going_on spot read (λ after. reading_from after rest)) read
 
-faulty_line : (spot : Spot) (line : List ℕ) (n : ℕ) (kind : CertTextKind) (new : Option (List ℕ)) → has_byte 10 line ≡ false → n ≡ spot.line → line_at spot line ≡ Err kind →
-    IfSome (option_map (λ bytes. reading_from spot bytes) (option_map (λ rest. line ++ 10 ∷ rest) new)) (λ reading. reading ≡ record { lines = []; ends = Faulty n kind })
-faulty_line spot line n kind None clean is_n read = tt
-faulty_line spot line n kind (Some rest) clean is_n read =
-    reading_line spot line rest clean ∙ ap (λ read. going_on spot read (λ after. reading_from after rest)) read ∙ ap (λ n. record { lines = []; ends = Faulty n kind }) (sym is_n)
-
--- at a line's fault
-pub answer_fault : (spot : Spot) (line : List ℕ) (fault : CertTextFault) (old new : Option (List ℕ)) (later : Option Reading) → has_byte 10 line ≡ false → old ≡ option_map (λ rest. line ++ 10 ∷ rest) new →
-    IsToldAt {A = CertLine × Spot} spot (line_at spot line) (Err fault) → IsAnswer (Err fault) (option_map (λ bytes. reading_from spot bytes) old) later
-answer_fault spot line (Text n kind) old new later clean e told =
-    subst (λ old. IfSome (option_map (λ bytes. reading_from spot bytes) old) (λ reading. reading ≡ record { lines = []; ends = Faulty n kind })) (sym e)
-    (faulty_line spot line n kind new clean told.0 told.1)
-answer_fault spot line ReadFault old new later clean e told = tt
-answer_fault spot line NoMemory old new later clean e told = tt
+-- the answers at a line's fault
+answer_fault : (spot : Spot) (line old rest : List ℕ) (fault : CertTextFault) (later : Reading) → has_byte 10 line ≡ false → old ≡ line ++ 10 ∷ rest →
+    IsToldAt {A = CertLine × Spot} spot (line_at spot line) (Err fault) → IsAnswer (Err fault) (reading_from spot old) later
+answer_fault spot line old rest (Text n kind) later clean e told =
+    ap (reading_from spot) e ∙ reading_line spot line rest clean ∙ ap (λ read. going_on spot read (λ after. reading_from after rest)) told.1
+    ∙ ap (λ n. record { lines = []; ends = Faulty n kind }) (sym told.0)
+answer_fault spot line old rest ReadFault later clean e told = tt
+answer_fault spot line old rest NoMemory later clean e told = tt
 
 -- what `?` answers
-pub answer_residual : (r : Result (Option CertLine) CertTextFault) (fault : CertTextFault) (old new : Option Reading) → IsErrAnd r (λ y. y ≡ fault) → IsAnswer (Err fault) old new → IsAnswer r old new
+answer_residual : (r : Result (Option CertLine) CertTextFault) (fault : CertTextFault) (old new : Reading) → IsErrAnd r (λ y. y ≡ fault) → IsAnswer (Err fault) old new → IsAnswer r old new
 answer_residual (Ok x) fault old new is h = absurd is
 answer_residual (Err y) fault old new is h = subst (λ f. IsAnswer (Err f) old new) (sym is) h
 
-ended_answer : (spot : Spot) (o : Option CertTextKind) (old new : Option Reading) → IfSome old (λ reading. reading ≡ ending spot o) → IsAnswer (ended_by spot o) old new
+ended_answer : (spot : Spot) (o : Option CertTextKind) (old new : Reading) → old ≡ ending spot o → IsAnswer (ended_by spot o) old new
 ended_answer spot None old new h = h
 ended_answer spot (Some kind) old new h = h
-
-rest_told : (spot : Spot) (rest : List ℕ) (old : Option (List ℕ)) → has_byte 10 rest ≡ false → IfSome old (λ bytes. bytes ≡ rest) →
-    IfSome (option_map (λ bytes. reading_from spot bytes) old) (λ reading. reading ≡ ending spot (rest_fault spot rest))
-rest_told spot rest None clean is = tt
-rest_told spot rest (Some bytes) clean is = ap (reading_from spot) is ∙ reading_rest spot rest clean
-
--- at the end of the bytes
-pub answer_rest : (spot : Spot) (rest : List ℕ) (old : Option (List ℕ)) (later : Option Reading) → has_byte 10 rest ≡ false → IfSome old (λ bytes. bytes ≡ rest) →
-    IsAnswer (ended_by spot (rest_fault spot rest)) (option_map (λ bytes. reading_from spot bytes) old) later
-answer_rest spot rest old later clean is = ended_answer spot (rest_fault spot rest) (option_map (λ bytes. reading_from spot bytes) old) later (rest_told spot rest old clean is)
-
--- at a line that is too long
-pub answer_long : (spot : Spot) (front : List ℕ) (old : Option (List ℕ)) (later : Option Reading) → has_byte 10 front ≡ false → 2 ^ 36 < spot.place + length front →
-    IfSome old (λ bytes. (rest : List ℕ) × (bytes ≡ front ++ rest)) → IsAnswer (Err (Text spot.line TooLong)) (option_map (λ bytes. reading_from spot bytes) old) later
-answer_long spot front None later clean long is = tt
-answer_long spot front (Some bytes) later clean long is = ap (reading_from spot) is.1 ∙ reading_long spot front is.0 clean long
 
 -- where the bytes have ended, none was at hand before, and none is at hand now
 pub stays_at_end : (r : Result (Option CertLine) CertTextFault) (self : Reader) (spot : Spot) (old new : List ℕ) (refusal : Option CertTextFault) (bytes line : List ℕ) →
@@ -127,29 +104,75 @@ where_none (Ok None) Fact fact = fact
 where_none (Ok (Some x)) Fact fact = tt
 where_none (Err fault) Fact fact = tt
 
--- the same of a reader, by what its calls ensure
-module _ (self : Reader) (spot : Spot) (pending : List ℕ) (refusal : Option CertTextFault) (left new : Option (List ℕ)) (later : Option Reading) (how : Gathered) (room : ℕ) (bytes line : List ℕ)
-    (is : record { spot = spot; pending = pending; refusal = refusal } ≡ self) (gathers : IsGathered how room (to_come pending left) new line) where
-  pub told_fault : (r : Result (Option CertLine) CertTextFault) (fault : CertTextFault) → how ≡ gathered.Line → bytes ≡ line → IsErrAnd r (λ y. y ≡ fault) →
-      IsToldAt {A = CertLine × Spot} spot (line_at spot bytes) (Err fault) → IsAnswer r (to_read self left) later
-  told_fault r fault is_line same residual told =
-      let gathered_line = subst (λ how. IsGathered how room (to_come pending left) new line) is_line gathers in
-      let told_line = subst (λ bytes. IsToldAt {A = CertLine × Spot} spot (line_at spot bytes) (Err fault)) same told in
-      subst (λ self. IsAnswer r (to_read self left) later) is
-      (answer_residual r fault (option_map (λ bytes. reading_from spot bytes) (to_come pending left)) later residual
-      (answer_fault spot line fault (to_come pending left) new later gathered_line.0 gathered_line.1 told_line))
+-- something may be to come, and so to be read
+some_held : (left : Option (List ℕ)) → ForSome (MayHold left) (λ bytes. ⊤)
+some_held None = ([], (tt, tt))
+some_held (Some bytes) = (bytes, (refl, tt))
 
-  pub told_rest : (answer : Result (Option CertLine) CertTextFault) → how ≡ gathered.Rest → bytes ≡ line → answer ≡ ended_by spot (rest_fault spot bytes) → IsAnswer answer (to_read self left) later
-  told_rest answer is_rest same is_answer =
-      let rest = subst (λ how. IsGathered how room (to_come pending left) new line) is_rest gathers in
+pub some_read : (reader : Reader) (left : Option (List ℕ)) → (read : Reading) × MayRead reader left read
+some_read reader left =
+    let rest = some_held left in
+    (reading_from reader.spot (reader.pending ++ rest.0), (reader.pending ++ rest.0, ((rest.0, (rest.1.0, refl)), refl)))
+
+-- where there is no reading of the text, any may have been before
+pub answer_unread : (self : Reader) (left : Option (List ℕ)) (later : Reading → Type 0) (r : Result (Option CertLine) CertTextFault) → ((old new : Reading) → IsAnswer r old new)
+    → GoesOn (MayRead self left) later (IsAnswer r)
+answer_unread self left later r any = record { before = λ read may. let some = some_read self left in (some.0, (some.1, any some.0 read)) }
+
+-- a reader that keeps its refusal has the same to read
+pub refused_read : (self new : Reader) (spot : Spot) (pending : List ℕ) (refusal last : Option CertTextFault) (left after : Option (List ℕ)) (r : Result (Option CertLine) CertTextFault)
+    → record { spot = spot; pending = pending; refusal = refusal } ≡ new → GoesOn (MayRead self left) (MayRead new after) (IsAnswer r)
+    → GoesOn (MayRead self left) (MayRead (record { spot = spot; pending = pending; refusal = last }) after) (IsAnswer r)
+refused_read self new spot pending refusal last left after r is goes =
+    subst (λ (new : Reader). GoesOn (MayRead self left) (MayRead (record { spot = new.spot; pending = new.pending; refusal = last }) after) (IsAnswer r)) (sym is) goes
+
+-- the answers of a reader, by what its calls ensure
+module _ (self : Reader) (spot : Spot) (pending : List ℕ) (refusal : Option CertTextFault) (left : Option (List ℕ)) (next : List ℕ) (after : Option (List ℕ)) (how : Gathered) (room : ℕ) (line : List ℕ)
+    (is : record { spot = spot; pending = pending; refusal = refusal } ≡ self) (gathers : GoesOn (MayCome pending left) (MayCome next after) (λ old new. IsGathered how room old new line)) where
+  -- what is gathered before what may be to come now
+  gathered_as : (shape : Gathered) → how ≡ shape → (rest : List ℕ) → MayCome next after rest → ForSome (MayCome pending left) (λ old. IsGathered shape room old rest line)
+  gathered_as shape is_shape rest may = subst (λ how. ForSome (MayCome pending left) (λ old. IsGathered how room old rest line)) is_shape (gathers.before rest may)
+
+  -- an answer from the bytes that were gathered
+  from_gathered : (r : Result (Option CertLine) CertTextFault) (shape : Gathered) (on : Spot) (last : Option CertTextFault) → how ≡ shape →
+      ((old rest : List ℕ) → IsGathered shape room old rest line → IsAnswer r (reading_from spot old) (reading_from on rest)) →
+      GoesOn (MayRead self left) (MayRead (record { spot = on; pending = next; refusal = last }) after) (IsAnswer r)
+  from_gathered r shape on last is_shape answers =
+      subst (λ (self : Reader). GoesOn (MayRead self left) (MayRead (record { spot = on; pending = next; refusal = last }) after) (IsAnswer r)) is
+      (record {
+        before = λ read may.
+            let prior = gathered_as shape is_shape may.0 may.1.0 in (
+              reading_from spot prior.0,
+              (
+                (prior.0, (prior.1.0, refl)),
+                subst (IsAnswer r (reading_from spot prior.0)) (sym may.1.1) (answers prior.0 may.0 prior.1.1),
+              ),
+            );
+      })
+
+  pub told_line : (x : CertLine) (on : Spot) (bytes : List ℕ) → how ≡ gathered.Line → bytes ≡ line → line_at spot bytes ≡ Ok (x, on) →
+      GoesOn (MayRead self left) (MayRead (record { spot = on; pending = next; refusal = refusal }) after) (IsAnswer (Ok (Some x)))
+  told_line x on bytes is_line same read =
+      from_gathered (Ok (Some x)) gathered.Line on refusal is_line (λ old rest got. line_first spot on x line old rest got.0 got.1 (ap (line_at spot) (sym same) ∙ read))
+
+  pub told_fault : (r : Result (Option CertLine) CertTextFault) (fault : CertTextFault) (bytes : List ℕ) → how ≡ gathered.Line → bytes ≡ line → IsErrAnd r (λ y. y ≡ fault) →
+      IsToldAt {A = CertLine × Spot} spot (line_at spot bytes) (Err fault) → GoesOn (MayRead self left) (MayRead (record { spot = spot; pending = next; refusal = refusal }) after) (IsAnswer r)
+  told_fault r fault bytes is_line same residual told =
+      let told_same = subst (λ bytes. IsToldAt {A = CertLine × Spot} spot (line_at spot bytes) (Err fault)) same told in
+      from_gathered r gathered.Line spot refusal is_line (λ old rest got.
+      answer_residual r fault (reading_from spot old) (reading_from spot rest) residual (answer_fault spot line old rest fault (reading_from spot rest) got.0 got.1 told_same))
+
+  pub told_rest : (answer : Result (Option CertLine) CertTextFault) (bytes : List ℕ) → how ≡ gathered.Rest → bytes ≡ line → answer ≡ ended_by spot (rest_fault spot bytes) →
+      GoesOn (MayRead self left) (MayRead (record { spot = spot; pending = next; refusal = refusal }) after) (IsAnswer answer)
+  told_rest answer bytes is_rest same is_answer =
       let answer_is : answer ≡ ended_by spot (rest_fault spot line) = is_answer ∙ ap (λ bytes. ended_by spot (rest_fault spot bytes)) same in
-      subst (λ self. IsAnswer answer (to_read self left) later) is
-      (subst (λ answer. IsAnswer answer (option_map (λ bytes. reading_from spot bytes) (to_come pending left)) later) (sym answer_is)
-      (answer_rest spot line (to_come pending left) later rest.0 rest.2))
+      from_gathered answer gathered.Rest spot refusal is_rest (λ old rest got.
+      subst (λ answer. IsAnswer answer (reading_from spot old) (reading_from spot rest)) (sym answer_is)
+      (ended_answer spot (rest_fault spot line) (reading_from spot old) (reading_from spot rest) (ap (reading_from spot) got.2 ∙ reading_rest spot line got.0)))
 
-  pub told_long : (fault : CertTextFault) → how ≡ gathered.TooLong → room ≡ 2 ^ 36 - spot.place → fault ≡ Text spot.line TooLong → IsAnswer (Err fault) (to_read self left) later
+  pub told_long : (fault : CertTextFault) → how ≡ gathered.TooLong → room ≡ 2 ^ 36 - spot.place → fault ≡ Text spot.line TooLong →
+      GoesOn (MayRead self left) (MayRead (record { spot = spot; pending = next; refusal = refusal }) after) (IsAnswer (Err fault))
   told_long fault is_long is_room is_fault =
-      let front = subst (λ how. IsGathered how room (to_come pending left) new line) is_long gathers in
-      subst (λ self. IsAnswer (Err fault) (to_read self left) later) is
-      (subst (λ fault. IsAnswer (Err fault) (option_map (λ bytes. reading_from spot bytes) (to_come pending left)) later) (sym is_fault)
-      (answer_long spot line (to_come pending left) later front.0 (omega (arith, front.1, is_room)) front.2))
+      from_gathered (Err fault) gathered.TooLong spot refusal is_long (λ old rest got.
+      subst (λ fault. IsAnswer (Err fault) (reading_from spot old) (reading_from spot rest)) (sym is_fault)
+      (ap (reading_from spot) got.2.1 ∙ reading_long spot line got.2.0 got.0 (omega (arith, got.1, is_room))))

@@ -25,28 +25,28 @@ use Rattle.cert_reader.specs.declared.fault.CertTextKind.TheVariants.{TooLong, E
 use Rattle.cert_reader.specs.Reading.{with_first, may_stand, fits_in, line_in, is_over, first_spot, spot_after, rest_fault, line_read, line_at, ending, going_on, reading_of}
 use Rattle.cert_reader.specs.Laws.{kind_of_line, fits, stands, StandingLinesAreRead}
 
--- the words of a line begin with that of its kind, by which the kind is found
-record Begins (line : CertLine) : Type 0 where
+-- a line has the word of its kind before its other words, and the kind is found by it
+record HasKindWord (line : CertLine) : Type 0 where
   others : List (List ℕ)
   words : cert_words line ≡ kind_word (kind_of_line line) ∷ others
   clean : has_byte 32 (kind_word (kind_of_line line)) ≡ false
   found : kind_in (kind_word (kind_of_line line)) ≡ Some (kind_of_line line)
 
-begins : (line : CertLine) → Begins line
+has_kind_word : (line : CertLine) → HasKindWord line
 unfolding kind_in
-begins (Certificate switches from) = record { others = _; words = refl; clean = refl; found = refl }
-begins (Claims switches) = record { others = _; words = refl; clean = refl; found = refl }
-begins (Proof (Derive id lits hints)) = record { others = _; words = refl; clean = refl; found = refl }
-begins (Proof (Forget ids)) = record { others = _; words = refl; clean = refl; found = refl }
-begins (Branch depth last) = record { others = _; words = refl; clean = refl; found = refl }
-begins (NoPoint depth last need clause) = record { others = _; words = refl; clean = refl; found = refl }
-begins (NoRelation depth last pair) = record { others = _; words = refl; clean = refl; found = refl }
-begins (World depth last family) = record { others = _; words = refl; clean = refl; found = refl }
-begins (Holds subject family) = record { others = _; words = refl; clean = refl; found = refl }
-begins (Fails subject) = record { others = _; words = refl; clean = refl; found = refl }
-begins (End to) = record { others = _; words = refl; clean = refl; found = refl }
-begins Quit = record { others = _; words = refl; clean = refl; found = refl }
-begins Done = record { others = _; words = refl; clean = refl; found = refl }
+has_kind_word (Certificate switches from) = record { others = _; words = refl; clean = refl; found = refl }
+has_kind_word (Claims switches) = record { others = _; words = refl; clean = refl; found = refl }
+has_kind_word (Proof (Derive id lits hints)) = record { others = _; words = refl; clean = refl; found = refl }
+has_kind_word (Proof (Forget ids)) = record { others = _; words = refl; clean = refl; found = refl }
+has_kind_word (Branch depth last) = record { others = _; words = refl; clean = refl; found = refl }
+has_kind_word (NoPoint depth last need clause) = record { others = _; words = refl; clean = refl; found = refl }
+has_kind_word (NoRelation depth last pair) = record { others = _; words = refl; clean = refl; found = refl }
+has_kind_word (World depth last family) = record { others = _; words = refl; clean = refl; found = refl }
+has_kind_word (Holds subject family) = record { others = _; words = refl; clean = refl; found = refl }
+has_kind_word (Fails subject) = record { others = _; words = refl; clean = refl; found = refl }
+has_kind_word (End to) = record { others = _; words = refl; clean = refl; found = refl }
+has_kind_word Quit = record { others = _; words = refl; clean = refl; found = refl }
+has_kind_word Done = record { others = _; words = refl; clean = refl; found = refl }
 
 -- a word without separators is the first of the text that joins it to others
 first_word : (word : List ℕ) (words : List (List ℕ)) → has_byte 32 word ≡ false → (others : List (List ℕ)) × (words_of 32 (join_with_byte 32 (word ∷ words)) ≡ word ∷ others)
@@ -56,7 +56,7 @@ first_word word (next ∷ words) clean = (_, words_of-next 32 word (join_with_by
 -- bytes that are read as a line begin with the word of its kind
 first_is_kind : (bytes : List ℕ) (line : CertLine) → cert_line_of bytes ≡ Ok line → (others : List (List ℕ)) × (words_of 32 bytes ≡ kind_word (kind_of_line line) ∷ others)
 first_is_kind bytes line e =
-    let b = begins line in
+    let b = has_kind_word line in
     let first = first_word (kind_word (kind_of_line line)) b.others b.clean in
     (first.0, ap (words_of 32) ((cert_line_of-read bytes line e).0 ∙ ap (join_with_byte 32) b.words) ∙ first.1)
 
@@ -87,7 +87,7 @@ unfolding line_in cert_line_of_words
 read_there mode bytes line e may fit =
     let k = kind_of_line line in
     let first = first_is_kind bytes line e in
-    let found = (begins line).found in
+    let found = (has_kind_word line).found in
     let rest : rest_of k first.0 ≡ Ok line =
     sym (ap (λ o. ok_or o BadLine >>= λ kind. rest_of kind first.0) found) ∙ sym (ap cert_line_of_words first.1) ∙ e in
     ap (line_in mode) first.1

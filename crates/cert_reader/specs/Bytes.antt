@@ -1,5 +1,5 @@
 -- Bytes of a source, taken in blocks and parted at each LF.
-use Rattle.std.specs.Prelude.{◌≡◌, ℕ, ◌-◌, ◌<◌, ◌≤◌, Bool, false, if◌then◌else◌, List, [], ◌∷◌, ◌++◌, length, take, drop, Option, option_map, IfSome}
+use Rattle.std.specs.Prelude.{◌≡◌, ℕ, ◌-◌, ◌<◌, ◌≤◌, Bool, false, if◌then◌else◌, List, [], ◌∷◌, ◌++◌, length, take, drop, Option, IfSome}
 use Rattle.proof_text.specs.Laws.{has_byte}
 
 -- the part of a block that is still to come
@@ -22,6 +22,18 @@ pub record IsMoved (found : Bool) (old new line_old line_new : List ℕ) : Type 
 abbrev pub IsSpent : Option (List ℕ) → Type 0
 IsSpent left = IfSome left (λ bytes. bytes ≡ [])
 
--- the bytes to come: those at hand, and those that a source has left, where it tells them
-abbrev pub to_come : List ℕ → Option (List ℕ) → Option (List ℕ)
-to_come pending left = option_map (λ bytes. pending ++ bytes) left
+-- bytes that there may be: just those that are told, and any where none are
+abbrev pub MayHold : Option (List ℕ) → List ℕ → Type 0
+MayHold told bytes = IfSome told (λ all. bytes ≡ all)
+
+-- bytes that may be to come: those at hand, and behind them such as a source may have left
+abbrev pub MayCome : List ℕ → Option (List ℕ) → List ℕ → Type 0
+MayCome pending left bytes = (rest : List ℕ) × (MayHold left rest × (bytes ≡ pending ++ rest))
+
+-- a fact holds of something that may be
+abbrev pub ForSome : {A : Type 0} → (A → Type 0) → (A → Type 0) → Type 0
+ForSome {A} may Fact = (x : A) × (may x × Fact x)
+
+-- whatever may be left now, something may have been left before that has a fact with it
+pub record GoesOn {A : Type 0} (old new : A → Type 0) (Fact : A → A → Type 0) : Type 0 where
+  pub before : (left : A) → new left → ForSome old (λ prior. Fact prior left)

@@ -1,5 +1,5 @@
 -- What a reader of a certificate answers.
-use Rattle.std.specs.Prelude.{◌≡◌, ℕ, ◌+◌, ◌^◌, ◌<◌, ◌≤◌, true, false, List, [], ◌∷◌, ◌++◌, length, Option, Some, None, option_map, IfSome, Result, Ok, Err, ⊤}
+use Rattle.std.specs.Prelude.{◌≡◌, ℕ, ◌+◌, ◌^◌, ◌<◌, ◌≤◌, true, false, List, [], ◌∷◌, ◌++◌, length, Option, Some, None, Result, Ok, Err, ⊤}
 use Rattle.proof_text.specs.Laws.{has_byte}
 use Rattle.cert_text.specs.declared.line.CertLine.{CertLine}
 use Rattle.cert_reader.specs.declared.spot.Spot.{Spot}
@@ -8,7 +8,7 @@ use Rattle.cert_reader.specs.declared.gather.Gathered.TheVariants as gathered
 use Rattle.cert_reader.specs.declared.fault.CertTextKind.{CertTextKind}
 use Rattle.cert_reader.specs.declared.fault.CertTextFault.{CertTextFault}
 use Rattle.cert_reader.specs.declared.fault.CertTextFault.TheVariants.{Text, ReadFault, NoMemory}
-use Rattle.cert_reader.specs.Bytes.{to_come}
+use Rattle.cert_reader.specs.Bytes.{MayCome, ForSome}
 use Rattle.cert_text.specs.Ends.{Faulty}
 use Rattle.cert_reader.specs.Reading.{Reading, whole, with_first, reading_from}
 
@@ -23,10 +23,10 @@ abbrev pub IsSpot : Spot → Type 0
 IsSpot spot = (spot.place ≤ 2 ^ 36) × (spot.line ≤ spot.place + 1)
 
 -- what was gathered of some bytes: a line up to its LF, all the rest, or more than there is room for
-abbrev pub IsGathered : Gathered → ℕ → Option (List ℕ) → Option (List ℕ) → List ℕ → Type 0
-IsGathered gathered.Line room old new line = (has_byte 10 line ≡ false) × (old ≡ option_map (λ rest. line ++ 10 ∷ rest) new)
-IsGathered gathered.Rest room old new line = (has_byte 10 line ≡ false) × (length line ≤ room) × IfSome old (λ bytes. bytes ≡ line)
-IsGathered gathered.TooLong room old new line = (has_byte 10 line ≡ false) × (room < length line) × IfSome old (λ bytes. (rest : List ℕ) × (bytes ≡ line ++ rest))
+abbrev pub IsGathered : Gathered → ℕ → List ℕ → List ℕ → List ℕ → Type 0
+IsGathered gathered.Line room old new line = (has_byte 10 line ≡ false) × (old ≡ line ++ 10 ∷ new)
+IsGathered gathered.Rest room old new line = (has_byte 10 line ≡ false) × (length line ≤ room) × (old ≡ line)
+IsGathered gathered.TooLong room old new line = (has_byte 10 line ≡ false) × (room < length line) × ((rest : List ℕ) × (old ≡ line ++ rest))
 
 -- what a call answered is what reading a spot gives, unless memory ran out
 abbrev pub IsToldAt : {A : Type 0} → Spot → Result A CertTextKind → Result A CertTextFault → Type 0
@@ -35,15 +35,15 @@ IsToldAt spot read (Err (Text line kind)) = (line ≡ spot.line) × (read ≡ Er
 IsToldAt spot read (Err ReadFault) = false ≡ true
 IsToldAt spot read (Err NoMemory) = ⊤
 
--- what a reader is to read: the bytes to come from its spot on, where they are told
-abbrev pub to_read : Reader → Option (List ℕ) → Option Reading
-to_read reader left = option_map (λ bytes. reading_from reader.spot bytes) (to_come reader.pending left)
+-- what a reader may have to read: bytes that may be to come, from its spot on
+abbrev pub MayRead : Reader → Option (List ℕ) → Reading → Type 0
+MayRead reader left read = ForSome (MayCome reader.pending left) (λ bytes. read ≡ reading_from reader.spot bytes)
 
 -- an answer by what there was to read and what there is now: the first line, or none where the text is whole, or the first fault
-abbrev pub IsAnswer : Result (Option CertLine) CertTextFault → Option Reading → Option Reading → Type 0
-IsAnswer (Ok (Some line)) old new = old ≡ option_map (λ reading. with_first line reading) new
-IsAnswer (Ok None) old new = IfSome old (λ reading. reading ≡ whole)
-IsAnswer (Err (Text line kind)) old new = IfSome old (λ reading. reading ≡ record { lines = []; ends = Faulty line kind })
+abbrev pub IsAnswer : Result (Option CertLine) CertTextFault → Reading → Reading → Type 0
+IsAnswer (Ok (Some line)) old new = old ≡ with_first line new
+IsAnswer (Ok None) old new = old ≡ whole
+IsAnswer (Err (Text line kind)) old new = old ≡ record { lines = []; ends = Faulty line kind }
 IsAnswer (Err ReadFault) old new = ⊤
 IsAnswer (Err NoMemory) old new = ⊤
 

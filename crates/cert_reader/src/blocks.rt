@@ -1,8 +1,8 @@
 //! The bytes of a source, taken in blocks.
 
-ghost use Rattle.std.specs.Prelude.{◌≡◌, ◌≤◌, ◌+◌, ◌++◌, ◌==◌, [], not, length, drop, position, IfOk, IfSome, OnOk, OnErr, ⊤};
+ghost use Rattle.std.specs.Prelude.{◌≡◌, ◌≤◌, ◌+◌, ◌++◌, ◌==◌, [], not, length, drop, position, option_map, IfOk, IfSome, OnOk, OnErr, ⊤};
 ghost use Rattle.outer_store.specs.Faults.{Rose, IfFailed};
-ghost use Rattle.cert_reader.specs.Bytes.{IsMoved, to_come};
+ghost use Rattle.cert_reader.specs.Bytes.{IsMoved};
 
 use outer_store::{Source, StoreFault};
 use std::alloc::{AllocError, Global};
@@ -60,7 +60,7 @@ impl Blocks {
     /// Takes the next block of a source, where no byte of the last is left. It answers whether there was one.
     pub(crate) fn fill<R: Source>(&mut self, source: &mut R) -> Result<bool, StoreFault>
         requires { self.old ≡ [] }
-        ensures ok { OnOk result (to_come self.new (R.left source.new) ≡ R.left source.old) }
+        ensures ok { OnOk result (option_map (λ rest. self.new ++ rest) (R.left source.new) ≡ R.left source.old) }
         ensures more { IfOk result (λ more. more ≡ not (length self.new == 0)) }
         ensures short { length self.new ≤ 65536 }
         ensures ended { IfOk result (λ more. IfSome (R.left source.old) (λ bytes. more ≡ not (length bytes == 0))) }

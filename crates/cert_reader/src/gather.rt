@@ -2,7 +2,7 @@
 
 ghost use Rattle.std.specs.Prelude.{◌≡◌, ◌≤◌, ◌^◌, [], length, Ok, IfOk, ⊤};
 ghost use Rattle.outer_store.specs.Faults.{Rose, IfFailed};
-ghost use Rattle.cert_reader.specs.Bytes.{IsSpent, to_come};
+ghost use Rattle.cert_reader.specs.Bytes.{IsSpent, MayCome, GoesOn};
 ghost use Rattle.cert_reader.specs.declared.gather.Gathered.TheVariants.{Rest};
 ghost use Rattle.cert_reader.specs.Reader.{IsGathered};
 
@@ -30,7 +30,7 @@ pub(crate) fn gather<R: Source>(
 ) -> Result<Gathered, StoreFault>
     requires empty { line.old.items ≡ [] }
     requires room { room ≤ 2 ^ 36 }
-    ensures bytes { IfOk result (λ how. IsGathered how room (to_come blocks.old (R.left source.old)) (to_come blocks.new (R.left source.new)) line.new.items) }
+    ensures bytes { IfOk result (λ how. GoesOn (MayCome blocks.old (R.left source.old)) (MayCome blocks.new (R.left source.new)) (λ old new. IsGathered how room old new line.new.items)) }
     ensures rest { result ≡ Ok Rest → (blocks.new ≡ []) × (length blocks.old ≤ length line.new.items) }
     ensures spent { result ≡ Ok Rest → IsSpent (R.left source.new) }
     ensures cause { IfFailed result (Rose (R.faults source.old) (R.faults source.new)) (R.faults source.new ≡ R.faults source.old) }

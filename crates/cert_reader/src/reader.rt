@@ -2,9 +2,9 @@
 
 ghost use Rattle.std.specs.Prelude.{◌≡◌, ◌≤◌, [], None, Some, Err, IfOk, IfErr, OnOk, IfSome, IfNone, ⊤};
 ghost use Rattle.outer_store.specs.Faults.{Rose};
-ghost use Rattle.cert_reader.specs.Bytes.{IsSpent};
+ghost use Rattle.cert_reader.specs.Bytes.{IsSpent, GoesOn};
 ghost use Rattle.cert_reader.specs.Reading.{first_spot};
-ghost use Rattle.cert_reader.specs.Reader.{to_read, IsAnswer, IfReadFault};
+ghost use Rattle.cert_reader.specs.Reader.{MayRead, IsAnswer, IfReadFault};
 
 use crate::blocks::Blocks;
 use crate::fault::{CertTextFault, CertTextKind};
@@ -51,7 +51,7 @@ impl CertReader {
 
     /// The next line, and none where the bytes end after the last one. After a refusal it is refused again.
     pub fn next<R: Source>(&mut self, source: &mut R) -> Result<Option<CertLine>, CertTextFault>
-        ensures answer { self.old.refusal ≡ None → IsAnswer result (to_read self.old (R.left source.old)) (to_read self.new (R.left source.new)) }
+        ensures answer { self.old.refusal ≡ None → GoesOn (MayRead self.old (R.left source.old)) (MayRead self.new (R.left source.new)) (IsAnswer result) }
         ensures stays { IfOk result (λ line. IfNone line (self.new ≡ self.old)) }
         ensures spent { IfOk result (λ line. IfNone line (IsSpent (R.left source.new))) }
         ensures refused { IfErr result (λ fault. self.new.refusal ≡ Some fault) }
@@ -73,7 +73,7 @@ impl CertReader {
     }
 
     fn read_next<R: Source>(&mut self, source: &mut R) -> Result<Option<CertLine>, CertTextFault>
-        ensures answer { IsAnswer result (to_read self.old (R.left source.old)) (to_read self.new (R.left source.new)) }
+        ensures answer { GoesOn (MayRead self.old (R.left source.old)) (MayRead self.new (R.left source.new)) (IsAnswer result) }
         ensures stays { IfOk result (λ line. IfNone line (self.new ≡ self.old)) }
         ensures spent { IfOk result (λ line. IfNone line (IsSpent (R.left source.new))) }
         ensures refusal { self.new.refusal ≡ self.old.refusal }

@@ -14,6 +14,7 @@ use Rattle.lits_core.proofs.DerivationLemmas.{live-true}
 use Rattle.world_model.specs.Problem.{Problem, Constraint, pairs, pair_count, concept_count, constraints, kept_articulations, as_constraint, is_problem, is_about_pair, is_concept}
 use Rattle.world_model.specs.Family.{Family, set_of, holds, meets}
 use Rattle.world_model.specs.Alive.{Need, InRegion, InConcept, allowed, IsAlive, narrowings_at, is_point, is_in_need}
+use Rattle.world_model.specs.Listing.{Begins}
 use Rattle.world_model.specs.Node.{pair_at}
 use Rattle.world_model.proofs.Members.{In, here, there, all_at, all_from, In-get_or, In-left, In-right, from_append, contains_from_in}
 use Rattle.world_model.proofs.PointRules.{met_parts, met_whole}
@@ -23,13 +24,13 @@ use Rattle.world_model.proofs.PointPositions.{has-only}
 use Rattle.world_model.proofs.PointOnce.{at_empty}
 use Rattle.constraint_set.specs.Facts.{IsBuilt}
 use Rattle.cert_model.specs.Clauses.{given_clauses}
-use Rattle.cert_model.specs.Forced.{region_with, selectors_of, need_with, need_lits, asked_of}
+use Rattle.cert_model.specs.Forced.{region_with, selectors_of, need_count, need_at, need_with, need_lits, asked_of}
 use Rattle.cert_model.specs.Laws.{Extends}
 use Rattle.cert_model.proofs.Witness.{bits_of}
 use Rattle.cert_model.proofs.NeedLiterals.{need_truth}
 use Rattle.cert_rules.specs.declared.RejectKind.{RejectKind}
 use Rattle.cert_rules.specs.Trees.{table_along, is_forced, is_closed, need_fault, clause_fault, point_fault, pair_fault}
-use Rattle.cert_rules.proofs.Nexts.{Begins}
+use Rattle.cert_rules.proofs.Nexts.{begins_parts}
 
 -- a problem with other flags and narrowings is one, as far as these fit
 pub built_with : (p : Problem) (kept : List Bool) (ns : List Constraint) → IsBuilt p → is_problem (record p { kept = kept; narrowings = ns }) ≡ true →
@@ -76,9 +77,10 @@ begins_holds : (f : Family) (levels : List (ℕ × ℕ)) (m : List Rel) → Begi
 begins_holds f [] m begins = refl
 begins_holds f (q ∷ qs) [] begins = refl
 begins_holds f (q ∷ qs) (rel ∷ m) begins =
-    let rest = begins_holds f qs m begins.1 in
     let rel_in = relation_of (set_of f q.0) (set_of f q.1) in
-    and_from (has (only rel) rel_in) (list_all (holds f) (narrowings_at qs m)) (subst (λ r. has (only rel) r ≡ true) begins.0 (has-only rel)) rest
+    let parts = begins_parts rel rel_in m (table_along qs f) begins in
+    let rest = begins_holds f qs m parts.1 in
+    and_from (has (only rel) rel_in) (list_all (holds f) (narrowings_at qs m)) (subst (λ r. has (only rel) r ≡ true) parts.0 (has-only rel)) rest
 
 -- so it meets the problem at a node with which its table begins
 pub met_at_node : (p : Problem) (levels : List (ℕ × ℕ)) (m : List Rel) (f : Family) → meets p f ≡ true → Begins m (table_along levels f) →
@@ -143,24 +145,21 @@ point_parts q proof number id none = by (need_with q number) (live_clause proof 
 
 -- a need with a number that is forced is one of the needs
 pub forced_is_need : (q : Problem) (number : ℕ) (need : Need) → need_with q number ≡ Some need → is_forced q need ≡ true → IsNeed q need
-forced_is_need q number need named forced = region (nat_lt number (3 * pair_count q)) refl named
+forced_is_need q number need named forced = there (nat_lt number (need_count q)) refl named
   where
-    concept : (b : Bool) → nat_lt number (3 * pair_count q + concept_count q) ≡ b → nat_lt number (3 * pair_count q) ≡ false → cond b (Some (InConcept (number - 3 * pair_count q))) None ≡ Some need → IsNeed q need
-    concept false e past n = cc
-    concept true e past n =
-        let is : InConcept (number - 3 * pair_count q) ≡ need = cc in
-        let within : number < 3 * pair_count q + concept_count q = ltb-true number (3 * pair_count q + concept_count q) e in
-        let above : 3 * pair_count q ≤ number = ltb-false number (3 * pair_count q) past in
+    kind : (b : Bool) → nat_lt number (3 * pair_count q) ≡ b → number < 3 * pair_count q + concept_count q →
+        cond b (InRegion (pair_at q (number / 3)) (region_with (number % 3))) (InConcept (number - 3 * pair_count q)) ≡ need → IsNeed q need
+    kind false e within is =
+        let above : 3 * pair_count q ≤ number = ltb-false number (3 * pair_count q) e in
         subst (IsNeed q) is (subst (λ x. is_forced q x ≡ true) (sym is) forced, In-concepts q (number - 3 * pair_count q) (omega arith))
-
-    region : (b : Bool) → nat_lt number (3 * pair_count q) ≡ b →
-        cond b (Some (InRegion (pair_at q (number / 3)) (region_with (number % 3)))) (cond (nat_lt number (3 * pair_count q + concept_count q)) (Some (InConcept (number - 3 * pair_count q))) None) ≡ Some need → IsNeed q need
-    region false e n = concept (nat_lt number (3 * pair_count q + concept_count q)) refl e n
-    region true e n =
-        let is : InRegion (pair_at q (number / 3)) (region_with (number % 3)) ≡ need = cc in
-        let within : number < 3 * pair_count q = ltb-true number (3 * pair_count q) e in
+    kind true e within is =
+        let below : number < 3 * pair_count q = ltb-true number (3 * pair_count q) e in
         let inside : number / 3 < pair_count q = omega arith in
         subst (IsNeed q) is (In-get_or (pairs q) (number / 3) (0, 0) inside, record { same = subst (λ x. is_forced q x ≡ true) (sym is) forced })
+
+    there : (b : Bool) → nat_lt number (need_count q) ≡ b → cond b (Some (need_at q number)) None ≡ Some need → IsNeed q need
+    there false e n = cc
+    there true e n = let is : need_at q number ≡ need = cc in kind (nat_lt number (3 * pair_count q)) refl (ltb-true number (need_count q) e) is
 
 -- where a literal's negation is one of true literals, it is false
 false_literal : (bits : List Bool) (lits : List ℕ) (lit : ℕ) → list_all (lit_true bits) lits ≡ true → has_lit lits (negation_of lit) ≡ true → lit_true bits lit ≡ false

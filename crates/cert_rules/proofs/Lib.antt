@@ -1,4 +1,5 @@
 pub mod LiveClauses
+pub mod ClosedClauses
 pub mod Nexts
 pub mod Leaves
 pub mod Exact

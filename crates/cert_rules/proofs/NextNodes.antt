@@ -7,15 +7,14 @@ use Rattle.rcc5_core.specs.Relation.{rank_of, same_rel}
 use Rattle.rcc5_core.specs.RelationSet.{has, next_of}
 use Rattle.world_model.specs.Problem.{Problem, pairs}
 use Rattle.world_model.specs.Alive.{allowed, problem_at, IsAlive}
-use Rattle.world_model.specs.Listing.{is_below}
+use Rattle.world_model.specs.Listing.{Begins, is_below}
 use Rattle.world_model.specs.Node.{IsNode}
 use Rattle.world_model.proofs.OrderPositions.{below_itself, below_cases, below_apart, below_branch}
 use Rattle.cert_rules.specs.Order.{is_shown, least_from, from_below, single, or_later, onward}
 use Rattle.cert_rules.specs.Listings.{listing_next}
-use Rattle.cert_rules.specs.ShownNodes.{IsShownNode, IsNextNode, Branches, IsPrefix, ExpectedIsNext}
+use Rattle.cert_rules.specs.ShownNodes.{IsShownNode, IsNextNode, Branches, ExpectedIsNext}
 use Rattle.world_model.proofs.Relations.{itself, one_rel, next_is_in}
-use Rattle.cert_rules.proofs.Nexts.{Along, Begins, IsPassed, IsLeastFrom, least_from_is, next_covers, next_after, next_shown, shown_from_order, not_below_rest}
-use Rattle.cert_rules.proofs.Refuting.{rest_of}
+use Rattle.cert_rules.proofs.Nexts.{Along, IsPassed, IsLeastFrom, least_from_is, next_covers, next_after, next_shown, shown_from_order, not_below_rest}
 use Rattle.world_model.proofs.Nodes.{IsChild, node_within, child_within, child_is_node}
 
 -- the next position is a prefix of the last one with another relation, which the pair there allows; or the last one, where it branches, with a first one
@@ -94,7 +93,7 @@ next_is_node p from m n branches node may e =
 
 -- below a dead or full node there is none
 none_below : (p : Problem) (m x : List Rel) → Branches p m false → IsNode p x → IsTrue (is_below m x) → Begins m x → ⊥
-none_below p m x may node after begins = let more = rest_of m x begins in by more.0 more.1
+none_below p m x may node after begins = by begins.0 begins.1
   where
     dead : (t : Rel) → IsChild p m t → ⊥
     dead t child = elim may [ inl is_dead ↦ is_dead child.alive | inr full ↦ let short = child.short in absurd (omega arith) ]
@@ -139,7 +138,7 @@ prefix_shown [] [] = refl
 prefix_shown [] (r ∷ rest) = refl
 prefix_shown (r ∷ m) rest = or_right (nat_lt (rank_of r) (rank_of r)) (same_rel r r && is_shown (m ++ rest) m) (and_from (same_rel r r) (is_shown (m ++ rest) m) (itself r) (prefix_shown m rest))
 
-pub prefix_or_not_below : (from m : List Rel) → is_shown from m ≡ true → IsPrefix m from ⊎ IsTrue (not (is_below m from))
+pub prefix_or_not_below : (from m : List Rel) → is_shown from m ≡ true → Begins m from ⊎ IsTrue (not (is_below m from))
 prefix_or_not_below [] [] h = inl ([], refl)
 prefix_or_not_below [] (r ∷ m) h = inr refl
 prefix_or_not_below (f ∷ from) [] h = inl (f ∷ from, refl)
@@ -154,7 +153,7 @@ prefix_or_not_below (f ∷ from) (r ∷ m) h = elim (or_cases (nat_lt (rank_of f
       ]
 ]
 
-shown_from_either : (from m : List Rel) → IsPrefix m from ⊎ IsTrue (not (is_below m from)) → is_shown from m ≡ true
+shown_from_either : (from m : List Rel) → Begins m from ⊎ IsTrue (not (is_below m from)) → is_shown from m ≡ true
 shown_from_either from m (inl prefix) = subst (λ from. is_shown from m ≡ true) (sym prefix.1) (prefix_shown m prefix.0)
 shown_from_either from m (inr above) = shown_from_order from m (not-true (is_below m from) above)
 

@@ -1,5 +1,5 @@
 -- The next position of a tree: it comes after the last, it is shown, and it leaves out no shown position that follows the sets.
-use Rattle.std.proofs.Common.{◌≡◌, ◌<◌, ◌≤◌, Bool, true, false, ◌&&◌, ◌||◌, cond, List, [], ◌∷◌, length, ◌⊎◌, inl, inr, Option, Some, None, refl, sym, ap, ◌∙◌, subst, arith}
+use Rattle.std.proofs.Common.{◌≡◌, ◌<◌, ◌≤◌, Bool, true, false, ◌&&◌, ◌||◌, cond, List, [], ◌∷◌, ◌++◌, length, ◌⊎◌, inl, inr, Option, Some, None, refl, sym, ap, ◌∙◌, subst, arith}
 use Rattle.std.specs.Prelude.{nat_lt}
 use Rattle.std.proofs.lemmas.Bool.{true≢false, false≢true, cases_Bool, cases_order, or_cases, or_left, or_right, and_parts, and_from, ltb-true, lt-ltb}
 use Rattle.rcc5_core.specs.declared.Rel.{Rel}
@@ -7,7 +7,7 @@ use Rattle.rcc5_core.specs.declared.Rel.TheVariants.{Equals, Includes, IncludedI
 use Rattle.rcc5_core.specs.declared.RelSet.{RelSet}
 use Rattle.rcc5_core.specs.Relation.{rank_of, same_rel}
 use Rattle.rcc5_core.specs.RelationSet.{has, next_of}
-use Rattle.world_model.specs.Listing.{is_below, is_before_end}
+use Rattle.world_model.specs.Listing.{Begins, is_below, is_before_end}
 use Rattle.world_model.proofs.OrderPositions.{below_apart, below_branch, first_or_rest}
 use Rattle.cert_rules.specs.Order.{is_shown, least_from, from_below, single, or_later, onward}
 use Rattle.world_model.proofs.Relations.{same_rank, one_rel, itself, first_is_in, first_is_least, next_is_in, next_is_least, none_is_next, some_has_first_of}
@@ -18,11 +18,16 @@ Along sets [] = Unit {0}
 Along [] (r ∷ m) = ⊥
 Along (set ∷ sets) (r ∷ m) = (has set r ≡ true) × Along sets m
 
--- a position begins with another
-abbrev pub Begins : List Rel → List Rel → Type 0
-Begins [] t = Unit {0}
-Begins (r ∷ m) [] = ⊥
-Begins (r ∷ m) (s ∷ t) = (r ≡ s) × Begins m t
+-- a position begins with another where their first relations are one, and the rest begins with the rest
+pub begins_onto : (q r : Rel) (m t : List Rel) → q ≡ r → Begins m t → Begins (q ∷ m) (r ∷ t)
+begins_onto q r m t same begins = let head = sym same in let tail = begins.1 in (begins.0, λ i. head i ∷ tail i)
+
+pub begins_parts : (q r : Rel) (m t : List Rel) → Begins (q ∷ m) (r ∷ t) → (q ≡ r) × Begins m t
+begins_parts q r m t begins =
+    let is : r ∷ t ≡ q ∷ (m ++ begins.0) = begins.1 in
+    let head : q ≡ r = cc in
+    let tail : t ≡ m ++ begins.0 = cc in
+    (head, (begins.0, tail))
 
 -- a position is below none, or not below the next one
 abbrev pub IsPassed : Option (List Rel) → List Rel → Type 0
@@ -147,7 +152,7 @@ pub next_covers : (sets : List RelSet) (from : List Rel) (branches : Bool) (m t 
     (branches ≡ false → Begins m t → ⊥) → IsPassed (onward sets from branches m) t
 next_covers sets from branches m [] along shown after apart = absurd (below_nothing m after)
 next_covers [] from branches m (r ∷ t) along shown after apart = absurd along
-next_covers (set ∷ sets) from false [] (r ∷ t) along shown after apart = absurd (apart refl tt)
+next_covers (set ∷ sets) from false [] (r ∷ t) along shown after apart = absurd (apart refl (r ∷ t, refl))
 next_covers (set ∷ sets) from true [] (r ∷ t) along shown after apart = first (least_from set from) (least_from_is set from)
   where
     first : (found : Option Rel) → IsLeastFrom set from found → IsPassed (single found) (r ∷ t)
@@ -158,7 +163,7 @@ next_covers (set ∷ sets) from branches (q ∷ m) (r ∷ t) along shown after a
   | inr both ↦
       let same : q ≡ r = same_rank q r both.0 in
       let rest : IsPassed (onward sets (from_below from r) branches m) t =
-      next_covers sets (from_below from r) branches m t along.1 (shown_below from r t shown) both.1 (λ b begins. apart b (same, begins)) in
+      next_covers sets (from_below from r) branches m t along.1 (shown_below from r t shown) both.1 (λ b begins. apart b (begins_onto q r m t same begins)) in
       subst (λ x. IsPassed (or_later set x (onward sets (from_below from x) branches m)) (r ∷ t)) (sym same) (below (onward sets (from_below from r) branches m) rest)
 ]
   where

@@ -4,11 +4,11 @@ use Rattle.std.proofs.lemmas.Bool.{true≢false, cases_Bool, not_from_false, not
 use Rattle.rcc5_core.specs.declared.Rel.{Rel}
 use Rattle.rcc5_core.specs.Relation.{rank_of}
 use Rattle.world_model.specs.Problem.{Problem}
-use Rattle.world_model.specs.Listing.{is_below}
+use Rattle.world_model.specs.Listing.{Begins, is_below}
 use Rattle.world_model.specs.Node.{IsNode}
 use Rattle.world_model.proofs.OrderPositions.{below_itself, below_chain, below_apart, below_upto, below_longer, first_or_rest}
 use Rattle.cert_rules.specs.Order.{is_shown}
-use Rattle.cert_rules.specs.ShownNodes.{IsShownNode, IsNextNode, IsPrefix, IsFirstOf, WalkedIsNext}
+use Rattle.cert_rules.specs.ShownNodes.{IsShownNode, IsNextNode, IsFirstOf, WalkedIsNext}
 use Rattle.cert_rules.proofs.Nexts.{below_nothing, shown_from_order}
 use Rattle.world_model.proofs.Nodes.{prefix_is_node}
 use Rattle.cert_rules.proofs.NextNodes.{prefix_shown, prefix_or_not_below}
@@ -63,7 +63,7 @@ on_the_way p m rel rest node = record {
     high : is_below (m ++ rel ∷ rest) c ≡ false
     high = ap (λ from. is_below from c) (start_is m rel rest) ∙ not_below_prefix c rest
 
-    by : (x : List Rel) → IsTrue (is_below m x) → IsPrefix x (m ++ rel ∷ rest) ⊎ IsTrue (not (is_below x (m ++ rel ∷ rest))) → is_below x c ≡ false
+    by : (x : List Rel) → IsTrue (is_below m x) → Begins x (m ++ rel ∷ rest) ⊎ IsTrue (not (is_below x (m ++ rel ∷ rest))) → is_below x c ≡ false
     by x after (inl prefix) =
         let more = longer_prefix m rel rest x prefix.0 prefix.1 after in
         ap (λ y. is_below y c) (more.1 ∙ start_is m rel more.0) ∙ not_below_prefix c more.0
@@ -77,7 +77,7 @@ past_start : (p : Problem) (m : List Rel) (rel : Rel) (rest : List Rel) → (IsN
     IsTrue (not (is_below x (m ++ rel ∷ rest)))
 past_start p m rel rest none x shown after = by (prefix_or_not_below (m ++ rel ∷ rest) x shown.1)
   where
-    by : IsPrefix x (m ++ rel ∷ rest) ⊎ IsTrue (not (is_below x (m ++ rel ∷ rest))) → IsTrue (not (is_below x (m ++ rel ∷ rest)))
+    by : Begins x (m ++ rel ∷ rest) ⊎ IsTrue (not (is_below x (m ++ rel ∷ rest))) → IsTrue (not (is_below x (m ++ rel ∷ rest)))
     by (inl prefix) =
         let more = longer_prefix m rel rest x prefix.0 prefix.1 after in
         absurd (none (prefix_is_node p (m ++ rel ∷ []) more.0 (subst (IsNode p) (more.1 ∙ start_is m rel more.0) shown.0)))

@@ -13,7 +13,7 @@ use Rattle.cert_rules.specs.Listings.{Going, header_fault, listing_tree, start, 
 use Rattle.cert_rules.proofs.Nexts.{shown_from_order}
 use Rattle.cert_rules.proofs.Sound.{IsSoundStatus, steps_sound, leaf_is_dead}
 use Rattle.cert_rules.proofs.Headers.{no_fault, room, first_is_sound}
-use Rattle.cert_rules.proofs.Refuting.{along_or_leaves, rest_of, reach, tree_parts}
+use Rattle.cert_rules.proofs.Refuting.{along_or_leaves, reach, tree_parts}
 
 -- nothing comes before the empty position
 not_below_empty : (t : List Rel) → is_below t [] ≡ false
@@ -42,7 +42,7 @@ missing_are_refuted_law p built switches from lines listed e table long between 
               stand = leaf.stand;
               place = record { before = leaf.before; after = leaf.after; split = leaf.split; number = leaf.number; reached = leaf.reached };
               prefix = leaf.prefix;
-              begins = rest_of leaf.prefix table leaf.begins;
+              begins = leaf.begins;
               at = leaf.at;
               leaf = leaf.leaf;
               faultless = leaf.faultless;

@@ -9,7 +9,7 @@ use Rattle.lits_core.specs.Derivation.{State, next_state}
 use Rattle.world_model.specs.Problem.{Problem}
 use Rattle.world_model.specs.Family.{Family}
 use Rattle.world_model.specs.Alive.{allowed}
-use Rattle.world_model.specs.Listing.{is_below, is_before_end}
+use Rattle.world_model.specs.Listing.{Begins, is_below, is_before_end}
 use Rattle.world_model.proofs.Members.{In, here, In-left, In-right}
 use Rattle.world_model.proofs.OrderPositions.{below_itself, below_cases}
 use Rattle.cert_text.specs.declared.line.CertLine.{CertLine}
@@ -20,7 +20,7 @@ use Rattle.cert_rules.specs.Trees.{Branching, sets_of, names, is_branch, node_fa
 use Rattle.cert_rules.specs.Listings.{Status, Going, Ended, Rejected, unless, proof_fault, Stand, Listed, Role, ForProof, ForEnd, ForTree, role_of, with_world, after_proof, after_node, take_by, step, steps}
 use Rattle.cert_rules.specs.Laws.{is_leaf}
 use Rattle.world_model.proofs.Relations.{one_rel, itself}
-use Rattle.cert_rules.proofs.Nexts.{Along, Begins, IsPassed, next_covers}
+use Rattle.cert_rules.proofs.Nexts.{Along, begins_onto, begins_parts, IsPassed, next_covers}
 use Rattle.cert_rules.proofs.Sound.{IsTableOf, begins_itself, begins_same, fails, ends_there, world_is_table, table_length}
 
 -- a table is along the sets, or leaves them by a relation
@@ -44,20 +44,15 @@ along_or_leaves q (pair ∷ levels) (r ∷ t) long = elim (cases_Bool (has (allo
 
 -- whether a position begins with another can be told
 pub begins_or_not : (m t : List Rel) → Begins m t ⊎ (Begins m t → ⊥)
-begins_or_not [] t = inl tt
-begins_or_not (r ∷ m) [] = inr (λ b. b)
+begins_or_not [] t = inl (t, refl)
+begins_or_not (r ∷ m) [] = inr (λ b. let is : [] ≡ r ∷ (m ++ b.0) = b.1 in absurd (omega (arith, ap length is)))
 begins_or_not (r ∷ m) (s ∷ t) = elim (cases_Bool (same_rel r s)) [
   | inl same ↦ elim (begins_or_not m t) [
-    | inl begins ↦ inl (one_rel r s same, begins)
-    | inr not_begins ↦ inr (λ b. not_begins b.1)
+    | inl begins ↦ inl (begins_onto r s m t (one_rel r s same) begins)
+    | inr not_begins ↦ inr (λ b. not_begins (begins_parts r s m t b).1)
   ]
-  | inr other ↦ inr (λ b. true≢false (sym (subst (λ x. same_rel r x ≡ true) b.0 (itself r)) ∙ other))
+  | inr other ↦ inr (λ b. true≢false (sym (subst (λ x. same_rel r x ≡ true) (begins_parts r s m t b).0 (itself r)) ∙ other))
 ]
-
-pub rest_of : (m t : List Rel) → Begins m t → (rest : List Rel) × (t ≡ m ++ rest)
-rest_of [] t b = (t, refl)
-rest_of (r ∷ m) [] b = absurd b
-rest_of (r ∷ m) (s ∷ t) b = let more = rest_of m t b.1 in let head = sym b.0 in let tail = more.1 in (more.0, λ i. head i ∷ tail i)
 
 -- a leaf that stands at a prefix of a table, among lines from a status on
 pub record HasLeaf (tree : Branching) (status : Status Stand Listed) (lines : List CertLine) (t : List Rel) : Type 0 where

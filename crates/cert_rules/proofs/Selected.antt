@@ -24,7 +24,7 @@ use Rattle.cert_model.proofs.Selectors.{flag_of, from_selectors, In-region_selec
 use Rattle.cert_model.proofs.NeedLiterals.{region_again, part_below}
 use Rattle.cert_rules.specs.Trees.{is_closed}
 use Rattle.cert_rules.specs.Selected.{is_emptied, is_sum_kept, is_selected, is_asked, AskedByLiteral}
-use Rattle.cert_rules.proofs.Writing.{has_in, in_has}
+use Rattle.cert_rules.proofs.ClosedClauses.{has_in, in_has}
 
 -- a part by its region, and a literal that is not negated by its variable
 part_again : (part : ℕ) → part < 3 → region_number (region_with part) ≡ part

@@ -35,17 +35,12 @@ use Rattle.cert_rules.proofs.Sound.{no_line_fault, both_none, family_met, same_p
 use Rattle.cert_rules.proofs.Refuting.{ended_stays, rejected_stays, tree_parts}
 use Rattle.cert_rules.proofs.Refutations.{missing_are_refuted_law}
 use Rattle.cert_rules.proofs.Headers.{no_fault}
-use Rattle.cert_rules.proofs.Writing.{asked_at, in_has}
+use Rattle.cert_rules.proofs.ClosedClauses.{closed_at}
 use Rattle.cert_rules.proofs.Shape.{Leads}
 use Rattle.cert_rules.proofs.ListingShape.{IsRead, from_steps, no_proof_first}
 use Rattle.cert_rules.proofs.Whole.{settled, bare_fails, listing_law}
 
 -- a leaf or a world that has no fault says what is so
-closed_at : (p : Problem) (m : List Rel) (need : Need) (clause : List ℕ) → is_closed (problem_at p m) need clause ≡ true → IsClosedAt p m need clause
-closed_at p m need clause closed lit there_is =
-    let h = all_at (λ lit. has_lit (asked_of (problem_at p m) [] need) (negation_of lit)) closed (in_from_contains clause there_is) in
-    contains_from_in (in_has (asked_of p m need) (negation_of lit) (ap (λ lits. has_lit lits (negation_of lit)) (sym (asked_at p m need)) ∙ h))
-
 point_is_so : (p : Problem) (m : List Rel) (proof : State) (number clause : ℕ) → point_fault (problem_at p m) proof number clause ≡ None → IsClosedNeed p proof m number clause
 point_is_so p m proof number clause none =
     let q = problem_at p m in

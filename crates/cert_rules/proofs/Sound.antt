@@ -1,5 +1,5 @@
 -- What the lines of a tree leave so: the worlds found are exactly the tables between the start and the expected node.
-use Rattle.std.proofs.Common.{◌≡◌, ℕ, ◌≤◌, ◌+◌, Bool, true, false, cond, List, [], ◌∷◌, ◌++◌, map, length, Option, Some, None, inl, inr, refl, sym, ap, ◌∙◌, subst, arith, IsTrue}
+use Rattle.std.proofs.Common.{◌≡◌, ℕ, ◌≤◌, ◌+◌, Bool, true, false, cond, List, [], ◌∷◌, ◌++◌, append-nil, map, length, Option, Some, None, inl, inr, refl, sym, ap, ◌∙◌, subst, arith, IsTrue}
 use Rattle.std.specs.Prelude.{◌==◌}
 use Rattle.std.specs.List.{list_all}
 use Rattle.std.specs.Option.{option_map}
@@ -14,7 +14,7 @@ use Rattle.lits_core.proofs.DerivationLemmas.{DerivedFollow-next, given-state_af
 use Rattle.world_model.specs.Problem.{Problem, pairs}
 use Rattle.world_model.specs.Family.{Family, set_of, meets}
 use Rattle.world_model.specs.Alive.{allowed, IsAlive}
-use Rattle.world_model.specs.Listing.{is_below}
+use Rattle.world_model.specs.Listing.{Begins, is_below}
 use Rattle.world_model.proofs.Members.{In}
 use Rattle.world_model.proofs.OrderPositions.{below_itself, below_cases}
 use Rattle.world_model.proofs.OrderLists.{IsExactly, Between}
@@ -31,7 +31,7 @@ use Rattle.cert_rules.specs.Trees.{Branching, node_problem, sets_of, table_along
 use Rattle.cert_rules.specs.Listings.{Status, Going, Ended, Rejected, unless, as_kind, proof_fault, Stand, Listed, Role, ForProof, ForEnd, ForTree, role_of, with_world, after_proof, after_node, take_by, step, steps}
 use Rattle.cert_rules.specs.Laws.{is_leaf}
 use Rattle.world_model.proofs.Relations.{one_rel}
-use Rattle.cert_rules.proofs.Nexts.{Along, Begins, next_covers, next_after, next_shown, shown_from_order, order_from_shown}
+use Rattle.cert_rules.proofs.Nexts.{Along, begins_parts, next_covers, next_after, next_shown, shown_from_order, order_from_shown}
 use Rattle.cert_rules.proofs.Leaves.{built_at, met_at_node, pair_leaf, point_leaf}
 use Rattle.cert_rules.proofs.Exact.{none_between, one_between}
 
@@ -39,8 +39,8 @@ use Rattle.cert_rules.proofs.Exact.{none_between, one_between}
 abbrev pub IsTableOf : Branching → List Rel → Type 0
 IsTableOf tree t = (f : Family) × IsTrue (meets tree.subject f) × (table_along tree.levels f ≡ t)
 
--- what a tree is of: a problem of the shape whose clauses are given, and pairs of it
-pub record IsTree (tree : Branching) (given : List (List ℕ)) : Type 0 where
+-- a tree branches on pairs of a problem that was built and whose clauses are given, and begins within them
+pub record IsBranchingOf (tree : Branching) (given : List (List ℕ)) : Type 0 where
   pub built : IsBuilt tree.subject
   pub clauses : given ≡ given_clauses tree.subject
   pub levels : (pair : ℕ × ℕ) → In pair tree.levels → In pair (pairs tree.subject)
@@ -48,7 +48,7 @@ pub record IsTree (tree : Branching) (given : List (List ℕ)) : Type 0 where
 
 -- what is so where a tree stands
 pub record IsSound (tree : Branching) (s : Stand) : Type 0 where
-  pub tree_is : IsTree tree s.proof.given
+  pub tree_is : IsBranchingOf tree s.proof.given
   pub follow : DerivedFollow s.proof
   pub shown : (m : List Rel) → s.at ≡ Some m → is_shown tree.from m ≡ true
   pub exact : IsExactly (Between (IsTableOf tree) tree.from s.at) s.worlds
@@ -65,17 +65,20 @@ pub table_length : (tree : Branching) (t : List Rel) → IsTableOf tree t → le
 table_length tree t w = sym (ap length w.2) ∙ length-map tree.levels (λ pair. relation_of (set_of w.0 pair.0) (set_of w.0 pair.1))
 
 pub begins_itself : (m : List Rel) → Begins m m
-begins_itself [] = tt
-begins_itself (r ∷ m) = (refl, begins_itself m)
+begins_itself m = ([], sym (append-nil m))
 
 pub begins_same : (m t : List Rel) → Begins m t → length m ≡ length t → m ≡ t
 begins_same [] [] b long = refl
 begins_same [] (s ∷ t) b long = absurd (omega arith)
-begins_same (r ∷ m) [] b long = absurd b
-begins_same (r ∷ m) (s ∷ t) b long = let head = b.0 in let rest = begins_same m t b.1 (omega arith) in λ i. head i ∷ rest i
+begins_same (r ∷ m) [] b long = absurd (omega arith)
+begins_same (r ∷ m) (s ∷ t) b long =
+    let parts = begins_parts r s m t b in
+    let head = parts.0 in
+    let rest = begins_same m t parts.1 (omega arith) in
+    λ i. head i ∷ rest i
 
 -- where each table that begins with a node is ruled out, or a branch comes before each of them, the tables stay the same
-pub past_leaf : (tree : Branching) (given : List (List ℕ)) (m : List Rel) (worlds : List (List Rel)) → IsTree tree given →
+pub past_leaf : (tree : Branching) (given : List (List ℕ)) (m : List Rel) (worlds : List (List Rel)) → IsBranchingOf tree given →
     IsExactly (Between (IsTableOf tree) tree.from (Some m)) worlds → ((t : List Rel) → IsTableOf tree t → Begins m t → ⊥) →
     IsExactly (Between (IsTableOf tree) tree.from (onward (sets_of tree) tree.from false m)) worlds
 past_leaf tree given m worlds is old dead =
@@ -86,7 +89,7 @@ past_leaf tree given m worlds is old dead =
       | inr (inr above) ↦ next_covers (sets_of tree) tree.from false m t (table_along_is tree t w) (shown_from_order tree.from t low) above (λ b begins. dead t w begins)
     ])
 
-pub past_branch : (tree : Branching) (given : List (List ℕ)) (m : List Rel) (worlds : List (List Rel)) → IsTree tree given →
+pub past_branch : (tree : Branching) (given : List (List ℕ)) (m : List Rel) (worlds : List (List Rel)) → IsBranchingOf tree given →
     IsExactly (Between (IsTableOf tree) tree.from (Some m)) worlds → (length m == length tree.levels) ≡ false →
     IsExactly (Between (IsTableOf tree) tree.from (onward (sets_of tree) tree.from true m)) worlds
 past_branch tree given m worlds is old short =
@@ -97,7 +100,7 @@ past_branch tree given m worlds is old short =
       | inr (inr above) ↦ next_covers (sets_of tree) tree.from true m t (table_along_is tree t w) (shown_from_order tree.from t low) above (λ b begins. true≢false b)
     ])
 
-pub past_world : (tree : Branching) (given : List (List ℕ)) (m : List Rel) (worlds : List (List Rel)) → IsTree tree given → is_shown tree.from m ≡ true →
+pub past_world : (tree : Branching) (given : List (List ℕ)) (m : List Rel) (worlds : List (List Rel)) → IsBranchingOf tree given → is_shown tree.from m ≡ true →
     IsExactly (Between (IsTableOf tree) tree.from (Some m)) worlds → IsTableOf tree m →
     IsExactly (Between (IsTableOf tree) tree.from (onward (sets_of tree) tree.from false m)) (worlds ++ m ∷ [])
 past_world tree given m worlds is shown old w =
@@ -150,7 +153,7 @@ world_is_table tree m f e =
     (f, family_met tree.subject f both.0, same_positions (table_along tree.levels f) m (passes (same_position (table_along tree.levels f) m) RejectKind.FamilyHasOtherTable both.1))
 
 -- at a leaf the problem is dead
-pub leaf_is_dead : (tree : Branching) (proof : State) (m : List Rel) → IsTree tree proof.given → DerivedFollow proof → (line : CertLine) → is_leaf line ≡ true → node_fault tree proof m line ≡ None →
+pub leaf_is_dead : (tree : Branching) (proof : State) (m : List Rel) → IsBranchingOf tree proof.given → DerivedFollow proof → (line : CertLine) → is_leaf line ≡ true → node_fault tree proof m line ≡ None →
     IsAlive (node_problem tree m) → ⊥
 leaf_is_dead tree proof m is follow (NoPoint depth last need clause) leaf none =
     point_leaf (node_problem tree m) proof need clause (built_at tree.subject tree.levels m is.built is.levels) is.clauses follow none

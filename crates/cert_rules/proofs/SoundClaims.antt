@@ -33,7 +33,7 @@ use Rattle.set_family.specs.Sets.{family_from}
 use Rattle.cert_rules.specs.Laws.{IsSettled}
 use Rattle.cert_rules.proofs.Nexts.{below_nothing}
 use Rattle.cert_rules.proofs.Leaves.{built_with}
-use Rattle.cert_rules.proofs.Sound.{IsTableOf, IsTree, IsSound, tree_sound, proof_sound, proof_follows, ends_there, both_none, family_met, passes}
+use Rattle.cert_rules.proofs.Sound.{IsTableOf, IsBranchingOf, IsSound, tree_sound, proof_sound, proof_follows, ends_there, both_none, family_met, passes}
 
 -- the problem of a subject is one
 flags_fit : (p : Problem) (kept : List Bool) → is_problem p ≡ true → length kept ≡ length p.articulations → is_problem (restricted p kept) ≡ true
@@ -72,7 +72,7 @@ subject_clauses p (Narrowed pair rel) = refl
 subject_clauses p (Kept flags) = refl
 
 -- its tree is one
-subject_is_tree : (p : Problem) (subject : Subject) (given : List (List ℕ)) → IsBuilt p → subject_fault p subject ≡ None → given ≡ given_clauses p → IsTree (subject_tree p subject) given
+subject_is_tree : (p : Problem) (subject : Subject) (given : List (List ℕ)) → IsBuilt p → subject_fault p subject ≡ None → given ≡ given_clauses p → IsBranchingOf (subject_tree p subject) given
 subject_is_tree p subject given b none same = record {
   built = subject_built p subject b none;
   clauses = same ∙ sym (subject_clauses p subject);
@@ -107,7 +107,7 @@ unless_sound p None number next sound = sound refl
 unless_sound p (Some kind) number next sound = tt
 
 -- no position comes before the empty one, where no table is found
-pub begins_sound : (tree : Branching) (proof : State) → IsTree tree proof.given → DerivedFollow proof → IsSound tree (block_stand proof (Some []))
+pub begins_sound : (tree : Branching) (proof : State) → IsBranchingOf tree proof.given → DerivedFollow proof → IsSound tree (block_stand proof (Some []))
 begins_sound tree proof is follow = record {
   tree_is = is;
   follow = follow;

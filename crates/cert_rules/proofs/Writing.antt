@@ -28,6 +28,7 @@ use Rattle.set_family.specs.Sets.{family_from}
 use Rattle.cert_text.specs.declared.line.CertLine.{CertLine}
 use Rattle.cert_text.specs.declared.line.CertLine.TheVariants.{Proof, Branch, NoPoint, NoRelation, World, End}
 use Rattle.cert_rules.proofs.LiveClauses.{AreAlike, alike_live}
+use Rattle.cert_rules.proofs.ClosedClauses.{all_closed}
 use Rattle.cert_rules.specs.declared.RejectKind.{RejectKind}
 use Rattle.cert_rules.specs.Trees.{Branching, same_position, names, is_branch, is_forced, fault_or, need_fault, clause_fault, point_fault, pair_fault, family_fault, table_fault, world_fault, node_fault, tree_fault, end_fault}
 use Rattle.cert_rules.specs.Listings.{Status, Going, Ended, unless, as_kind, Stand, Listed, ForTree, role_of, after_proof, after_node, take_by, step, steps, listing_tree, listing_next, start, same_switches, header_fault, listing_status}
@@ -160,33 +161,7 @@ needed_is_forced : (q : Problem) (need : Need) → IsNeed q need → is_forced q
 needed_is_forced q (InRegion pair region) h = h.1.same
 needed_is_forced q (InConcept c) h = h.0
 
-pub has_in : (lits : List ℕ) (lit : ℕ) → In lit lits → has_lit lits lit ≡ true
-has_in [] lit i = elim i [ ]
-has_in (l ∷ lits) lit (here e) = or_left (l == lit) (has_lit lits lit) (eq-eqb l lit (sym e))
-has_in (l ∷ lits) lit (there i) = or_right (l == lit) (has_lit lits lit) (has_in lits lit i)
-
-pub in_has : (lits : List ℕ) (lit : ℕ) → has_lit lits lit ≡ true → In lit lits
-in_has [] lit h = absurd (true≢false (sym h))
-in_has (l ∷ lits) lit h = elim (or_cases (l == lit) (has_lit lits lit) h) [
-  | inl now ↦ here (sym (eqb-true l lit now))
-  | inr later ↦ there (in_has lits lit later)
-]
-
--- what must be true at a node, by its own problem
-pub asked_at : (p : Problem) (m : List Rel) (need : Need) → asked_of (problem_at p m) [] need ≡ asked_of p m need
-asked_at p m need =
-    ap (λ (q : Problem). (region_selectors (concept_count p) (forced_pairs q) ++ sum_selectors p.kept (first_sum_selector p) (sum_places p)) ++ need_lits need) (at_empty (problem_at p m))
-
-all_closed : (p : Problem) (m : List Rel) (need : Need) (clause rest : List ℕ) → IsClosedAt p m need clause → ((lit : ℕ) → has_lit rest lit ≡ true → has_lit clause lit ≡ true) →
-    list_all (λ lit. has_lit (asked_of (problem_at p m) [] need) (negation_of lit)) rest ≡ true
-all_closed p m need clause [] closed inside = refl
-all_closed p m need clause (lit ∷ rest) closed inside =
-    let in_clause = in_has clause lit (inside lit (or_left (lit == lit) (has_lit rest lit) (eq-eqb lit lit refl))) in
-    let asked = closed lit (contains_from_in in_clause) in
-    and_from (has_lit (asked_of (problem_at p m) [] need) (negation_of lit)) (list_all (λ lit. has_lit (asked_of (problem_at p m) [] need) (negation_of lit)) rest)
-    (ap (λ lits. has_lit lits (negation_of lit)) (asked_at p m need) ∙ has_in (asked_of p m need) (negation_of lit) (in_from_contains (asked_of p m need) asked))
-    (all_closed p m need clause rest closed (λ l h. inside l (or_right (lit == l) (has_lit rest l) h)))
-
+-- a clause that is closed at a node is so where the same literals are found
 clause_is_closed : (p : Problem) (m : List Rel) (need : Need) (found live : Option (List ℕ)) → AreAlike found live → MatchOption live ⊥ (IsClosedAt p m need) →
     clause_fault (problem_at p m) need found ≡ None
 clause_is_closed p m need None None same closed = absurd closed

@@ -5,7 +5,7 @@ use Rattle.rcc5_core.specs.RelationSet.{has}
 use Rattle.world_model.specs.declared.Switches.{Switches}
 use Rattle.world_model.specs.Problem.{Problem, pair_count}
 use Rattle.world_model.specs.Family.{IsPossibleWorld}
-use Rattle.world_model.specs.Listing.{is_between, IsListing}
+use Rattle.world_model.specs.Listing.{Begins, is_between, IsListing}
 use Rattle.world_model.specs.Alive.{allowed, problem_at, IsAlive}
 use Rattle.world_model.specs.Node.{pair_at}
 use Rattle.world_model.specs.Questions.{IsMet}
@@ -14,7 +14,6 @@ use Rattle.cert_text.specs.declared.line.CertLine.{CertLine}
 use Rattle.cert_text.specs.declared.line.CertLine.TheVariants.{NoPoint, NoRelation}
 use Rattle.cert_rules.specs.Trees.{tree_fault}
 use Rattle.cert_rules.specs.Listings.{Going, Ended, Stand, Listed, listing_tree, start, steps, listing_status}
-use Rattle.cert_rules.specs.ShownNodes.{IsPrefix}
 use Rattle.cert_rules.specs.ClaimLists.{Claim, subject_problem, claims_status}
 use Rattle.cert_text.specs.Ends.{TextEnd}
 use Rattle.cert_rules.specs.Files.{Verdict, Listing, ClaimList, Accepts, answer_of}
@@ -72,7 +71,7 @@ pub record IsRefuted (p : Problem) (from : List Rel) (lines : List CertLine) (ta
   pub stand : Stand
   pub place : StandsAt p from lines line stand
   pub prefix : List Rel
-  pub begins : IsPrefix prefix table
+  pub begins : Begins prefix table
   pub at : stand.at ≡ Some prefix
   pub leaf : IsTrue (is_leaf line)
   pub faultless : tree_fault (listing_tree p from) stand.proof (Some prefix) line ≡ None

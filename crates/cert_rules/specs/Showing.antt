@@ -4,7 +4,7 @@ use Rattle.rcc5_core.specs.declared.Rel.{Rel}
 use Rattle.lits_core.specs.Derivation.{first_state, state_after, is_valid_derivation}
 use Rattle.world_model.specs.Problem.{Problem, pair_count}
 use Rattle.world_model.specs.Family.{Family}
-use Rattle.world_model.specs.Listing.{is_between}
+use Rattle.world_model.specs.Listing.{Begins, is_between}
 use Rattle.world_model.specs.Alive.{problem_at, IsAlive}
 use Rattle.constraint_set.specs.Facts.{IsBuilt}
 use Rattle.cert_model.specs.Clauses.{given_clauses}
@@ -14,7 +14,6 @@ use Rattle.cert_text.specs.Ends.{TextEnd}
 use Rattle.cert_rules.specs.Files.{Listing, Accepts, answer_of}
 use Rattle.cert_rules.specs.Laws.{LeavesAllowed, is_leaf}
 use Rattle.cert_rules.specs.Shape.{proof_lines}
-use Rattle.cert_rules.specs.ShownNodes.{IsPrefix}
 use Rattle.cert_rules.specs.Writing.{TellsOf}
 
 -- one of the lines says of a node what is so, by a live clause of the valid derivation before it
@@ -35,7 +34,7 @@ pub record IsShownThere (p : Problem) (lines : List CertLine) (table : List Rel)
 -- a line says of a prefix of the table that a need has no point there, by a live clause, or that a pair allows nothing there
 pub record IsRefutedThere (p : Problem) (lines : List CertLine) (table : List Rel) : Type 0 where
   pub prefix : List Rel
-  pub begins : IsPrefix prefix table
+  pub begins : Begins prefix table
   pub line : CertLine
   pub leaf : IsTrue (is_leaf line)
   pub says : SaysOf p lines prefix line

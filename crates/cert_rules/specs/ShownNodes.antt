@@ -5,7 +5,7 @@ use Rattle.rcc5_core.specs.declared.Rel.{Rel}
 use Rattle.world_model.specs.declared.Switches.{Switches}
 use Rattle.world_model.specs.Problem.{Problem, pair_count}
 use Rattle.world_model.specs.Alive.{problem_at, IsAlive}
-use Rattle.world_model.specs.Listing.{is_below, is_before_end, ascends}
+use Rattle.world_model.specs.Listing.{Begins, is_below, is_before_end, ascends}
 use Rattle.world_model.specs.Node.{IsNode}
 use Rattle.constraint_set.specs.Facts.{IsBuilt}
 use Rattle.cert_text.specs.declared.line.CertLine.{CertLine}
@@ -33,16 +33,12 @@ abbrev pub Branches : Problem → List Rel → Bool → Type 0
 Branches p m true = IsAlive (problem_at p m) × (length m < pair_count p)
 Branches p m false = (IsAlive (problem_at p m) → ⊥) ⊎ (pair_count p ≤ length m)
 
--- a position begins with a prefix
-abbrev pub IsPrefix : List Rel → List Rel → Type 0
-IsPrefix m t = (rest : List Rel) × (t ≡ m ++ rest)
-
 -- the position that comes next is the next node, of which there is one at most; and a position is shown where it is a prefix of
 -- the start or not below it
 pub record ExpectedIsNext : Type 0 where
   pub next : (p : Problem) (from m : List Rel) (branches : Bool) → IsShownNode p from m → Branches p m branches → IsNextNode p from m (listing_next p from branches m)
   pub one : (p : Problem) (from m : List Rel) (a b : Option (List Rel)) → IsNextNode p from m a → IsNextNode p from m b → a ≡ b
-  pub shown : (from m : List Rel) → IsTrue (is_shown from m) ↔ (IsPrefix m from ⊎ IsTrue (not (is_below m from)))
+  pub shown : (from m : List Rel) → IsTrue (is_shown from m) ↔ (Begins m from ⊎ IsTrue (not (is_below m from)))
 
 -- the least node of a kind, or none where there is no such node
 pub record IsLeastOf (p : Problem) (IsKind : List Rel → Type 0) (n : List Rel) : Type 0 where

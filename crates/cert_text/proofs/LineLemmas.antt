@@ -7,7 +7,7 @@ use Rattle.rcc5_core.specs.declared.Rel.{Rel}
 use Rattle.world_model.specs.declared.Switches.{Switches}
 use Rattle.world_model.specs.Family.{Family}
 use Rattle.proof_text.specs.declared.fault.LineTextFault.{LineTextFault}
-use Rattle.proof_text.specs.Words.{words_of}
+use Rattle.proof_text.specs.Words.{words_of, switch_word, position_word}
 use Rattle.proof_text.specs.Lines.{◌>>=◌, id_in, item_at}
 use Rattle.proof_text.specs.Laws.{has_byte}
 use Rattle.proof_text.proofs.WordLemmas.{words_of-joined, joined-clean}
@@ -16,7 +16,7 @@ use Rattle.cert_text.specs.declared.line.CertLine.{CertLine}
 use Rattle.cert_text.specs.declared.line.CertLine.TheVariants.{Certificate, Claims, Proof, Branch, NoPoint, NoRelation, World, Holds, Fails, End, Quit, Done}
 use Rattle.cert_text.specs.declared.line.Subject.{Subject}
 use Rattle.cert_text.specs.declared.line.Subject.TheVariants.{Narrowed, Kept}
-use Rattle.cert_text.specs.Lines.{taken, small_in, large_in, switch_at, switch_word, relation_at, last_at, last_word, position_at, position_word, end_at, end_word, bits_at, elements_word, sets_of, family_of, family_words, narrowed_of, kept_of, subject_of, subject_words, switches_of, version_of, version_words, node_of, node_words, ended, certificate_of, claims_of, branch_of, no_point_of, no_relation_of, world_of, holds_of, fails_of, end_of, kind_in, cert_line_of_words, cert_line_of, cert_words, cert_text, IsSmallFamily, IsSmallSubject, IsCertLine}
+use Rattle.cert_text.specs.Lines.{taken, small_in, large_in, switch_at, relation_at, last_at, last_word, position_at, end_at, end_word, bits_at, elements_word, sets_of, family_of, family_words, narrowed_of, kept_of, subject_of, subject_words, switches_of, version_of, version_words, node_of, node_words, ended, certificate_of, claims_of, branch_of, no_point_of, no_relation_of, world_of, holds_of, fails_of, end_of, kind_in, cert_line_of_words, cert_line_of, cert_words, cert_text, IsSmallFamily, IsSmallSubject, IsCertLine}
 use Rattle.cert_text.proofs.WordLemmas.{IsWord, plain-clean, number-word, clause-word, switch_read-word, relation-word, last_read-word, position_read-word, bits-word, end_read-word, AreSmall, sets_of-words, clean-sets}
 
 taken-word : {A : Type 0} (at : List ℕ → Result A LineTextFault) (x : A) (word : List ℕ) (words : List (List ℕ)) → IsWord at x word → taken at (word ∷ words) ≡ Ok (x, words)

@@ -13,7 +13,7 @@ use Rattle.world_model.specs.declared.Switches.{Switches}
 use Rattle.world_model.specs.Family.{Family}
 use Rattle.proof_text.specs.declared.fault.LineTextFault.{LineTextFault}
 use Rattle.proof_text.specs.declared.fault.LineTextFault.TheVariants.{BadLine}
-use Rattle.proof_text.specs.Words.{words_of}
+use Rattle.proof_text.specs.Words.{words_of, spelled, switch_word, position_word}
 use Rattle.proof_text.specs.Lines.{◌>>=◌, id_in, item_at, derive_of, forget_of, IsId, IsLine, Gives}
 use Rattle.proof_text.proofs.LineLemmas.{bind_ok, ok_same, derive_of-read, forget_of-read}
 use Rattle.cert_text.specs.declared.line.CertLine.{CertLine}
@@ -22,7 +22,7 @@ use Rattle.cert_text.specs.declared.line.Subject.{Subject}
 use Rattle.cert_text.specs.declared.line.Subject.TheVariants.{Narrowed, Kept}
 use Rattle.cert_text.specs.declared.kind.LineKind.{LineKind}
 use Rattle.cert_text.specs.declared.kind.LineKind.TheVariants as kind
-use Rattle.cert_text.specs.Lines.{taken, spelled, small_in, large_in, switch_at, switch_word, relation_at, last_at, last_word, position_at, position_word, end_at, end_word, bit_byte, bits_at, sets_of, family_of, family_words, narrowed_of, kept_of, subject_of, subject_words, switches_of, version_of, version_words, node_of, node_words, ended, certificate_of, claims_of, branch_of, no_point_of, no_relation_of, world_of, holds_of, fails_of, end_of, rest_of, kind_word, all_kinds, kind_in, cert_line_of_words, cert_line_of, cert_words, cert_text, IsSmallFamily, IsSmallSubject, IsCertLine, IdsFromOne}
+use Rattle.cert_text.specs.Lines.{taken, small_in, large_in, switch_at, relation_at, last_at, last_word, position_at, end_at, end_word, bit_byte, bits_at, sets_of, family_of, family_words, narrowed_of, kept_of, subject_of, subject_words, switches_of, version_of, version_words, node_of, node_words, ended, certificate_of, claims_of, branch_of, no_point_of, no_relation_of, world_of, holds_of, fails_of, end_of, rest_of, kind_word, all_kinds, kind_in, cert_line_of_words, cert_line_of, cert_words, cert_text, IsSmallFamily, IsSmallSubject, IsCertLine, IdsFromOne}
 use Rattle.cert_text.proofs.WordLemmas.{AreSmall}
 use Rattle.cert_text.proofs.ReadLemmas.{taken-read, small-read, large-read, clause-read, switch-read, relation-read, last-read, position-read, bits-read, end-read, is_word, find-passes, sets-read}
 

@@ -9,12 +9,12 @@ use Rattle.rcc5_core.specs.declared.Rel.{Rel}
 use Rattle.rcc5_core.specs.Relation.{all_rels, letter_of, with_letter}
 use Rattle.proof_text.specs.declared.fault.LineTextFault.{LineTextFault}
 use Rattle.proof_text.specs.declared.fault.LineTextFault.TheVariants.{BadLine, BadNumber}
-use Rattle.proof_text.specs.Words.{words_of}
+use Rattle.proof_text.specs.Words.{words_of, spelled, switch_word, position_word}
 use Rattle.proof_text.specs.Lines.{◌>>=◌, id_in, item_at, IsId}
 use Rattle.proof_text.proofs.NumberLemmas.{number_in-spells}
 use Rattle.proof_text.proofs.ItemLemmas.{item_at-ok, id-text}
 use Rattle.proof_text.proofs.LineLemmas.{bind_ok, ok_same}
-use Rattle.cert_text.specs.Lines.{taken, each_in, spelled_in, spelled, small_in, large_in, switch_at, switch_word, relation_at, last_at, last_word, position_at, position_word, end_at, end_word, bit_with, bit_byte, bits_at, elements_at, elements_word, sets_of}
+use Rattle.cert_text.specs.Lines.{taken, each_in, spelled_in, small_in, large_in, switch_at, relation_at, last_at, last_word, position_at, end_at, end_word, bit_with, bit_byte, bits_at, elements_at, elements_word, sets_of}
 use Rattle.cert_text.proofs.WordLemmas.{AreSmall}
 
 -- what is read by `at` has this text, and keeps P

@@ -8,14 +8,14 @@ use Rattle.rcc5_core.specs.declared.Rel.TheVariants.{Equals, Includes, IncludedI
 use Rattle.rcc5_core.specs.Relation.{letter_of, with_letter}
 use Rattle.proof_text.specs.declared.fault.LineTextFault.{LineTextFault}
 use Rattle.proof_text.specs.declared.fault.LineTextFault.TheVariants.{BadLine, BadNumber}
-use Rattle.proof_text.specs.Words.{words_of, parted}
+use Rattle.proof_text.specs.Words.{words_of, parted, spelled, switch_word, position_word}
 use Rattle.proof_text.specs.Numbers.{number_in}
 use Rattle.proof_text.specs.Lines.{◌>>=◌, id_in, item_at, IsId}
 use Rattle.proof_text.specs.Laws.{has_byte}
 use Rattle.proof_text.proofs.NumberLemmas.{number_in-decimal, decimal-nonempty, decimal-no_byte}
 use Rattle.proof_text.proofs.WordLemmas.{words_of-joined, joined-parted, joined-clean}
 use Rattle.proof_text.proofs.ItemLemmas.{item_at-some, id-word}
-use Rattle.cert_text.specs.Lines.{each_in, spelled_in, spelled, small_in, switch_at, switch_word, relation_at, last_at, last_word, position_at, position_word, end_at, end_word, bit_with, bit_byte, bits_at, elements_at, elements_word, sets_of}
+use Rattle.cert_text.specs.Lines.{each_in, spelled_in, small_in, switch_at, relation_at, last_at, last_word, position_at, end_at, end_word, bit_with, bit_byte, bits_at, elements_at, elements_word, sets_of}
 
 -- a word that is read as x, and has no byte below `!` (33)
 pub record IsWord {A : Type 0} (at : List ℕ → Result A LineTextFault) (x : A) (word : List ℕ) : Type 0 where

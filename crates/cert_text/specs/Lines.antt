@@ -9,7 +9,7 @@ use Rattle.world_model.specs.declared.Switches.{Switches}
 use Rattle.world_model.specs.Family.{Family}
 use Rattle.proof_text.specs.declared.fault.LineTextFault.{LineTextFault}
 use Rattle.proof_text.specs.declared.fault.LineTextFault.TheVariants.{BadLine, BadNumber}
-use Rattle.proof_text.specs.Words.{words_of}
+use Rattle.proof_text.specs.Words.{words_of, spelled, switch_word, position_word}
 use Rattle.proof_text.specs.Numbers.{number_in}
 use Rattle.proof_text.specs.Lines.{◌>>=◌, id_in, item_at, derive_of, forget_of, line_words, IsId, IsLine}
 use Rattle.cert_text.specs.declared.line.CertLine.{CertLine}
@@ -34,11 +34,6 @@ abbrev pub spelled_in : {A : Type 0} → (ℕ → Option A) → List ℕ → Opt
 spelled_in symbol [] = None
 spelled_in symbol (first ∷ others) = if bytes_eq (first ∷ others) (codes ".") then Some [] else each_in symbol (first ∷ others)
 
--- a list as such a word
-abbrev pub spelled : {A : Type 0} → (A → ℕ) → List A → List ℕ
-spelled byte [] = codes "."
-spelled byte (x ∷ xs) = map byte (x ∷ xs)
-
 -- the number below 2 ^ 32, or 2 ^ 64, that a word is
 abbrev pub small_in : List ℕ → Option ℕ
 small_in word = number_in 0 (2 ^ 32 - 1) word
@@ -46,12 +41,9 @@ small_in word = number_in 0 (2 ^ 32 - 1) word
 abbrev pub large_in : List ℕ → Option ℕ
 large_in word = number_in 0 (2 ^ 64 - 1) word
 
--- a switch by its word, and as that word
+-- a switch by its word
 abbrev pub switch_at : List ℕ → Result Bool LineTextFault
 switch_at word = if bytes_eq word (codes "on") then Ok true else (if bytes_eq word (codes "off") then Ok false else Err BadLine)
-
-abbrev pub switch_word : Bool → List ℕ
-switch_word on = if on then codes "on" else codes "off"
 
 -- a relation by its letter
 abbrev pub relation_at : List ℕ → Result Rel LineTextFault
@@ -70,9 +62,6 @@ last_word (Some rel) = letter_of rel ∷ []
 -- a position by its letters
 abbrev pub position_at : List ℕ → Result (List Rel) LineTextFault
 position_at word = ok_or (spelled_in with_letter word) BadLine
-
-abbrev pub position_word : List Rel → List ℕ
-position_word q = spelled letter_of q
 
 -- where a tree ends: before a position, or, by a `-`, at the end
 abbrev pub end_at : List ℕ → Result (Option (List Rel)) LineTextFault

@@ -1,13 +1,12 @@
 //! The words of a line, put at the end of a text with a space before each.
 
 ghost use Rattle.std.specs.Prelude.{◌≡◌, ◌++◌, ◌∷◌, [], ◌<◌, ◌^◌, map, decimal, OnOk, All};
-ghost use Rattle.proof_text.specs.Words.{parted};
-ghost use Rattle.rcc5_core.specs.Relation.{letter_of};
+ghost use Rattle.proof_text.specs.Words.{parted, switch_word, position_word, spelled};
 ghost use Rattle.cert_text.specs.declared.line.Subject.TheVariants.{Narrowed, Kept};
-ghost use Rattle.cert_text.specs.Lines.{switch_word, last_word, position_word, bit_byte, spelled, elements_word, family_words, subject_words, version_words, node_words, IsSmallFamily, IsSmallSubject};
+ghost use Rattle.cert_text.specs.Lines.{last_word, bit_byte, elements_word, family_words, subject_words, version_words, node_words, IsSmallFamily, IsSmallSubject};
 
 use crate::line::{Flags, RawFamily, Subject};
-use proof_text::print_number;
+use proof_text::{print_number, print_position, switch_word};
 use rcc5_core::{Position, Rel};
 use std::alloc::AllocError;
 use world_model::Switches;
@@ -22,11 +21,8 @@ pub(crate) fn put_number(out: &mut Vec<u8>, number: u64) -> Result<(), AllocErro
 fn put_switch(out: &mut Vec<u8>, on: bool) -> Result<(), AllocError>
     ensures { OnOk result (out.new.items ≡ out.old.items ++ 32 ∷ switch_word on) }
 {
-    if on {
-        out.extend_from_slice(b" on")
-    } else {
-        out.extend_from_slice(b" off")
-    }
+    out.push(b' ')?;
+    out.extend_from_slice(switch_word(on))
 }
 
 /// Puts the number of the version, and the switches.
@@ -39,24 +35,12 @@ pub(crate) fn put_version(out: &mut Vec<u8>, switches: Switches) -> Result<(), A
     put_switch(out, switches.coverage)
 }
 
-fn put_letters(out: &mut Vec<u8>, rels: &[Rel]) -> Result<(), AllocError>
-    ensures { OnOk result (out.new.items ≡ out.old.items ++ map letter_of rels.now) }
-{
-    for rel in rels {
-        out.push(rel.letter())?;
-    }
-    Ok(())
-}
-
 /// Puts a blank and a position's word.
 pub fn put_position(out: &mut Vec<u8>, position: &Position) -> Result<(), AllocError>
     ensures { OnOk result (out.new.items ≡ out.old.items ++ 32 ∷ position_word position.now) }
 {
-    if position.is_empty() {
-        return out.extend_from_slice(b" .");
-    }
     out.push(b' ')?;
-    put_letters(out, position.rels())
+    print_position(out, position)
 }
 
 /// Puts the depth of a node, and the last relation on the way to it.

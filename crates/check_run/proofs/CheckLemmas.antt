@@ -1,13 +1,19 @@
 -- How a check ends, by its parts.
-use Rattle.std.proofs.Common.{◌≡◌, ℕ, List, [], Option, None, Some, IfSome, IfOk, IfErr, Result, Ok, Err, refl, sym, ap, subst, inl, inr, ⊎_elim, arith}
+use Rattle.std.proofs.Common.{◌≡◌, ℕ, List, [], Option, IfOk, IfErr, Result, Ok, Err, refl, sym, ap, subst, inl, inr, ⊎_elim, arith}
+use Rattle.std.specs.Prelude.{⊤}
+use Rattle.std.specs.Borrow.{Bor}
 use Rattle.outer_store.specs.Contents.{Contents}
+use Rattle.outer_store.specs.Faults.{Rose}
+use Rattle.outer_store.specs.ReaderParts.{reader_store, reader_name}
+use Rattle.outer_store.specs.declared.reader.StoreReader.{StoreReader}
 use Rattle.outer_store.specs.declared.fault.StoreFault.{StoreFault}
 use Rattle.outer_store.specs.declared.fault.StoreFault.TheVariants as store_fault
 use Rattle.world_model.specs.declared.Switches.{Switches}
 use Rattle.world_model.specs.Problem.{Problem}
+use Rattle.cert_reader.specs.Bytes.{MayHold, ForSome}
 use Rattle.cert_reader.specs.Reading.{reading}
 use Rattle.cert_rules.specs.Files.{Verdict}
-use Rattle.cert_check.specs.Answers.{verdict_of, IsAnswerOf}
+use Rattle.cert_check.specs.Answers.{verdict_of, IsAnswerOf, IfReadFault}
 use Rattle.cert_check.specs.declared.accepted.Accepted.{Accepted}
 use Rattle.cert_check.specs.declared.fault.CheckFault.{CheckFault}
 use Rattle.cert_check.specs.declared.fault.CheckFault.TheVariants as fault
@@ -76,8 +82,7 @@ verdict_found input cert switches p v one mid same comes accepted =
     }
 
 accepted_answer : (p : Problem) (told : Option (List ℕ)) (v : Verdict) → IsAccepted p told v → IsCertAnswer p told status.Done (verdict_text v)
-accepted_answer p None v accepted = tt
-accepted_answer p (Some bytes) v accepted = (ap status_by (sym accepted), ap text_by (sym accepted))
+accepted_answer p told v accepted = (accepted.0, (accepted.1.0, (ap status_by (sym accepted.1.1), ap text_by (sym accepted.1.1))))
 
 verdict_answer : (input cert : List ℕ) (switches : Switches) (held : Contents) (v : Verdict) → IsVerdictOf input cert switches held v
     → IsCheckAnswer input cert switches held status.Done (verdict_text v) []
@@ -122,15 +127,56 @@ carried input cert switches v (Err store_fault.NoMemory) one other old new found
   by_cause = record { cause = (quiet, put.cause); kept = all_kept [] one.held other.held kept };
 }
 
-told_of : (p : Problem) (told : Option (List ℕ)) (f : CheckFault) → IfSome told (λ bytes. IsAnswerOf p (reading bytes) (Err f)) → ending_of (status_of f) ≡ Answered
-    → IsCertAnswer p told (status_of f) (end_line (status_of f))
-told_of p None f said answered = tt
-told_of p (Some bytes) (fault.Text n kind) said answered = (ap status_by (sym said), ap text_by (sym said))
-told_of p (Some bytes) (fault.Rejected n kind) said answered = (ap status_by (sym said), ap text_by (sym said))
-told_of p (Some bytes) fault.ReadFault said answered = cc
-told_of p (Some bytes) fault.NoMemory said answered = cc
+-- a certificate is accepted, by the answer to what is left under its name
+pub accepted_left : (p : Problem) (left told : Option (List ℕ)) (said : Accepted) → left ≡ told → ForSome (MayHold left) (λ bytes. IsAnswerOf p (reading bytes) (Ok said))
+    → IsAccepted p told (verdict_of said)
+accepted_left p left told said same tells = subst (λ told. IsAccepted p told (verdict_of said)) same tells
 
--- the same of an answer that may be either
+-- or it is refused, and no call failed
+refused_left : (p : Problem) (cert : List ℕ) (left : Option (List ℕ)) (s : Status) (one other : StoreState) → left ≡ one.held cert → ending_of s ≡ Answered → IsQuiet one other
+    → IsCertAnswer p left s (end_line s) → IsNotAccepted p cert s one other
+refused_left p cert left s one other same answered quiet answer = inl (record { answer = subst (λ told. IsCertAnswer p told s (end_line s)) same answer; answered = answered; quiet = quiet })
+
+-- why it is not accepted
+not_accepted : (p : Problem) (cert : List ℕ) (left : Option (List ℕ)) (f : CheckFault) (one other : StoreState) → left ≡ one.held cert
+    → ForSome (MayHold left) (λ bytes. IsAnswerOf p (reading bytes) (Err f)) → IfReadFault {T = Accepted} (Err f) (Rose (one.reads cert) (other.reads cert)) (other.reads cert ≡ one.reads cert)
+    → IfReadFault {T = Accepted} (Err f) ⊤ (IsQuiet one other) → IsNotAccepted p cert (status_of f) one other
+not_accepted p cert left (fault.Text n kind) one other same tells cause quiet =
+    refused_left p cert left (status.RefusedCert n kind) one other same refl quiet (tells.0, (tells.1.0, (ap status_by (sym tells.1.1), ap text_by (sym tells.1.1))))
+not_accepted p cert left (fault.Rejected n kind) one other same tells cause quiet =
+    refused_left p cert left (status.Rejected n kind) one other same refl quiet (tells.0, (tells.1.0, (ap status_by (sym tells.1.1), ap text_by (sym tells.1.1))))
+not_accepted p cert left fault.ReadFault one other same tells cause quiet = inr (inl (refl, cause))
+not_accepted p cert left fault.NoMemory one other same tells cause quiet = inr (inr (refl, quiet))
+
+-- by the names and the stores of a reader
+not_accepted_by : (p : Problem) (cert first last : List ℕ) (left : Option (List ℕ)) (f : CheckFault) (s : Status) (one start other : StoreState)
+    → first ≡ cert → last ≡ first → start ≡ one → s ≡ status_of f → left ≡ one.held cert → ForSome (MayHold left) (λ bytes. IsAnswerOf p (reading bytes) (Err f))
+    → IfReadFault {T = Accepted} (Err f) (Rose (start.reads first) (other.reads last)) (other.reads last ≡ start.reads first)
+    → IfReadFault {T = Accepted} (Err f) ⊤ (IsQuiet start other) → IsNotAccepted p cert s one other
+not_accepted_by p cert first last left f s one start other is stays same ends holds tells cause quiet =
+    let stayed : IfReadFault {T = Accepted} (Err f) (Rose (start.reads first) (other.reads first)) (other.reads first ≡ start.reads first) =
+    subst (λ last. IfReadFault {T = Accepted} (Err f) (Rose (start.reads first) (other.reads last)) (other.reads last ≡ start.reads first)) stays cause in
+    let named : IfReadFault {T = Accepted} (Err f) (Rose (start.reads cert) (other.reads cert)) (other.reads cert ≡ start.reads cert) =
+    subst (λ first. IfReadFault {T = Accepted} (Err f) (Rose (start.reads first) (other.reads first)) (other.reads first ≡ start.reads first)) is stayed in
+    subst (λ s. IsNotAccepted p cert s one other) (sym ends)
+    (not_accepted p cert left f one other holds tells
+    (subst (λ (start : StoreState). IfReadFault {T = Accepted} (Err f) (Rose (start.reads cert) (other.reads cert)) (other.reads cert ≡ start.reads cert)) same named)
+    (subst (λ (start : StoreState). IfReadFault {T = Accepted} (Err f) ⊤ (IsQuiet start other)) same quiet))
+
+-- where the reader's store is what is left of the store that it borrowed
+module _ {S : Type 0} (state : S → StoreState) where
+  pub not_accepted_over : (p : Problem) (cert : List ℕ) (left : Option (List ℕ)) (f : CheckFault) (s : Status) (store end : S) (a b : StoreReader S)
+      → s ≡ status_of f → (reader_store b).now ≡ end → (reader_store a).now ≡ store → (reader_name a).now ≡ cert → reader_name b ≡ reader_name a
+      → left ≡ (state store).held cert → ForSome (MayHold left) (λ bytes. IsAnswerOf p (reading bytes) (Err f))
+      → IfReadFault {T = Accepted} (Err f) (Rose ((state (reader_store a).now).reads (reader_name a).now) ((state (reader_store b).now).reads (reader_name b).now))
+      ((state (reader_store b).now).reads (reader_name b).now ≡ (state (reader_store a).now).reads (reader_name a).now)
+      → IfReadFault {T = Accepted} (Err f) ⊤ (IsQuiet (state (reader_store a).now) (state (reader_store b).now)) → IsNotAccepted p cert s (state store) (state end)
+  not_accepted_over p cert left f s store end a b ends is_end is_store named same holds tells cause quiet =
+      subst (λ (end : S). IsNotAccepted p cert s (state store) (state end)) is_end
+      (not_accepted_by p cert (reader_name a).now (reader_name b).now left f s (state store) (state (reader_store a).now) (state (reader_store b).now) named
+      (ap (λ (name : Bor (List ℕ)). name.now) same) (ap state is_store) ends holds tells cause quiet)
+
+-- a fact of a fault, where the answer is that fault
 pub if_err : {X E : Type 0} (r : Result X E) (P : E → Type 0) (fault : E) → P fault → r ≡ Err fault → IfErr r P
 if_err (Ok value) P fault fact e = tt
 if_err (Err other) P fault fact e = subst P (sym (err_same other fault (Err other) refl e)) fact

@@ -1,13 +1,15 @@
 -- What the command that checks a certificate answers.
-use Rattle.std.specs.Prelude.{◌≡◌, ℕ, List, [], ◌∷◌, ◌++◌, length, flat_map, Option, IfSome, Result, Ok, Err, codes, decimal, Bool, if◌then◌else◌}
+use Rattle.std.specs.Prelude.{◌≡◌, ℕ, List, [], ◌∷◌, ◌++◌, length, flat_map, Option, Result, Ok, Err, codes, decimal, Bool, if◌then◌else◌}
 use Rattle.std.specs.List.{join_with_byte}
 use Rattle.outer_store.specs.Contents.{Contents}
 use Rattle.world_model.specs.declared.Switches.{Switches}
 use Rattle.world_model.specs.Problem.{Problem}
 use Rattle.cleantax_text.specs.declared.TextKind.{TextKind}
 use Rattle.cleantax_text.specs.Reading.{text_result}
-use Rattle.cert_text.specs.Lines.{position_word, end_word, subject_words}
+use Rattle.proof_text.specs.Words.{position_word}
+use Rattle.cert_text.specs.Lines.{end_word, subject_words}
 use Rattle.cert_reader.specs.declared.fault.CertTextKind.{CertTextKind}
+use Rattle.cert_reader.specs.Bytes.{MayHold, ForSome}
 use Rattle.cert_reader.specs.Reading.{reading}
 use Rattle.cert_rules.specs.ClaimLists.{Claim}
 use Rattle.cert_rules.specs.Files.{Verdict, Listing, ClaimList, Answer, Accepts, Rejects, HasFault, answer_of}
@@ -50,9 +52,9 @@ text_by (HasFault line kind) = end_line (RefusedCert line kind)
 abbrev pub cert_answer : Problem → List ℕ → Answer CertTextKind
 cert_answer p bytes = answer_of p (reading bytes).lines (reading bytes).ends
 
--- what comes of the certificate of a problem, where it is told
+-- what comes of the certificate of a problem, by bytes that there may be under its name
 abbrev pub IsCertAnswer : Problem → Option (List ℕ) → Status → List ℕ → Type 0
-IsCertAnswer p told status text = IfSome told (λ bytes. (status ≡ status_by (cert_answer p bytes)) × (text ≡ text_by (cert_answer p bytes)))
+IsCertAnswer p told status text = ForSome (MayHold told) (λ bytes. (status ≡ status_by (cert_answer p bytes)) × (text ≡ text_by (cert_answer p bytes)))
 
 -- what comes of a problem's text and a certificate
 abbrev pub IsAnswerBy : Result Problem (ℕ × TextKind) → Option (List ℕ) → Status → List ℕ → Type 0
@@ -62,7 +64,7 @@ IsAnswerBy (Err fault) told status text = (status ≡ RefusedText fault.0 fault.
 -- the answers to a check of the certificate under one name for the problem under another
 pub record IsCheckAnswer (input cert : List ℕ) (switches : Switches) (held : Contents) (status : Status) (text : List ℕ) (files : List File) : Type 0 where
   pub bytes : List ℕ
-  pub told : IfSome (held input) (λ all. bytes ≡ all)
+  pub told : MayHold (held input) bytes
   pub answer : IsAnswerBy (text_result bytes switches) (held cert) status text
   pub none_written : files ≡ []
 

@@ -1,5 +1,5 @@
 -- The steps of a check.
-use Rattle.std.specs.Prelude.{◌≡◌, ℕ, List, Option, IfSome, Result, Ok, ◌⊎◌}
+use Rattle.std.specs.Prelude.{◌≡◌, ℕ, List, Option, Result, Ok, ◌⊎◌}
 use Rattle.outer_store.specs.Bytes.{GrownInPart, added}
 use Rattle.outer_store.specs.Contents.{Contents}
 use Rattle.outer_store.specs.Faults.{Rose}
@@ -7,6 +7,7 @@ use Rattle.outer_store.specs.declared.fault.StoreFault.{StoreFault}
 use Rattle.world_model.specs.declared.Switches.{Switches}
 use Rattle.world_model.specs.Problem.{Problem}
 use Rattle.cleantax_text.specs.Reading.{text_result}
+use Rattle.cert_reader.specs.Bytes.{MayHold, ForSome}
 use Rattle.cert_rules.specs.Files.{Verdict, Accepts}
 use Rattle.cert_check.specs.declared.fault.CheckFault.{CheckFault}
 use Rattle.cert_check.specs.declared.fault.CheckFault.TheVariants as fault
@@ -24,9 +25,9 @@ status_of (fault.Rejected line kind) = Rejected line kind
 status_of fault.ReadFault = ReadFault
 status_of fault.NoMemory = NoMemory
 
--- a certificate is accepted with this verdict, where it is told
+-- a certificate is accepted with this verdict, by bytes that there may be under its name
 abbrev pub IsAccepted : Problem → Option (List ℕ) → Verdict → Type 0
-IsAccepted p told verdict = IfSome told (λ bytes. cert_answer p bytes ≡ Accepts verdict)
+IsAccepted p told verdict = ForSome (MayHold told) (λ bytes. cert_answer p bytes ≡ Accepts verdict)
 
 -- a last line alone is the answer to a certificate, and no call failed
 pub record IsRefusedCert (p : Problem) (cert : List ℕ) (status : Status) (one other : StoreState) : Type 0 where
@@ -43,7 +44,7 @@ IsNotAccepted p cert status one other =
 -- the verdict on the certificate under one name for the problem under another
 pub record IsVerdictOf (input cert : List ℕ) (switches : Switches) (held : Contents) (verdict : Verdict) : Type 0 where
   pub bytes : List ℕ
-  pub told : IfSome (held input) (λ all. bytes ≡ all)
+  pub told : MayHold (held input) bytes
   pub problem : Problem
   pub is : text_result bytes switches ≡ Ok problem
   pub accepted : IsAccepted problem (held cert) verdict

@@ -1,6 +1,7 @@
 //! The lines of what an accepted certificate says.
 ghost use Rattle.std.specs.Prelude.{◌≡◌, ◌++◌, ◌∷◌, [], length, codes, flat_map, string_bytes, OnOk, IfOk};
-ghost use Rattle.cert_text.specs.Lines.{position_word, end_word};
+ghost use Rattle.proof_text.specs.Words.{position_word};
+ghost use Rattle.cert_text.specs.Lines.{end_word};
 ghost use Rattle.cert_check.specs.Answers.{verdict_of};
 ghost use Rattle.run_ends.specs.Ends.{line_of, world_line};
 ghost use Rattle.run_ends.specs.Runs.{LeavesPiece};

@@ -20,12 +20,12 @@ use Rattle.split_search.specs.declared.choice.Choice.TheVariants.{Met, Refuted}
 use Rattle.split_search.specs.Choosing.{IsMetBy}
 use Rattle.split_search.specs.Claiming.{ToldClaims, KeepsOpen, KeepsSomewhere, KeepsWithin}
 use Rattle.claim_blocks.specs.Blocks.{IsProblemOf, AreClaimsTold, AreClaimsMade, FromClaims, KeepsClaims}
-use Rattle.claim_blocks.specs.Steps.{LeadsTo, LeadsSomewhere, LeadsIf, MayEndAt}
+use Rattle.claim_blocks.specs.Steps.{ClaimsLeadTo, LeadsSomewhere, LeadsIf, MayEndAt}
 use Rattle.claim_blocks.proofs.Steps.{leads_join, leads_behind}
 
 -- claims are made after Ok, and told after a fault
 pub made_from : (p : Problem) (IsMade : List Claim → Type 0) (made : List Claim) (old new : Told) (one other : AskerState) → IsMade made →
-    ((claims : List Claim) → LeadsTo p old new one other None claims None (claims ++ made)) → FromClaims p old one (λ claims. AreClaimsMade p IsMade claims new other)
+    ((claims : List Claim) → ClaimsLeadTo p old new one other None claims None (claims ++ made)) → FromClaims p old one (λ claims. AreClaimsMade p IsMade claims new other)
 made_from p IsMade made old new one other is_made leads lines claims is k = record { more = made; made = is_made; told_claims = leads claims lines is k }
 
 pub told_from : (p : Problem) (old new : Told) (one other : AskerState) → ((claims : List Claim) → LeadsSomewhere p old new one other None claims) →
@@ -46,8 +46,8 @@ leads_from (Err fault) p made claims old new one other keeps = λ lines is k. ke
 
 -- a tree that was opened and then searched is open somewhere
 pub somewhere : (p : Problem) (subject : Subject) (claims : List Claim) (a b c : Told) (one two three : AskerState) → AddsLines a b →
-    LeadsTo p a b one two None claims (open_at subject (Some [])) claims → KeepsSomewhere p subject claims b c two three →
-    (at : Option (List Rel)) × LeadsTo p a c one three None claims (open_at subject at) claims
+    ClaimsLeadTo p a b one two None claims (open_at subject (Some [])) claims → KeepsSomewhere p subject claims b c two three →
+    (at : Option (List Rel)) × ClaimsLeadTo p a c one three None claims (open_at subject at) claims
 somewhere p subject claims a b c one two three adds first second =
     (second.0, leads_join p a b c one two three None (open_at subject (Some [])) (open_at subject second.0) claims claims claims adds first second.1)
 
@@ -74,7 +74,7 @@ searched Refuted p subject claims old new one other k = (None, refl, k)
 
 -- a tree that was opened, searched up to some node or its end, and then ended or left
 pub finished : {T : Type 0} (r : Result T StepFault) (p : Problem) (subject : Subject) (made claims : List Claim) (at : Option (List Rel)) (a b c d : Told) (one two three four : AskerState) → AddsLines a b → AddsLines b c →
-    LeadsTo p a b one two None claims (open_at subject (Some [])) claims → KeepsOpen p subject claims b c two three (Some []) at →
+    ClaimsLeadTo p a b one two None claims (open_at subject (Some [])) claims → KeepsOpen p subject claims b c two three (Some []) at →
     LeadsIf p r c d three four (open_at subject at) claims None (claims ++ made) → LeadsIf p r a d one four None claims None (claims ++ made)
 finished r p subject made claims at a b c d one two three four adds more first second third =
     leads_behind r p a b d one two four None (open_at subject (Some [])) None claims claims (claims ++ made) adds first

@@ -103,7 +103,7 @@ keeps_step (Ok value) p IsMade told one other none goes = λ lines claims is k.
 keeps_step (Err fault) p IsMade told one other none goes = λ lines claims is k.
     stays_told p claims told other (still_claims p told told other lines claims refl is (begins_goes p one other None claims lines goes k))
 
--- the same at a fault, for an answer of any type
+-- where no line is told and the asker goes on, the claims are told still
 pub nothing_told : (p : Problem) (told : Told) (one other : AskerState) → AskerGoes one other → FromClaims p told one (λ claims. AreClaimsTold p told other)
 nothing_told p told one other goes lines claims is k =
     stays_told p claims told other (still_claims p told told other lines claims refl is (begins_goes p one other None claims lines goes k))

@@ -18,11 +18,12 @@ use Rattle.search_log.specs.declared.fault.StepFault.{StepFault}
 use Rattle.search_log.specs.Logging.{AddsLines, AreToldWith, AllTold, NoneTold, IsFlushed, IsSameButLines}
 use Rattle.split_search.specs.Claiming.{AllClaimBranchesAlive, ClaimsBegin, ToldClaims}
 use Rattle.claim_blocks.specs.Blocks.{AreClaimsTold}
-use Rattle.claim_blocks.specs.Steps.{LineLeads, LeadsTo, LeadsSomewhere, LeadsIf}
+use Rattle.claim_blocks.specs.Steps.{LineLeads, ClaimsLeadTo, LeadsSomewhere, LeadsIf}
 use Rattle.claim_blocks.proofs.Joins.{told_then}
 use Rattle.split_search.proofs.Told.{leaf_alive}
 
-alive_more : (p : Problem) (status : Status ClaimStand (List Claim)) (lines : List CertLine) (line : CertLine) → is_branch line ≡ false → AllClaimBranchesAlive p status lines →
+-- no branch more: each still stands at an alive node
+pub alive_more : (p : Problem) (status : Status ClaimStand (List Claim)) (lines : List CertLine) (line : CertLine) → is_branch line ≡ false → AllClaimBranchesAlive p status lines →
     AllClaimBranchesAlive p status (lines ++ line ∷ [])
 alive_more p status [] line leaf alive = (leaf_alive p status line leaf, tt)
 alive_more p status (first ∷ lines) line leaf alive = (alive.0, alive_more p (claim_step p status first) lines line leaf alive.1)
@@ -48,32 +49,32 @@ begins_flushed p (line ∷ waiting) state block claims told k =
     (begins_more p (Proof line) (line ∷ waiting) waiting state block block claims claims told refl (λ lines. claims_put_keep_up_law.flushed p lines line waiting state block claims) k))
 
 -- where nothing is told any more
-leads_refused : (p : Problem) (old new : Told) (one other : AskerState) (block next : Option Block) (claims more : List Claim) → new ≡ None → LeadsTo p old new one other block claims next more
+leads_refused : (p : Problem) (old new : Told) (one other : AskerState) (block next : Option Block) (claims more : List Claim) → new ≡ None → ClaimsLeadTo p old new one other block claims next more
 leads_refused p old new one other block next claims more none lines is k =
     subst (λ told. ToldClaims p told other.solver.waiting other.solver.state next more) (sym none) tt
 
 -- where nothing changes
-pub leads_same : (p : Problem) (told : Told) (one : AskerState) (block : Option Block) (claims : List Claim) → LeadsTo p told told one one block claims block claims
+pub leads_same : (p : Problem) (told : Told) (one : AskerState) (block : Option Block) (claims : List Claim) → ClaimsLeadTo p told told one one block claims block claims
 leads_same p told one block claims lines is k = subst (λ told. ToldClaims p told one.solver.waiting one.solver.state block claims) (sym is) k
 
 -- a known tree and known claims are some
-pub leads_some : (p : Problem) (old new : Told) (one other : AskerState) (block next : Option Block) (claims more : List Claim) → LeadsTo p old new one other block claims next more →
+pub leads_some : (p : Problem) (old new : Told) (one other : AskerState) (block next : Option Block) (claims more : List Claim) → ClaimsLeadTo p old new one other block claims next more →
     LeadsSomewhere p old new one other block claims
 leads_some p old new one other block next claims more leads lines is k = record { block = next; claims = more; told_claims = leads lines is k }
 
 -- over two calls
 pub leads_join : (p : Problem) (a b c : Told) (one two three : AskerState) (block mid next : Option Block) (claims mids more : List Claim) → AddsLines a b →
-    LeadsTo p a b one two block claims mid mids → LeadsTo p b c two three mid mids next more → LeadsTo p a c one three block claims next more
+    ClaimsLeadTo p a b one two block claims mid mids → ClaimsLeadTo p b c two three mid mids next more → ClaimsLeadTo p a c one three block claims next more
 leads_join p a b c one two three block mid next claims mids more adds first second lines is k =
     told_then (ClaimsBegin p two.solver.waiting two.solver.state mid mids) (ToldClaims p c three.solver.waiting three.solver.state next more) a b lines is adds (first lines is k) second
 
-pub leads_aside : (p : Problem) (a b c : Told) (one two three : AskerState) (block mid : Option Block) (claims mids : List Claim) → AddsLines a b → LeadsTo p a b one two block claims mid mids →
+pub leads_aside : (p : Problem) (a b c : Told) (one two three : AskerState) (block mid : Option Block) (claims mids : List Claim) → AddsLines a b → ClaimsLeadTo p a b one two block claims mid mids →
     LeadsSomewhere p b c two three mid mids → LeadsSomewhere p a c one three block claims
 leads_aside p a b c one two three block mid claims mids adds first second lines is k =
     told_then (ClaimsBegin p two.solver.waiting two.solver.state mid mids) (AreClaimsTold p c three) a b lines is adds (first lines is k) second
 
 pub leads_behind : {T : Type 0} (r : Result T StepFault) (p : Problem) (a b c : Told) (one two three : AskerState) (block mid next : Option Block) (claims mids more : List Claim) → AddsLines a b →
-    LeadsTo p a b one two block claims mid mids → LeadsIf p r b c two three mid mids next more → LeadsIf p r a c one three block claims next more
+    ClaimsLeadTo p a b one two block claims mid mids → LeadsIf p r b c two three mid mids next more → LeadsIf p r a c one three block claims next more
 leads_behind (Ok value) p a b c one two three block mid next claims mids more adds first second = leads_join p a b c one two three block mid next claims mids more adds first second
 leads_behind (Err fault) p a b c one two three block mid next claims mids more adds first second = leads_aside p a b c one two three block mid claims mids adds first second
 
@@ -85,7 +86,7 @@ leads_err Q (Err fault) p old new one other block next claims more h leads = lea
 
 -- the waiting lines are put, or none is
 leads_all_told : (p : Problem) (old new : Told) (one other : AskerState) (block : Option Block) (claims : List Claim) → IsSameButLines one other → AllTold old new one other →
-    LeadsTo p old new one other block claims block claims
+    ClaimsLeadTo p old new one other block claims block claims
 leads_all_told p old new one other block claims same all lines is k =
     let now : new ≡ Some (lines ++ map Proof one.solver.waiting) = subst (λ old. AreToldWith old (map Proof one.solver.waiting) new) is all.told in
     subst (λ told. ToldClaims p told other.solver.waiting other.solver.state block claims) (sym now)
@@ -94,24 +95,24 @@ leads_all_told p old new one other block claims same all lines is k =
     (begins_flushed p one.solver.waiting one.solver.state block claims lines k)))
 
 leads_none_told : (p : Problem) (old new : Told) (one other : AskerState) (block : Option Block) (claims : List Claim) → IsSameButLines one other → NoneTold old new one other →
-    LeadsTo p old new one other block claims block claims
+    ClaimsLeadTo p old new one other block claims block claims
 leads_none_told p old new one other block claims same none lines is k =
     subst (λ told. ToldClaims p told other.solver.waiting other.solver.state block claims) (sym (none.told ∙ is))
     (subst (λ waiting. ClaimsBegin p waiting other.solver.state block claims lines) (sym none.waits)
     (subst (λ state. ClaimsBegin p one.solver.waiting state block claims lines) (sym same.state) k))
 
 pub leads_flushed : {T : Type 0} (r : Result T StepFault) (p : Problem) (old new : Told) (one other : AskerState) (block : Option Block) (claims : List Claim) → IsSameButLines one other →
-    IsFlushed r old new one other → LeadsTo p old new one other block claims block claims
+    IsFlushed r old new one other → ClaimsLeadTo p old new one other block claims block claims
 leads_flushed (Ok value) p old new one other block claims same flushed = leads_all_told p old new one other block claims same flushed.ok
 leads_flushed (Err fault) p old new one other block claims same flushed = by flushed.err
   where
-    by : (new ≡ None) ⊎ NoneTold old new one other → LeadsTo p old new one other block claims block claims
+    by : (new ≡ None) ⊎ NoneTold old new one other → ClaimsLeadTo p old new one other block claims block claims
     by (inl none) = leads_refused p old new one other block block claims claims none
     by (inr none) = leads_none_told p old new one other block claims same none
 
 -- a line is put where none waits
 leads_put : (p : Problem) (old new : Told) (one : AskerState) (line : CertLine) (block next : Option Block) (claims more : List Claim) → one.solver.waiting ≡ [] → is_branch line ≡ false →
-    LineLeads p one.solver.state line block claims next more → IsToldWith old line new → LeadsTo p old new one one block claims next more
+    LineLeads p one.solver.state line block claims next more → IsToldWith old line new → ClaimsLeadTo p old new one one block claims next more
 leads_put p old new one line block next claims more none leaf leads told lines is k =
     let now : new ≡ Some (lines ++ line ∷ []) = subst (λ old. IsToldWith old line new) is told in
     let first : ClaimsBegin p [] one.solver.state block claims lines = subst (λ waiting. ClaimsBegin p waiting one.solver.state block claims lines) none k in

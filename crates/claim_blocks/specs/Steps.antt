@@ -20,8 +20,8 @@ LineLeads p state line block claims next more =
     (lines : List CertLine) → ClaimsKeepUp p lines [] state block claims → ClaimsKeepUp p (lines ++ line ∷ []) [] state next more
 
 -- so does a call, from told lines that keep up with an asker to those that keep up with it afterwards
-abbrev pub LeadsTo : Problem → Told → Told → AskerState → AskerState → Option Block → List Claim → Option Block → List Claim → Type 0
-LeadsTo p old new one other block claims next more =
+abbrev pub ClaimsLeadTo : Problem → Told → Told → AskerState → AskerState → Option Block → List Claim → Option Block → List Claim → Type 0
+ClaimsLeadTo p old new one other block claims next more =
     (lines : List CertLine) → old ≡ Some lines → ClaimsBegin p one.solver.waiting one.solver.state block claims lines →
     ToldClaims p new other.solver.waiting other.solver.state next more
 
@@ -32,7 +32,7 @@ LeadsSomewhere p old new one other block claims =
 
 -- to that tree and those claims after Ok, and to some after a fault
 abbrev pub LeadsIf : {T : Type 0} → Problem → Result T StepFault → Told → Told → AskerState → AskerState → Option Block → List Claim → Option Block → List Claim → Type 0
-LeadsIf p (Ok value) old new one other block claims next more = LeadsTo p old new one other block claims next more
+LeadsIf p (Ok value) old new one other block claims next more = ClaimsLeadTo p old new one other block claims next more
 LeadsIf p (Err fault) old new one other block claims next more = LeadsSomewhere p old new one other block claims
 
 -- after a refutation a tree is whole, so that no node is expected; a family may turn up anywhere

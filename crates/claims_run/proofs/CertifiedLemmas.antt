@@ -22,15 +22,16 @@ use Rattle.cert_rules.specs.ClaimWriting.{ClaimsKeepUp}
 use Rattle.cert_check.proofs.WrittenClaims.{written_claims_are_read, written_claims_are_accepted_law}
 use Rattle.search_log.specs.declared.fault.StepFault.{StepFault}
 use Rattle.search_log.specs.declared.fault.StepFault.TheVariants as step
-use Rattle.search_log.specs.Logging.{IfLogFailed, LogGoes}
+use Rattle.search_log.specs.Logging.{IfLogFailed, LogGoes, store_fault}
 use Rattle.split_search.specs.Claiming.{AllClaimBranchesAlive}
-use Rattle.split_search.proofs.Told.{leaf_alive}
+use Rattle.claim_blocks.proofs.Steps.{alive_more}
 use Rattle.outer_store.specs.States.{StoreState, IsQuiet, OnlyWritten, IsQuiet-joins}
 use Rattle.run_ends.specs.Runs.{HasFailed, AreKeptBut}
+use Rattle.run_ends.proofs.OneName.{kept_but_one, write_failed}
 use Rattle.claims_run.specs.declared.question.Question.{Question}
 use Rattle.claims_run.specs.declared.question.Answer.{Answer}
-use Rattle.claims_run.specs.Answering.{IsRight, IsClaimed, ArePrunedClaims, IsCertOf}
-use Rattle.claims_run.specs.Certifying.{IsToldWhole, IsCertLeft, IsSettledWith, store_fault}
+use Rattle.claims_run.specs.Answering.{IsRight, IsClaimed, ArePrunedClaims, IsClaimsCert}
+use Rattle.claims_run.specs.Certifying.{IsToldWhole, IsCertLeft, IsSettledWith}
 
 -- an answer of a step as one of the store
 abbrev pub as_stored : Result Answer StepFault → Result Answer StoreFault
@@ -40,16 +41,6 @@ as_stored (Err fault) = Err (store_fault fault)
 if_ok_as : (r : Result Answer StepFault) (P : Answer → Type 0) → IfOk r P → IfOk (as_stored r) P
 if_ok_as (Ok answer) P h = h
 if_ok_as (Err fault) P h = tt
-
--- one name alone
-is_named : (name : List ℕ) → Contains (name ∷ []) name
-is_named name = (0, omega arith, refl)
-
-kept_but_one : (name : List ℕ) (old new : Contents) → OthersKept name old new → AreKeptBut (name ∷ []) old new
-kept_but_one name old new others other apart = others other (λ e. apart (subst (Contains (name ∷ [])) (sym e) (is_named name)))
-
-write_failed : (name : List ℕ) (before now : Counts) → Rose (before name) (now name) → HasFailed (name ∷ []) before now
-write_failed name before now rose = record { name = name; named = is_named name; rose = rose }
 
 -- a certificate's name that can't be made empty
 refused_cause : (T : Type 0) (e : StoreFault) (name : List ℕ) (store store' : StoreState)
@@ -66,11 +57,6 @@ create_refused T e (Err f) p asked name store store' is cause others =
     subst (λ f. IsSettledWith p asked (Some name) (Err f) store store') (sym is)
     (record { right = tt; left = tt; kept = kept_but_one name store.held store'.held others; cause = refused_cause T e name store store' cause })
 
--- each branch of claims that keep up stands at an alive node, also with `done` behind
-alive_to_done : (p : Problem) (status : Status ClaimStand (List Claim)) (lines : List CertLine) → AllClaimBranchesAlive p status lines → AllClaimBranchesAlive p status (lines ++ Done ∷ [])
-alive_to_done p status [] alive = (leaf_alive p status Done refl, tt)
-alive_to_done p status (line ∷ lines) alive = (alive.0, alive_to_done p (claim_step p status line) lines alive.1)
-
 -- claims that keep up, with `done` behind them, are pruned, by bytes that spell them
 pruned : (p : Problem) (lines : List CertLine) (state : State) (claims : List Claim) (bytes : List ℕ) → ClaimsKeepUp p lines [] state None claims → AllClaimBranchesAlive p (Going 1 (claim_start p)) lines
     → lines_in bytes ≡ Some (Claims p.switches ∷ (lines ++ Done ∷ [])) → length bytes ≤ 2 ^ 36 → ArePrunedClaims p claims bytes
@@ -78,7 +64,7 @@ pruned p lines state claims bytes keeps alive spelled small = record {
   accepted = written_claims_are_accepted_law p lines state claims bytes keeps spelled small;
   lines = lines ++ Done ∷ [];
   read = ap (λ (read : Reading). read.lines) (written_claims_are_read p lines state claims bytes keeps spelled small);
-  alive = alive_to_done p (Going 1 (claim_start p)) lines alive;
+  alive = alive_more p (Going 1 (claim_start p)) lines Done refl alive;
 }
 
 -- a name that was made empty and then holds a certificate's lines
@@ -86,7 +72,7 @@ cert_left : (p : Problem) (IsMade : List Claim → Type 0) (name : List ℕ) (re
     → IsToldWhole p IsMade (lines_held false (mid name)) (lines_held refused (held' name)) → IsCertLeft p IsMade (Some name) held held'
 cert_left p IsMade name refused held mid held' made told = by (held name) made
   where
-    by : (before : Option (List ℕ)) → mid name ≡ emptied before → IfSome before (λ _. (bytes : List ℕ) × (held' name ≡ Some bytes) × IsCertOf p IsMade bytes)
+    by : (before : Option (List ℕ)) → mid name ≡ emptied before → IfSome before (λ _. (bytes : List ℕ) × (held' name ≡ Some bytes) × IsClaimsCert p IsMade bytes)
     by None made = tt
     by (Some before) made =
         let all = told (ap (lines_held false) made) in
@@ -125,7 +111,7 @@ settled_in_store r p asked name refused store mid store' made others quiet right
   cause = settled_cause r name store mid store' quiet fault still;
 }
 
--- the same by the log's own words, where the log's store is what is left of the store that it borrowed
+-- an answer with its certificate, by the log's own words, where the log's store is what is left of the store that it borrowed
 module _ {S : Type 0} (state : S → StoreState) where
   abbrev lines_of : StoreLog S → Told
   lines_of l = lines_held (is_refused l) ((state (log_store l).now).held (log_name l).now)

@@ -23,7 +23,7 @@ use Rattle.run_ends.proofs.TextLemmas.{says_problem, without_text}
 use Rattle.claims_run.specs.declared.question.Question.{Question}
 use Rattle.claims_run.specs.declared.question.Answer.{Answer}
 use Rattle.claims_run.specs.declared.question.Answer.TheVariants.{Possible, Consistent, Conflict}
-use Rattle.claims_run.specs.Answering.{answer_text, answer_status, IsClaimed, IsCertOf, IsSettled, IsAnswerBy, IsClaimsAnswer, claims_names}
+use Rattle.claims_run.specs.Answering.{answer_text, answer_status, IsClaimed, IsClaimsCert, IsAnswerPut, IsAnswerBy, IsClaimsAnswer, claims_names}
 use Rattle.run_ends.specs.Runs.{file_under}
 use Rattle.claims_run.specs.Certifying.{IsCertLeft, IsSettledWith}
 
@@ -41,17 +41,17 @@ without_problem asked input cert switches s one other end =
 
 -- an answer about a problem is what was asked for, behind a read that left the store as it was
 pub question_carried : (asked : Question) (input : List ℕ) (cert : Option (List ℕ)) (switches : Switches) (p : Problem) (r : Result Status StoreFault) (one mid other : StoreState) (old new : SinkState) → mid ≡ one
-    → ComesOf one.held input (problem_in switches) (Ok p) → IsCarriedOut (IsSettled p asked cert) r (option_to_list cert) mid other old new
+    → ComesOf one.held input (problem_in switches) (Ok p) → IsCarriedOut (IsAnswerPut p asked cert) r (option_to_list cert) mid other old new
     → IsCarriedOut (IsClaimsAnswer asked input cert switches) r (option_to_list cert) one other old new
 question_carried asked input cert switches p r one mid other old new same comes carried =
     let text = says_problem one.held input switches p comes in
-    carried_as (IsSettled p asked cert) (IsClaimsAnswer asked input cert switches) r (option_to_list cert) one other old new
+    carried_as (IsAnswerPut p asked cert) (IsClaimsAnswer asked input cert switches) r (option_to_list cert) one other old new
     (λ s put files settled. record {
       bytes = text.bytes;
       told = text.told_are;
       answer = subst (λ x. IsAnswerBy x asked cert one.held s put files) (sym text.is) settled;
     })
-    (subst (λ (state : StoreState). IsCarriedOut (IsSettled p asked cert) r (option_to_list cert) state other old new) same carried)
+    (subst (λ (state : StoreState). IsCarriedOut (IsAnswerPut p asked cert) r (option_to_list cert) state other old new) same carried)
 
 -- a run that has an answer ends well
 answered : (a : Answer) → ending_of (answer_status a) ≡ Answered
@@ -62,7 +62,7 @@ answered (Conflict kept) = refl
 
 -- the certificate that is left under a name, told where the name told its bytes
 pub cert_file : (p : Problem) (IsMade : List Claim → Type 0) (cert : Option (List ℕ)) (held held' : Contents) → IsCertLeft p IsMade cert held held' → AreKeptBut (option_to_list cert) held held'
-    → (bytes : Option (List ℕ)) × IfSome cert (λ name. IfSome (held name) (λ _. IfSome bytes (IsCertOf p IsMade))) × AreWritten (file_under cert bytes) held held'
+    → (bytes : Option (List ℕ)) × IfSome cert (λ name. IfSome (held name) (λ _. IfSome bytes (IsClaimsCert p IsMade))) × AreWritten (file_under cert bytes) held held'
 cert_file p IsMade None held held' left kept = (None, tt, record { each = All-nil (IsHeld held held'); others = kept })
 cert_file p IsMade (Some name) held held' left kept = (
   held' name,
@@ -73,17 +73,17 @@ cert_file p IsMade (Some name) held held' left kept = (
   },
 )
   where
-    certified : (before : Option (List ℕ)) → IfSome before (λ _. (bytes : List ℕ) × (held' name ≡ Some bytes) × IsCertOf p IsMade bytes) → IfSome before (λ _. IfSome (held' name) (IsCertOf p IsMade))
+    certified : (before : Option (List ℕ)) → IfSome before (λ _. (bytes : List ℕ) × (held' name ≡ Some bytes) × IsClaimsCert p IsMade bytes) → IfSome before (λ _. IfSome (held' name) (IsClaimsCert p IsMade))
     certified None left = tt
-    certified (Some before) left = subst (λ told. IfSome told (IsCertOf p IsMade)) (sym left.1) left.2
+    certified (Some before) left = subst (λ told. IfSome told (IsClaimsCert p IsMade)) (sym left.1) left.2
 
-    there : (before : Option (List ℕ)) → IfSome before (λ _. (bytes : List ℕ) × (held' name ≡ Some bytes) × IsCertOf p IsMade bytes) → IfSome before (λ _. IsTrue (is_some (held' name)))
+    there : (before : Option (List ℕ)) → IfSome before (λ _. (bytes : List ℕ) × (held' name ≡ Some bytes) × IsClaimsCert p IsMade bytes) → IfSome before (λ _. IsTrue (is_some (held' name)))
     there None left = tt
     there (Some before) left = ap is_some left.1
 
 -- an answer is right, its certificate is written, and it is put
 pub settled_done : (p : Problem) (asked : Question) (cert : Option (List ℕ)) (a : Answer) (s : Status) (one other : StoreState) (old new : SinkState) → IsSettledWith p asked cert (Ok a) one other
-    → s ≡ answer_status a → new.bytes ≡ added old.bytes (answer_text p a) → new.faults ≡ old.faults → IsCarriedOut (IsSettled p asked cert) (Ok s) (option_to_list cert) one other old new
+    → s ≡ answer_status a → new.bytes ≡ added old.bytes (answer_text p a) → new.faults ≡ old.faults → IsCarriedOut (IsAnswerPut p asked cert) (Ok s) (option_to_list cert) one other old new
 settled_done p asked cert a s one other old new settled ended put same =
     let file = cert_file p (IsClaimed p a) cert one.held other.held settled.left settled.kept in
     record {
@@ -101,7 +101,7 @@ settled_done p asked cert a s one other old new settled ended put same =
 
 -- nothing is put where there is no answer
 nothing_by : (T : Type 0) (p : Problem) (asked : Question) (cert : Option (List ℕ)) (e : StoreFault) (one other : StoreState) (old : SinkState) → IsSettledWith p asked cert (Err e) one other
-    → IsCarriedOut (IsSettled p asked cert) (Err e) (option_to_list cert) one other old old
+    → IsCarriedOut (IsAnswerPut p asked cert) (Err e) (option_to_list cert) one other old old
 nothing_by T p asked cert Failed one other old settled = record {
   done = tt;
   refused = record { text = []; of_answer = inr refl; part = GrownInPart-kept old.bytes old.bytes [] refl };
@@ -114,14 +114,14 @@ nothing_by T p asked cert NoMemory one other old settled = record {
 }
 
 pub nothing_settled : (p : Problem) (asked : Question) (cert : Option (List ℕ)) (e : StoreFault) (r : Result Status StoreFault) (one other : StoreState) (old : SinkState) → IsErrAnd r (λ f. f ≡ e)
-    → IsSettledWith p asked cert (Err e) one other → IsCarriedOut (IsSettled p asked cert) r (option_to_list cert) one other old old
+    → IsSettledWith p asked cert (Err e) one other → IsCarriedOut (IsAnswerPut p asked cert) r (option_to_list cert) one other old old
 nothing_settled p asked cert e (Ok s) one other old is settled = absurd is
 nothing_settled p asked cert e (Err f) one other old is settled =
-    subst (λ f. IsCarriedOut (IsSettled p asked cert) (Err f) (option_to_list cert) one other old old) (sym is) (nothing_by Status p asked cert e one other old settled)
+    subst (λ f. IsCarriedOut (IsAnswerPut p asked cert) (Err f) (option_to_list cert) one other old old) (sym is) (nothing_by Status p asked cert e one other old settled)
 
 -- a first part of a right answer is put
 part_by : (p : Problem) (asked : Question) (cert : Option (List ℕ)) (a : Answer) (e : StoreFault) (one other : StoreState) (old new : SinkState) → IsSettledWith p asked cert (Ok a) one other
-    → LeavesPiece {T = ⊤} (Err e) (answer_text p a) old new → IsCarriedOut (IsSettled p asked cert) (Err e) (option_to_list cert) one other old new
+    → LeavesPiece {T = ⊤} (Err e) (answer_text p a) old new → IsCarriedOut (IsAnswerPut p asked cert) (Err e) (option_to_list cert) one other old new
 part_by p asked cert a Failed one other old new settled put =
     let file = cert_file p (IsClaimed p a) cert one.held other.held settled.left settled.kept in
     record {
@@ -155,7 +155,7 @@ part_by p asked cert a NoMemory one other old new settled put =
 
 pub part_settled : (p : Problem) (asked : Question) (cert : Option (List ℕ)) (a : Answer) (e : StoreFault) (r : Result Status StoreFault) (one other : StoreState) (old new : SinkState) → IsErrAnd r (λ f. f ≡ e)
     → IsSettledWith p asked cert (Ok a) one other → LeavesPiece {T = ⊤} (Err e) (answer_text p a) old new
-    → IsCarriedOut (IsSettled p asked cert) r (option_to_list cert) one other old new
+    → IsCarriedOut (IsAnswerPut p asked cert) r (option_to_list cert) one other old new
 part_settled p asked cert a e (Ok s) one other old new is settled put = absurd is
 part_settled p asked cert a e (Err f) one other old new is settled put =
-    subst (λ f. IsCarriedOut (IsSettled p asked cert) (Err f) (option_to_list cert) one other old new) (sym is) (part_by p asked cert a e one other old new settled put)
+    subst (λ f. IsCarriedOut (IsAnswerPut p asked cert) (Err f) (option_to_list cert) one other old new) (sym is) (part_by p asked cert a e one other old new settled put)

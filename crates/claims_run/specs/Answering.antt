@@ -89,22 +89,22 @@ pub record ArePrunedClaims (p : Problem) (claims : List Claim) (bytes : List ℕ
   pub alive : AllClaimBranchesAlive p (Going 1 (claim_start p)) lines
 
 -- bytes are a certificate of claims of which a fact is so: up to as many as are checked
-abbrev pub IsCertOf : Problem → (List Claim → Type 0) → List ℕ → Type 0
-IsCertOf p IsMade bytes = (claims : List Claim) × IsMade claims × (length bytes ≤ 2 ^ 36 → ArePrunedClaims p claims bytes)
+abbrev pub IsClaimsCert : Problem → (List Claim → Type 0) → List ℕ → Type 0
+IsClaimsCert p IsMade bytes = (claims : List Claim) × IsMade claims × (length bytes ≤ 2 ^ 36 → ArePrunedClaims p claims bytes)
 
 -- a right answer is put, and its certificate is what is written, under a name that told its bytes
-pub record IsSettled (p : Problem) (asked : Question) (cert : Option (List ℕ)) (held : Contents) (status : Status) (text : List ℕ) (files : List File) : Type 0 where
+pub record IsAnswerPut (p : Problem) (asked : Question) (cert : Option (List ℕ)) (held : Contents) (status : Status) (text : List ℕ) (files : List File) : Type 0 where
   pub answer : Answer
   pub right : IsRight p asked answer
   pub put : text ≡ answer_text p answer
   pub ended : status ≡ answer_status answer
   pub bytes : Option (List ℕ)
-  pub certified : IfSome cert (λ name. IfSome (held name) (λ _. IfSome bytes (IsCertOf p (IsClaimed p answer))))
+  pub certified : IfSome cert (λ name. IfSome (held name) (λ _. IfSome bytes (IsClaimsCert p (IsClaimed p answer))))
   pub written : files ≡ file_under cert bytes
 
 -- what comes of a problem's text
 abbrev pub IsAnswerBy : Result Problem (ℕ × TextKind) → Question → Option (List ℕ) → Contents → Status → List ℕ → List File → Type 0
-IsAnswerBy (Ok p) asked cert held status text files = IsSettled p asked cert held status text files
+IsAnswerBy (Ok p) asked cert held status text files = IsAnswerPut p asked cert held status text files
 IsAnswerBy (Err fault) asked cert held ended text files =
     (ended ≡ status.RefusedText fault.0 fault.1) × (text ≡ end_line (status.RefusedText fault.0 fault.1)) × (files ≡ [])
 

@@ -1,8 +1,8 @@
 //! An answer with its certificate.
-ghost use Rattle.std.specs.Prelude.{◌≡◌, Some, IfOk};
+ghost use Rattle.std.specs.Prelude.{Some, IfOk};
 ghost use Rattle.constraint_set.specs.Facts.{IsAsRead};
 ghost use Rattle.claims_run.specs.Answering.{IsRight};
-ghost use Rattle.claims_run.specs.Certifying.{IsSettledWith, store_fault};
+ghost use Rattle.claims_run.specs.Certifying.{IsSettledWith};
 
 use crate::answering::tell;
 use crate::question::{Answer, Question};
@@ -10,18 +10,8 @@ use cert_text::{NoLog, StoreLog};
 use command_line::Word;
 use constraint_set::Problem;
 use outer_store::{Store, StoreFault};
-use search_log::StepFault;
+use search_log::store_fault;
 use std::alloc::{AllocError, Global};
-
-// A fault of a step as one of the store.
-fn store_fault(fault: StepFault) -> StoreFault
-    ensures { result ≡ store_fault fault }
-{
-    match fault {
-        StepFault::LogFailed => StoreFault::Failed,
-        StepFault::NoMemory => StoreFault::NoMemory,
-    }
-}
 
 // Answers, and the certificate is what the name then holds.
 fn settle_certified<S: Store>(

@@ -3,7 +3,7 @@ ghost use Rattle.std.specs.Prelude.{◌≡◌};
 ghost use Rattle.constraint_set.specs.Facts.{IsAsRead};
 ghost use Rattle.std.specs.Option.{option_to_list};
 ghost use Rattle.run_ends.specs.Runs.{IsCarriedOut, IsRunOf};
-ghost use Rattle.claims_run.specs.Answering.{answer_status, IsSettled, IsClaimsAnswer, claims_names};
+ghost use Rattle.claims_run.specs.Answering.{answer_status, IsAnswerPut, IsClaimsAnswer, claims_names};
 
 use crate::certified::settled;
 use crate::putting::put_answer;
@@ -36,7 +36,7 @@ fn carry_out<S: Store, W: Sink>(
     cert: &Option<Word>,
 ) -> Result<Status, StoreFault>
     requires { IsAsRead problem.now }
-    ensures { IsCarriedOut (IsSettled problem.now asked cert.now) result (option_to_list cert.now) (S.state store.old) (S.state store.new) (W.state out.old) (W.state out.new) }
+    ensures { IsCarriedOut (IsAnswerPut problem.now asked cert.now) result (option_to_list cert.now) (S.state store.old) (S.state store.new) (W.state out.old) (W.state out.new) }
 {
     let answer = settled(alloc, store, problem, asked, cert)?;
     put_answer(alloc, out, problem, &answer)?;

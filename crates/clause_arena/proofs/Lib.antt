@@ -1,3 +1,3 @@
 pub mod Ranges
 pub mod Pairs
-pub mod Packing
+pub mod PackInvariant

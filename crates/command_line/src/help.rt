@@ -70,7 +70,25 @@ fn put_commands(out: &mut String, commands: &[Command]) -> Result<(), AllocError
     Ok(())
 }
 
-/// The commands with their keys, a line each, by the table that `read_words` goes by.
+/// A key with the form of its value, as KEY=FORM.
+pub fn key_help(alloc: Global, key: Key) -> Result<String, AllocError>
+    ensures { IfOk result (λ help. string_bytes help ≡ key_form key) }
+{
+    let mut help = String::new(alloc);
+    put_key(&mut help, key)?;
+    Ok(help)
+}
+
+/// The line of a command with its keys, by the table that `read_words` goes by.
+pub fn command_help(alloc: Global, command: Command) -> Result<String, AllocError>
+    ensures { IfOk result (λ help. string_bytes help ≡ command_form command) }
+{
+    let mut help = String::new(alloc);
+    put_command(&mut help, command)?;
+    Ok(help)
+}
+
+/// The commands with their keys, a line each.
 pub fn usage_help(alloc: Global) -> Result<String, AllocError>
     ensures { IfOk result (λ help. string_bytes help ≡ usage_help) }
 {

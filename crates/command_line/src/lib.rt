@@ -11,7 +11,7 @@ mod requests;
 mod table;
 mod words;
 
-pub use help::{fault_place, usage_help};
+pub use help::{command_help, fault_place, key_help, usage_help};
 pub use kinds::KnownNames;
 use std::alloc::{AllocError, AllocFailed};
 use std::fmt;
@@ -177,8 +177,7 @@ impl UsageKind {
             UsageKind::UnknownKey => "the command has no such key",
             UsageKind::KeyTwice => "a key is given twice",
             UsageKind::BadSwitch => "a switch is neither on nor off",
-            UsageKind::BadNumber =>
-                "a number is none, or has more than 64 bits, or a size is not even or not from 14 to 256",
+            UsageKind::BadNumber => "a number is none, or is not one that may stand there",
             UsageKind::ZeroBudget => "a limit is 0",
             UsageKind::EmptyName => "a file name is empty",
             UsageKind::UnknownKind => "there is no report of this kind",

@@ -11,8 +11,8 @@ use proof_text::read_number;
 use std::alloc::{AllocError, Global};
 
 impl Command {
-    // The command of a word.
-    fn named(word: &str) -> Option<Command>
+    /// The command of a word.
+    pub fn named(word: &str) -> Option<Command>
         ensures { result ≡ command_named word.now }
     {
         Command::all()

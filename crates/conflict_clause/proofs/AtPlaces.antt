@@ -12,7 +12,7 @@ use Rattle.watch_arena.specs.declared.places.Place.{Place}
 use Rattle.watch_arena.specs.Places.{place_at, no_place, place_of, is_false, is_false_clause, is_assumed, level_of}
 use Rattle.watch_arena.specs.Trails.{TrailState, IsTrail}
 use Rattle.watch_arena.proofs.ByIndex.{cases_bool, and_from, list_any_at, list_any_index, list_all_at, position_is}
-use Rattle.watch_arena.proofs.Watching.{index_of}
+use Rattle.watch_arena.proofs.WatchedPair.{index_of}
 use Rattle.conflict_clause.specs.Taught.{level_in, is_decided}
 
 -- a literal that is false is so by the place of its negation

@@ -1,5 +1,5 @@
 pub mod AtPlaces
-pub mod Looking
-pub mod Hinted
-pub mod Searching
-pub mod Endings
+pub mod SeenLits
+pub mod UnitHint
+pub mod SearchInvariant
+pub mod SearchEnds

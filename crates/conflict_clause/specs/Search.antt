@@ -13,7 +13,7 @@ abbrev pub is_seen : Analysis → ℕ → Bool
 is_seen n variable = slice_index_or n.marks variable false
 
 -- each variable that was seen is listed
-pub record IsNoted (n : Analysis) (variables : ℕ) : Type 0 where
+pub record IsSeenList (n : Analysis) (variables : ℕ) : Type 0 where
   pub size : length n.marks ≡ variables
   pub listed : (variable : ℕ) → is_seen n variable ≡ true → Contains n.seen.items variable
   pub in_range : All (λ variable. variable < variables) n.seen.items
@@ -26,7 +26,7 @@ pub record IsClear (n : Analysis) (variables : ℕ) : Type 0 where
 
 -- of the places whose variables were seen, all are from the lowest place on but those whose negations are kept; the level of the lowest is at least this
 pub record IsLooking (t : TrailState) (level : ℕ) (n : Analysis) : Type 0 where
-  pub noted : IsNoted n t.variables
+  pub seen_list : IsSeenList n t.variables
   pub left : (q : ℕ) → q < length t.places → is_seen n (variable_of (place_at t.places q).lit) ≡ true → Contains n.lits.items (negation_of (place_at t.places q).lit) ⊎ (n.lowest ≤ q)
   pub at_level : n.lowest < length t.places → level ≤ (place_at t.places n.lowest).level
 

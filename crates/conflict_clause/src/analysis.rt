@@ -27,7 +27,7 @@ pub(crate) struct Analysis {
 }
 
 impl Analysis {
-    ghost use Rattle.conflict_clause.specs.Search.{IsNoted, IsClear, IsLooking, IsLower, Sees, IsSearch, Finds, IsArranged, is_seen};
+    ghost use Rattle.conflict_clause.specs.Search.{IsSeenList, IsClear, IsLooking, IsLower, Sees, IsSearch, Finds, IsArranged, is_seen};
 
     pub(crate) fn new(alloc: Global, variables: u32) -> Result<Analysis, AllocError>
         ensures { IfOk result (λ n. IsClear n variables) }
@@ -43,7 +43,7 @@ impl Analysis {
 
     // Marks no variable as seen. The list stays.
     pub(crate) fn clear(&mut self)
-        requires { IsNoted self.old (length self.old.marks) }
+        requires { IsSeenList self.old (length self.old.marks) }
         ensures { IsClear self.new (length self.old.marks) }
     {
         unmark(&mut self.marks, &self.seen);
@@ -66,9 +66,9 @@ impl Analysis {
 
     // Marks a variable as seen.
     fn enter(&mut self, variable: u32) -> Result<(), AllocError>
-        requires noted { IsNoted self.old (length self.old.marks) }
+        requires seen_list { IsSeenList self.old (length self.old.marks) }
         requires range { variable < length self.old.marks }
-        ensures noted { IsNoted self.new (length self.old.marks) }
+        ensures seen_list { IsSeenList self.new (length self.old.marks) }
         ensures marks { OnOk result (self.new.marks ≡ slice_set self.old.marks variable true) }
         ensures seen { OnOk result (self.new.seen.items ≡ self.old.seen.items ++ variable ∷ []) }
         ensures lits { self.new.lits.items ≡ self.old.lits.items }
@@ -85,7 +85,7 @@ impl Analysis {
         requires looking { IsLooking trail.now level self.old }
         requires range { variable_of lit < trail.now.variables }
         requires off { (is_seen self.old (variable_of lit) ≡ true) ⊎ IsTrue (is_false trail.now.places lit) }
-        ensures noted { IsNoted self.new trail.now.variables }
+        ensures seen_list { IsSeenList self.new trail.now.variables }
         ensures looking { OnOk result (IsLooking trail.now level self.new) }
         ensures sees { OnOk result (Sees trail.now level self.old self.new) }
         ensures seen { OnOk result (is_seen self.new (variable_of lit) ≡ true) }
@@ -111,7 +111,7 @@ impl Analysis {
         requires looking { IsLooking trail.now level self.old }
         requires live { (record_at trail.now.records at).live ≡ true }
         requires off { (lit : ℕ) → Contains (record_at trail.now.records at).lits lit → (is_seen self.old (variable_of lit) ≡ true) ⊎ IsTrue (is_false trail.now.places lit) }
-        ensures noted { IsNoted self.new trail.now.variables }
+        ensures seen_list { IsSeenList self.new trail.now.variables }
         ensures looking { OnOk result (IsLooking trail.now level self.new) }
         ensures sees { OnOk result (Sees trail.now level self.old self.new) }
         ensures seen { OnOk result ((lit : ℕ) → Contains (record_at trail.now.records at).lits lit → is_seen self.new (variable_of lit) ≡ true) }
@@ -130,7 +130,7 @@ impl Analysis {
         requires looking { IsLooking trail.now level self.old }
         requires live { (record_at trail.now.records at).live ≡ true }
         requires off { (lit : ℕ) → Contains (record_at trail.now.records at).lits lit → (is_seen self.old (variable_of lit) ≡ true) ⊎ IsTrue (is_false trail.now.places lit) }
-        ensures noted { IsNoted self.new trail.now.variables }
+        ensures seen_list { IsSeenList self.new trail.now.variables }
         ensures looking { OnOk result (IsLooking trail.now level self.new) }
         ensures sees { OnOk result (Sees trail.now level self.old self.new) }
         ensures seen { OnOk result ((lit : ℕ) → Contains (record_at trail.now.records at).lits lit → is_seen self.new (variable_of lit) ≡ true) }
@@ -156,7 +156,7 @@ impl Analysis {
     // Looks at a place. Where its variable was seen, its reason is used; where it has none, the negation of its literal is kept.
     fn look(&mut self, trail: &Trail, place: usize, level: u32) -> Result<(), AllocError>
         requires { IsSearch trail.now level (place + 1) self.old }
-        ensures noted { IsNoted self.new trail.now.variables }
+        ensures seen_list { IsSeenList self.new trail.now.variables }
         ensures search { OnOk result (IsSearch trail.now level place self.new) }
         ensures finds { OnOk result (Finds trail.now level place self.old self.new) }
     {
@@ -178,10 +178,16 @@ impl Analysis {
     }
 
     // Looks at the places below one, from the top down, until so many from the lowest one on are left.
-    fn walk(&mut self, trail: &Trail, top: usize, left: usize, level: u32) -> Result<(), AllocError>
+    fn descend(
+        &mut self,
+        trail: &Trail,
+        top: usize,
+        left: usize,
+        level: u32,
+    ) -> Result<(), AllocError>
         requires search { IsSearch trail.now level top self.old }
         requires left { self.old.lowest + left ≤ top }
-        ensures noted { IsNoted self.new trail.now.variables }
+        ensures seen_list { IsSeenList self.new trail.now.variables }
         ensures search { OnOk result (IsSearch trail.now level (self.new.lowest + left) self.new) }
         ensures finds { OnOk result (Finds trail.now level (self.new.lowest + left) self.old self.new) }
     {
@@ -197,7 +203,7 @@ impl Analysis {
     fn start(&mut self, trail: &Trail, at: Ref, level: u32) -> Result<(), AllocError>
         requires clear { IsClear self.old trail.now.variables }
         requires conflict { IsConflict trail.now at }
-        ensures noted { IsNoted self.new trail.now.variables }
+        ensures seen_list { IsSeenList self.new trail.now.variables }
         ensures search { OnOk result (IsSearch trail.now level (length trail.now.places) self.new) }
         ensures lower { OnOk result ((lit : ℕ) → Contains self.new.lits.items lit → IsLower trail.now level lit) }
         ensures lowest { OnOk result (self.new.lowest ≤ length trail.now.places) }
@@ -214,7 +220,7 @@ impl Analysis {
         requires clear { IsClear self.old trail.now.variables }
         requires within { place < length trail.now.places }
         requires reason { (place_at trail.now.places place).reason ≡ Some at }
-        ensures noted { IsNoted self.new trail.now.variables }
+        ensures seen_list { IsSeenList self.new trail.now.variables }
         ensures search { OnOk result (IsSearch trail.now 0 place self.new) }
         ensures only { OnOk result ((lit : ℕ) → Contains self.new.lits.items lit → lit ≡ (place_at trail.now.places place).lit) }
         ensures lowest { OnOk result (self.new.lowest ≤ place) }
@@ -247,17 +253,17 @@ impl Analysis {
     ) -> Result<Closing, AllocError>
         requires clear { IsClear self.old trail.now.variables }
         requires conflict { IsConflict trail.now at }
-        ensures noted { IsNoted self.new trail.now.variables }
+        ensures seen_list { IsSeenList self.new trail.now.variables }
         ensures closing { IfOk result (λ closing. IsClosing trail.now None closing.lits closing.hints) }
     {
         trail.facts();
         self.start(trail, at, 0)?;
-        self.walk(trail, trail.place_count(), 0, 0)?;
+        self.descend(trail, trail.place_count(), 0, 0)?;
         let closing = self.closing(alloc)?;
         Ok(closing)
     }
 
-    // The same for the reason of the negation of a false literal; that negation stays in the clause.
+    // The clause of the assumed literals that a false literal rests on, by the reason of its negation; that negation stays in the clause.
     pub(crate) fn analyze_final_lit(
         &mut self,
         alloc: Global,
@@ -267,7 +273,7 @@ impl Analysis {
         requires clear { IsClear self.old trail.now.variables }
         requires false_there { IsTrue (is_false trail.now.places lit) }
         requires implied { reason_of trail.now.places (variable_of lit) ≢ None }
-        ensures noted { IsNoted self.new trail.now.variables }
+        ensures seen_list { IsSeenList self.new trail.now.variables }
         ensures closing { IfOk result (λ closing. IsClosing trail.now (Some (negation_of lit)) closing.lits closing.hints) }
     {
         trail.facts();
@@ -276,7 +282,7 @@ impl Analysis {
             unreachable!()
         };
         self.start_below(trail, place, at)?;
-        self.walk(trail, place, 0, 0)?;
+        self.descend(trail, place, 0, 0)?;
         let closing = self.closing(alloc)?;
         Ok(closing)
     }
@@ -307,14 +313,14 @@ impl Analysis {
         requires conflict { IsConflict trail.now at }
         requires at_the_level { (lit : ℕ) × Contains (record_at trail.now.records at).lits lit × (level_in trail.now.places lit ≡ trail.now.level) }
         requires level { 0 < trail.now.level }
-        ensures noted { IsNoted self.new trail.now.variables }
+        ensures seen_list { IsSeenList self.new trail.now.variables }
         ensures learnt { IfOk result (λ learnt. IsLearnt trail.now learnt.lits learnt.hints learnt.back) }
         ensures second { IfOk result (λ learnt. MatchOption (slice_get learnt.lits 1) (learnt.back ≡ 0) (λ lit. level_in trail.now.places lit ≡ learnt.back)) }
     {
         trail.facts();
         let level = trail.level();
         self.start(trail, at, level)?;
-        self.walk(trail, trail.place_count(), 1, level)?;
+        self.descend(trail, trail.place_count(), 1, level)?;
         let back = self.arrange(trail)?;
         let Closing { lits, hints } = self.closing(alloc)?;
         Ok(Learnt { lits, hints, back })

@@ -12,8 +12,8 @@ use Rattle.claim_blocks.specs.Blocks.{claimed}
 use Rattle.conflict_min.specs.declared.conflict.Conflict.{Conflict}
 use Rattle.conflict_min.specs.declared.conflict.ConflictFault.{ConflictFault}
 use Rattle.conflict_min.specs.declared.conflict.ConflictFault.TheVariants.{Consistent, LogFailed, NoMemory}
-use Rattle.conflict_min.specs.declared.conflict.Found.{Found}
-use Rattle.conflict_min.specs.declared.conflict.Found.TheVariants as found
+use Rattle.conflict_min.specs.declared.conflict.Outcome.{Outcome}
+use Rattle.conflict_min.specs.declared.conflict.Outcome.TheVariants as found
 
 -- each articulation is kept
 abbrev pub all_kept : Problem → List Bool
@@ -36,7 +36,7 @@ abbrev pub IsLeast : Problem → Conflict → Type 0
 IsLeast p conflict = IsLeastConflict p conflict.kept.items × AreLosses p conflict.kept.items conflict.families.items
 
 -- a family that meets the problem with all its articulations; or the least conflict
-abbrev pub IsFound : Problem → Found → Type 0
+abbrev pub IsFound : Problem → Outcome → Type 0
 IsFound p (found.Consistent f) = IsMetBy (restricted p (all_kept p)) f
 IsFound p (found.Least conflict) = IsLeast p conflict
 
@@ -49,12 +49,12 @@ abbrev pub conflict_claims : List Bool → List Claim
 conflict_claims kept = claimed (Kept kept) false ++ loss_claims kept
 
 -- what is claimed of the answer: that all articulations hold together, or the conflict, with more besides
-abbrev pub IsClaimedOf : Problem → Found → List Claim → Type 0
+abbrev pub IsClaimedOf : Problem → Outcome → List Claim → Type 0
 IsClaimedOf p (found.Consistent f) more = more ≡ claimed (Kept (all_kept p)) true
 IsClaimedOf p (found.Least conflict) more = All (Contains more) (conflict_claims conflict.kept.items)
 
 -- an answer as that of a step
-abbrev pub as_step : Result Conflict ConflictFault → Result Found StepFault
+abbrev pub as_step : Result Conflict ConflictFault → Result Outcome StepFault
 as_step (Ok conflict) = Ok (found.Least conflict)
 as_step (Err (Consistent f)) = Ok (found.Consistent f)
 as_step (Err LogFailed) = Err step.LogFailed

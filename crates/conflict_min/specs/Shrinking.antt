@@ -16,7 +16,7 @@ cut (b ∷ kept) zero (suc count) = false ∷ cut kept zero count
 cut (b ∷ kept) zero zero = b ∷ kept
 
 -- so many articulations from a place on were dropped together, and no family meets what is kept
-pub record IsCut (p : Problem) (place : ℕ) (old new : List Bool) (count : ℕ) : Type 0 where
+pub record IsCutOut (p : Problem) (place : ℕ) (old new : List Bool) (count : ℕ) : Type 0 where
   pub without : new ≡ cut old place count
   pub inconsistent : IsConsistent p new → ⊥
 

@@ -34,7 +34,7 @@ pub enum ConflictFault {
 
 /// What is found of all articulations.
 #[derive(Drop)]
-pub(crate) enum Found {
+pub(crate) enum Outcome {
     /// They hold together.
     Consistent(Family),
     /// They don't.
@@ -60,8 +60,8 @@ pub fn least_conflict<L: TreeLog>(
     ensures log { LogGoes L.drops L.lines L.faults L.steady L.quiet (as_step result) log.old log.new }
 {
     match find(alloc, problem, asker, log) {
-        Ok(Found::Least(conflict)) => Ok(conflict),
-        Ok(Found::Consistent(family)) => Err(ConflictFault::Consistent(family)),
+        Ok(Outcome::Least(conflict)) => Ok(conflict),
+        Ok(Outcome::Consistent(family)) => Err(ConflictFault::Consistent(family)),
         Err(StepFault::LogFailed) => Err(ConflictFault::LogFailed),
         Err(StepFault::NoMemory) => Err(ConflictFault::NoMemory),
     }

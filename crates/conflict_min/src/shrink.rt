@@ -11,7 +11,7 @@ ghost use Rattle.claim_blocks.specs.Blocks.{claimed, KeepsClaims};
 ghost use Rattle.conflict_min.specs.Conflicts.{all_kept, places_from, loss_claims, IsLeast, IsFound, IsClaimedOf};
 ghost use Rattle.conflict_min.specs.Shrinking.{IsShrunk, IsDropped};
 
-use crate::conflict::{Conflict, Found};
+use crate::conflict::{Conflict, Outcome};
 use crate::tries::{drop_some, settle_kept, try_without};
 use cert_text::{Flags, Subject, TreeLog};
 use claim_blocks::show;
@@ -226,7 +226,7 @@ pub(crate) fn find<L: TreeLog>(
     problem: &Problem,
     asker: &mut Asker,
     log: &mut L,
-) -> Result<Found, StepFault>
+) -> Result<Outcome, StepFault>
     requires shape { asker.old.shape ≡ shape_of problem.now }
     ensures shape { asker.new.shape ≡ asker.old.shape }
     ensures answer { IfOk result (IsFound problem.now) }
@@ -236,11 +236,11 @@ pub(crate) fn find<L: TreeLog>(
 {
     let all = all_flags(alloc, problem)?;
     match settle_kept(alloc, problem, &all, asker, log)? {
-        Choice::Met(family) => Ok(Found::Consistent(family)),
+        Choice::Met(family) => Ok(Outcome::Consistent(family)),
         Choice::Refuted => {
             let conflict = shrink(alloc, problem, all, asker, log)?;
             show_losses(alloc, problem, &conflict, asker, log)?;
-            Ok(Found::Least(conflict))
+            Ok(Outcome::Least(conflict))
         }
     }
 }

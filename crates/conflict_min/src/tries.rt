@@ -8,7 +8,7 @@ ghost use Rattle.search_log.specs.Leading.{KeepsLeading};
 ghost use Rattle.search_log.specs.Logging.{LogGoes};
 ghost use Rattle.split_search.specs.Choosing.{IsChoice};
 ghost use Rattle.claim_blocks.specs.Blocks.{settled, KeepsClaims};
-ghost use Rattle.conflict_min.specs.Shrinking.{cut, IsCut, IsShrunk, IsDropped};
+ghost use Rattle.conflict_min.specs.Shrinking.{cut, IsCutOut, IsShrunk, IsDropped};
 
 use cert_text::{Flags, Subject, TreeLog};
 use claim_blocks::settle;
@@ -113,7 +113,7 @@ pub(crate) fn drop_some<L: TreeLog>(
     requires conflict { IsConsistent problem.now kept.old.items → ⊥ }
     ensures shape { asker.new.shape ≡ asker.old.shape }
     ensures upto { IfOk result (λ dropped. dropped ≤ count) }
-    ensures cut { IfOk result (IsCut problem.now place kept.old.items kept.new.items) }
+    ensures cut { IfOk result (IsCutOut problem.now place kept.old.items kept.new.items) }
     ensures keeps { KeepsClaims problem.now result (λ _ more. IsDropped kept.old.items kept.new.items more) (L.lines log.old) (L.lines log.new) asker.old asker.new }
     ensures leads { KeepsLeading (L.lines log.old) (L.lines log.new) asker.old asker.new }
     ensures log { LogGoes L.drops L.lines L.faults L.steady L.quiet result log.old log.new }

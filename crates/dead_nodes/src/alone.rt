@@ -11,15 +11,13 @@ ghost use Rattle.point_encode.specs.Needs.{IsInRange};
 ghost use Rattle.point_query.specs.Asking.{AskerGoes};
 ghost use Rattle.dead_nodes.specs.Why.{Closes};
 
-use crate::closes::is_empty_there;
 use crate::hints::{Guess, Hints, Reason};
 use crate::near::{Region, shown_near};
 use constraint_set::Problem;
 use lits_core::Lit;
-use point_encode::{Need, is_forced, need_number};
+use point_encode::{Need, forced_at, is_empty, is_forced, need_number};
 use point_query::{Asker, Found};
 use rcc5_core::Position;
-use search_log::derived;
 use std::alloc::{AllocError, Global};
 
 /// A concept of a pair with its two parts: which one the last relation empties, and which one is left.
@@ -51,14 +49,14 @@ fn bare_by(
         pair: region.pair,
         part: region.part as u8,
     };
-    let need = need_number(problem, asked);
+    let need = u64::from(need_number(problem, asked));
     if let Some(clause) = hints.clause_of(problem, asker, node, asked, need) {
         return Ok(Some(clause));
     }
     hints.learn(problem)?;
     let mut shown = None;
     if let Some(draft) = shown_near(problem, node, &hints.given, region) {
-        shown = derived(problem, asker, &draft.lits, &draft.hints)?;
+        shown = asker.derive(&draft.lits, &draft.hints)?;
     }
     if shown.is_none() {
         shown = asked_above(problem, asker, node, asked, hints.alloc)?;
@@ -132,7 +130,7 @@ fn emptied_by(
     let selector = Lit::new(problem.concept_count() + 3 * pair + part, true);
     let lits = lits_without(hints.alloc, asker, bare, side.other, selector)?;
     let given = hints.given.of_region(Region { pair, part });
-    derived(problem, asker, &lits, &[given, bare])
+    asker.derive(&lits, &[given, bare])
 }
 
 // The concept of a side as a need without a point, where a node's last relation empties one part of it and nothing is in the other.
@@ -155,7 +153,7 @@ fn emptied(
 {
     let need = Need::Concept(side.concept);
     if !is_forced(problem, node, need)
-        || !is_empty_there(problem, node, side.pair, u32::from(side.emptied))
+        || !is_empty(forced_at(problem, node, side.pair), u32::from(side.emptied))
     {
         return Ok(None);
     }

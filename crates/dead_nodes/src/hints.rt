@@ -157,7 +157,7 @@ impl Recent {
         for kept in &self.list {
             if let Hint::Lemma(place) = kept.by {
                 if kept.may_close(problem, node, lemmas.lits(place)) {
-                    if let Some(clause) = lemmas.show(problem, asker, place)? {
+                    if let Some(clause) = lemmas.show(asker, place)? {
                         let need = kept.need;
                         return Ok(held(problem, asker, node, Reason { need, clause }));
                     }
@@ -321,7 +321,7 @@ impl Hints {
         let Some(clause) = shown else {
             return Ok(None);
         };
-        let need = need_number(problem, need);
+        let need = u64::from(need_number(problem, need));
         self.keep(asker, node, Reason { need, clause })?;
         Ok(held(problem, asker, node, Reason { need, clause }))
     }

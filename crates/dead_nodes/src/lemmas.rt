@@ -2,13 +2,10 @@
 //!
 //! All of it is a hint: whether clauses show another one is tested by the asker.
 ghost use Rattle.std.specs.Prelude.{◌≡◌, IfOk};
-ghost use Rattle.constraint_set.specs.Shape.{shape_of};
 ghost use Rattle.point_query.specs.Asking.{AskerGoes};
 
-use constraint_set::Problem;
 use lits_core::{Line, Lit};
 use point_query::Asker;
-use search_log::derived;
 use std::alloc::{AllocError, Global};
 
 /// So many clauses are kept. Where one more comes, all are let go.
@@ -148,17 +145,15 @@ impl Lemmas {
     #[tactic(auto, using(search_log::proofs::Logs::asker_stays, search_log::proofs::Logs::asker_joins))]
     pub(crate) fn show(
         &mut self,
-        problem: &Problem,
         asker: &mut Asker,
         place: usize,
     ) -> Result<Option<u64>, AllocError>
-        requires shape { asker.old.shape ≡ shape_of problem.now }
         ensures kept { AskerGoes asker.old asker.new }
     {
         let needed = self.needed(asker, place)?;
         let mut shown = None;
         for one in &needed {
-            shown = self.show_one(problem, asker, *one)?;
+            shown = self.show_one(asker, *one)?;
             if shown.is_none() {
                 return Ok(None);
             }
@@ -166,15 +161,9 @@ impl Lemmas {
         Ok(shown)
     }
 
-    // The same, where those that show it are live.
+    // The id of the clause at a place, which is shown anew where it was forgotten, by those that show it, if they are live.
     #[tactic(auto, using(search_log::proofs::Logs::asker_stays))]
-    fn show_one(
-        &mut self,
-        problem: &Problem,
-        asker: &mut Asker,
-        place: usize,
-    ) -> Result<Option<u64>, AllocError>
-        requires shape { asker.old.shape ≡ shape_of problem.now }
+    fn show_one(&mut self, asker: &mut Asker, place: usize) -> Result<Option<u64>, AllocError>
         ensures kept { AskerGoes asker.old asker.new }
     {
         let Some(lemma) = self.list.get(place) else {
@@ -184,7 +173,7 @@ impl Lemmas {
             return Ok(Some(lemma.id));
         }
         let hints = self.hints_of(lemma)?;
-        let shown = derived(problem, asker, lemma.lits.as_slice(), &hints)?;
+        let shown = asker.derive(lemma.lits.as_slice(), &hints)?;
         if let Some(id) = shown {
             self.name(id, place)?;
         }

@@ -14,7 +14,6 @@ use constraint_set::Problem;
 use point_encode::{Need, is_forced, need_number};
 use point_query::{Asker, Found, Probe};
 use rcc5_core::Position;
-use search_log::derived;
 use std::alloc::{AllocError, Global};
 
 /// The regions of a pair, what the two have in common first: where it is empty, four of the five relations are dead.
@@ -150,7 +149,7 @@ fn shown_at(
     let Some(draft) = shown_near(problem, node, &hints.given, Region { pair, part }) else {
         return Ok(None);
     };
-    let shown = derived(problem, asker, &draft.lits, &draft.hints)?;
+    let shown = asker.derive(&draft.lits, &draft.hints)?;
     hints.keep_held(problem, asker, node, need, shown)
 }
 
@@ -179,7 +178,7 @@ fn asked(
     match probe {
         Probe::EmptyPair(pair) => Ok(WhyDead::NoRelation(pair)),
         Probe::Closed(need, clause) => Ok(WhyDead::NoPoint(Reason {
-            need: need_number(problem, need),
+            need: u64::from(need_number(problem, need)),
             clause,
         })),
         Probe::Alive => unreachable!(),
@@ -248,7 +247,7 @@ fn asked_of(
     match asker.ask(problem, prefix, need)? {
         Found::Point(_) => Ok(None),
         Found::Closed(clause) => {
-            let need = need_number(problem, need);
+            let need = u64::from(need_number(problem, need));
             Ok(held(problem, asker, node, Reason { need, clause }))
         }
     }

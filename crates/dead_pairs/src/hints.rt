@@ -6,7 +6,7 @@ ghost use Rattle.world_model.specs.Problem.{pair_count};
 ghost use Rattle.point_encode.specs.Needs.{IsInRange};
 
 use crate::lone::Lone;
-use bit_rows::{Cells, Rows, have_common, is_inside, meets};
+use bit_rows::{Cells, Rows, Sides, have_common, is_inside, meets};
 use constraint_set::Problem;
 use lits_core::Lit;
 use point_encode::{Need, need_number, needs_of, word_of};
@@ -108,8 +108,9 @@ impl Table {
         if one.len() > self.rows.width() || self.rows.width() == 0 {
             return Ok(());
         }
-        self.rows.push(one, one, left, right, cells)?;
-        self.needs.push(need_number(problem, need))?;
+        let sides = Sides { left, right };
+        self.rows.push(one, one, &sides, cells)?;
+        self.needs.push(u64::from(need_number(problem, need)))?;
         Ok(())
     }
 
@@ -120,9 +121,12 @@ impl Table {
 
     // Whether a region of a pair has a point.
     fn has_point(&self, left: u32, right: u32, part: u32) -> bool {
-        let (left, right) = (self.points(left), self.points(right));
-        let one = if part == 2 { right } else { left };
-        meets(one, one, left, right, cell_of(part))
+        let sides = Sides {
+            left: self.points(left),
+            right: self.points(right),
+        };
+        let one = if part == 2 { sides.right } else { sides.left };
+        meets(one, one, &sides, cell_of(part))
     }
 
     /// Whether a need, by its number, is a region without a point.
@@ -187,7 +191,11 @@ impl Table {
     fn lost_at(&self, place: usize, left: u32, right: u32, kept: Cells) -> Option<Lost> {
         let number = *self.needs.get(place)?;
         let row = row_of(&self.rows, place);
-        if meets(row, row, self.points(left), self.points(right), kept) {
+        let sides = Sides {
+            left: self.points(left),
+            right: self.points(right),
+        };
+        if meets(row, row, &sides, kept) {
             return None;
         }
         Some(Lost {

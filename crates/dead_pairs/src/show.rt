@@ -13,7 +13,6 @@ use lits_core::Lit;
 use point_encode::{Need, need_lits, need_of, word_of};
 use point_query::{Asker, Found};
 use rcc5_core::{Occupancy, Position};
-use search_log::derived;
 use std::alloc::{AllocError, Global};
 
 /// A clause that is to be shown: its literals, and the ids of the clauses that show it.
@@ -176,7 +175,7 @@ fn shown_by(
     draft
         .hints
         .push(hints.first.saturating_add(u64::from(region)))?;
-    derived(problem, asker, &draft.lits, &draft.hints)
+    asker.derive(&draft.lits, &draft.hints)
 }
 
 /// A clause that shows that a need has no point where a pair is narrowed, by one of the regions that are empty then.

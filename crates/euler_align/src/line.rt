@@ -1,4 +1,4 @@
-//! The line of a problem's text that has the fault, shown to people.
+//! The text of a problem, read once more, and its line that has the fault.
 
 use align_top::{TEXT_LIMIT, read_front};
 use outer_store::FileStore;
@@ -20,8 +20,21 @@ pub(crate) fn is_there(rt: &HostRuntime, name: &str) -> bool {
     }
 }
 
-// The line with this number, from 1; empty where there is none.
-fn line_of(text: &str, number: u32) -> &str {
+/// What a file holds, read once more where that can be done; else nothing.
+pub(crate) fn read_again(rt: &HostRuntime, name: &str) -> Vec<u8> {
+    let alloc = rt.alloc();
+    if !is_file(rt, name) {
+        return Vec::new(alloc);
+    }
+    let mut store = FileStore::new(alloc, rt);
+    match read_front(alloc, &mut store, name, TEXT_LIMIT) {
+        Ok(bytes) => bytes,
+        Err(_) => Vec::new(alloc),
+    }
+}
+
+/// The line with this number, from 1; empty where there is none.
+pub(crate) fn line_of(text: &str, number: u32) -> &str {
     let mut count: u32 = 0;
     for line in text.lines() {
         count = count.saturating_add(1);
@@ -32,31 +45,18 @@ fn line_of(text: &str, number: u32) -> &str {
     ""
 }
 
-// Whether a line may be shown: there is something in it, it isn't long, and no terminal would take a part of it for a command.
-fn is_plain(line: &str) -> bool {
-    for c in line.chars() {
+/// Whether a text may be shown: there is something in it, it isn't long, and no terminal would take a part of it for a command.
+pub(crate) fn is_plain(text: &str) -> bool {
+    for c in text.chars() {
         if c != '\t' && c.is_control() {
             return false;
         }
     }
-    !line.is_empty() && line.len() <= 200
+    !text.is_empty() && text.len() <= 200
 }
 
-/// Shows a line of a file, read once more, where that can be done.
-pub(crate) fn show_line(rt: &HostRuntime, name: &str, number: u32) -> io::Result<()> {
-    if number == 0 || !is_file(rt, name) {
-        return Ok(());
-    }
-    let alloc = rt.alloc();
-    let mut store = FileStore::new(alloc, rt);
-    let bytes = match read_front(alloc, &mut store, name, TEXT_LIMIT) {
-        Ok(bytes) => bytes,
-        Err(_) => return Ok(()),
-    };
-    let line = match std::str::from_utf8(&bytes) {
-        Ok(text) => line_of(text, number),
-        Err(_) => "",
-    };
+/// Shows a line, if it may be shown.
+pub(crate) fn show_line(rt: &impl Eprint, line: &str) -> io::Result<()> {
     if is_plain(line) {
         eprintln!(rt; "  {line}")?;
     }

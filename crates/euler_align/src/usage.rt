@@ -1,7 +1,11 @@
-//! Which of the words is wrong, and what may stand there, for people.
+//! What is wrong with the words, at which word, and what to do about it, for people.
 
-use align_top::{UsageKind, WordsFault, read_words};
-use std::alloc::Global;
+use crate::nearest::nearest;
+use align_top::{
+    Command, Key, UsageKind, WordsFault, command_help, key_help, read_words, usage_help,
+};
+use std::alloc::{AllocError, Global};
+use std::io;
 use world_watch::WorldWatcher;
 
 fn is_help(word: &str) -> bool {
@@ -16,25 +20,18 @@ pub(crate) fn asks_for_help(words: &[String]) -> bool {
     }
 }
 
-/// What a key takes, where the fault is that a word gives it another number or kind.
-pub(crate) fn values_taken(kind: UsageKind, word: &str) -> Option<&'static str> {
-    match kind {
-        UsageKind::BadNumber | UsageKind::ZeroBudget => Some(numbers_of(word)),
-        UsageKind::UnknownKind => Some(
-            "give one or more of count, tally, seen, merge and json, with commas and no spaces between",
-        ),
-        _ => None,
-    }
+/// Tells what the program is for, what its words are and where its manual is.
+pub(crate) fn explain_program(rt: &impl Eprint, alloc: Global) -> io::Result<()> {
+    let help = usage_help(alloc)?;
+    eprint!(rt;
+        "euler_align reconciles two to eight classifications of the same things\n{help}the manual is `man euler_align`, where it is installed; in the repository docs/GUIDE.md shows how to use the program, and docs/FORMATS.md has every word and file\n"
+    )
 }
 
-// What numbers the key of a word takes.
-fn numbers_of(word: &str) -> &'static str {
-    if word.starts_with("size=") {
-        "give an even number from 14 to 256, without a leading zero"
-    } else if word.starts_with("seed=") {
-        "give a number from 0 to 18446744073709551615, without a leading zero"
-    } else {
-        "give a number from 1 to 18446744073709551615, without a leading zero"
+fn command_of(words: &[String]) -> Option<Command> {
+    match words.first() {
+        Some(word) => Command::named(word.as_str()),
+        None => None,
     }
 }
 
@@ -66,12 +63,6 @@ fn first_wrong<'a>(
     ""
 }
 
-// The keys of a command, where a line of the list of commands is about it.
-fn keys_of<'a>(line: &'a str, command: &str) -> Option<&'a str> {
-    let (name, keys) = line.trim().split_once(' ')?;
-    if name == command { Some(keys) } else { None }
-}
-
 // What stands before the equals sign of a word.
 fn key_of(word: &str) -> &str {
     match word.split_once('=') {
@@ -84,42 +75,116 @@ fn is_given(words: &[String], key: &str) -> bool {
     words.iter().any(|word| key_of(word.as_str()) == key)
 }
 
-// The first of these keys that must be given and no word gives. Those in brackets may be left out.
-fn missing_among<'a>(keys: &'a str, words: &[String]) -> &'a str {
-    for key in keys.split_whitespace() {
-        if !key.starts_with('[') && !is_given(words, key_of(key)) {
-            return key;
-        }
-    }
-    ""
-}
-
-// The first key that the command must have and no word gives, as the list of commands has it.
-fn first_missing<'a>(help: &'a str, words: &[String]) -> &'a str {
-    let Some(command) = words.first() else {
-        return "";
+// The first key that the command must have and no word gives.
+fn first_missing(alloc: Global, words: &[String]) -> Result<String, AllocError> {
+    let Some(command) = command_of(words) else {
+        return Ok(String::new(alloc));
     };
-    for line in help.lines() {
-        if let Some(keys) = keys_of(line, command.as_str()) {
-            return missing_among(keys, words);
+    for key in command.required() {
+        if !is_given(words, key.name()) {
+            return key_help(alloc, *key);
         }
     }
-    ""
+    Ok(String::new(alloc))
 }
 
-/// What is wrong or missing among the words, where that is one word or key. Which keys a command must have is read from the list of
-/// commands that people are shown.
-pub(crate) fn wrong_word<'a>(
+// What is wrong or missing among the words, where that is one word or key.
+fn wrong_word(
     alloc: Global,
-    words: &'a [String],
+    words: &[String],
     watchers: &Vec<Box<dyn WorldWatcher>>,
     kind: UsageKind,
-    help: &'a str,
-) -> &'a str {
+) -> Result<String, AllocError> {
     match kind {
-        UsageKind::NoCommand => "",
-        UsageKind::MissingKey => first_missing(help, words),
-        UsageKind::BudgetWithoutToken => "token=FILE",
-        _ => first_wrong(alloc, words, watchers, kind),
+        UsageKind::NoCommand => Ok(String::new(alloc)),
+        UsageKind::MissingKey => first_missing(alloc, words),
+        UsageKind::BudgetWithoutToken => key_help(alloc, Key::Token),
+        _ => String::from_str(alloc, first_wrong(alloc, words, watchers, kind)),
+    }
+}
+
+// What numbers the key of a word takes.
+fn numbers_of(word: &str) -> &'static str {
+    if word.starts_with("size=") {
+        "give an even number from 14 to 256, without a leading zero"
+    } else if word.starts_with("seed=") {
+        "give a number from 0 to 18446744073709551615, without a leading zero"
+    } else {
+        "give a number from 1 to 18446744073709551615, without a leading zero"
+    }
+}
+
+// What to do about a fault of this kind at a word.
+fn advice(kind: UsageKind, word: &str) -> &'static str {
+    match kind {
+        UsageKind::NoCommand | UsageKind::UnknownCommand => "begin with one of these",
+        UsageKind::NotOperand => {
+            "write a key, an equals sign and a value, with no space between them"
+        }
+        UsageKind::UnknownKey => "take one of those above",
+        UsageKind::KeyTwice => "give it once",
+        UsageKind::BadSwitch => "write on or off",
+        UsageKind::BadNumber | UsageKind::ZeroBudget => numbers_of(word),
+        UsageKind::EmptyName => "write the file's name behind the equals sign",
+        UsageKind::UnknownKind => {
+            "give one or more of count, tally, seen, merge and json, with commas and no spaces between"
+        }
+        UsageKind::KindTwice => "name it once",
+        UsageKind::MissingKey | UsageKind::BudgetWithoutToken => "add it",
+        UsageKind::SameName => "give each a name of its own",
+    }
+}
+
+// The command that a word, or the key that its key is most likely meant for; empty where there is none.
+fn meant(
+    alloc: Global,
+    words: &[String],
+    kind: UsageKind,
+    word: &str,
+) -> Result<&'static str, AllocError> {
+    let mut names = Vec::new(alloc);
+    match (kind, command_of(words)) {
+        (UsageKind::UnknownCommand, None) => {
+            for command in Command::all() {
+                names.push(command.name())?;
+            }
+        }
+        (UsageKind::UnknownKey, Some(command)) => {
+            for key in command.required().iter().chain(command.optional()) {
+                names.push(key.name())?;
+            }
+        }
+        _ => {}
+    }
+    nearest(alloc, key_of(word), &names)
+}
+
+/// Tells what is wrong with words that are no request: the line of the command that is meant, or all where none is, and the fault last.
+pub(crate) fn explain_fault(
+    rt: &impl Eprint,
+    alloc: Global,
+    words: &[String],
+    watchers: &Vec<Box<dyn WorldWatcher>>,
+    kind: UsageKind,
+) -> io::Result<()> {
+    match command_of(words) {
+        Some(command) => {
+            let help = command_help(alloc, command)?;
+            let line = help.as_str().trim();
+            eprintln!(rt; "usage: euler_align {line}")?;
+        }
+        None => {
+            let help = usage_help(alloc)?;
+            eprint!(rt; "{help}")?;
+        }
+    }
+    let word = wrong_word(alloc, words, watchers, kind)?;
+    let name = meant(alloc, words, kind, word.as_str())?;
+    let colon = if word.is_empty() { "" } else { ": " };
+    if name.is_empty() {
+        let advice = advice(kind, word.as_str());
+        eprintln!(rt; "{word}{colon}{kind}; {advice}")
+    } else {
+        eprintln!(rt; "{word}{colon}{kind}; is it {name}?")
     }
 }

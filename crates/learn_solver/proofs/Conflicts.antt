@@ -17,12 +17,13 @@ use Rattle.conflict_clause.specs.Taught.{level_in}
 use Rattle.learn_solver.specs.declared.learner.Learner.{Learner}
 use Rattle.learn_solver.specs.Solving.{IsRefutation, AreConsistent}
 use Rattle.learn_solver.specs.Weights.{weight}
-use Rattle.learn_solver.specs.Learners.{solver_state, guide_of, IsSound, IsNext, IsClosed, Backjumps, backtracked, assumed}
-use Rattle.learn_solver.proofs.TrailLemmas.{true-index, place-take, level-at, level-most, cut-at, places-few, decided-index, place_of-at}
+use Rattle.learn_solver.specs.Guides.{IsNext}
+use Rattle.learn_solver.specs.Learners.{solver_state, guide_of, IsSound, IsClosed, Backjumps, backtracked, assumed}
+use Rattle.learn_solver.proofs.TrailPlaces.{true-index, place-take, level-at, level-most, cut-at, places-few, decided-index, place_of-at}
 use Rattle.learn_solver.proofs.Cuts.{false-back, up_to-twice, assumed-past}
-use Rattle.learn_solver.proofs.Guidance.{own-assumptions, guided-all}
-use Rattle.learn_solver.proofs.Weighing.{weight-jumped, weight-longer, weight-one_more}
-use Rattle.learn_solver.proofs.Answering.{IsRefutation-closed}
+use Rattle.learn_solver.proofs.AssumptionsInvariant.{own-assumptions, guided-all}
+use Rattle.learn_solver.proofs.PlaceWeight.{weight-jumped, weight-longer, weight-one_more}
+use Rattle.learn_solver.proofs.ModelOrRefutation.{IsRefutation-closed}
 
 -- a conflict stands at the highest level of its literals
 pub conflict-back : (t : TrailState) (level at : ℕ) → IsTrail t → IsConflict t at → ((lit : ℕ) → Contains (record_at t.records at).lits lit → level_in t.places lit ≤ level) → IsConflict (backtracked t level) at
@@ -80,22 +81,22 @@ assumed-lighter t lit f =
     weight-one_more t.variables t.places new (omega arith)
 
 -- the next assumption is one
-pub next-assumptions : (l : Learner) (lit : ℕ) → IsNext l lit → Contains l.assumptions.items lit
-next-assumptions l lit next = subst (Contains l.assumptions.items) (sym next.at) (Contains-get_or l.assumptions.items l.holding 0 next.within)
+pub next-assumptions : (l : Learner) (lit : ℕ) → IsNext l.assumptions lit → Contains l.assumptions.lits lit
+next-assumptions l lit next = subst (Contains l.assumptions.lits) (sym next.at) (Contains-get_or l.assumptions.lits l.assumptions.holding 0 next.within)
 
 -- a closed clause refutes, where all levels begin with assumptions
-pub IsRefutation-guided : (l : Learner) (stands : Option ℕ) (id : ℕ) → IsSound l → IsTrail l.trail → l.trail.level ≤ l.guided → ((lit : ℕ) → stands ≡ Some lit → Contains l.assumptions.items (negation_of lit)) → IsClosed l.trail stands id → IsRefutation (solver_state l) l.assumptions.items id
+pub IsRefutation-guided : (l : Learner) (stands : Option ℕ) (id : ℕ) → IsSound l → IsTrail l.trail → l.trail.level ≤ l.assumptions.guided → ((lit : ℕ) → stands ≡ Some lit → Contains l.assumptions.lits (negation_of lit)) → IsClosed l.trail stands id → IsRefutation (solver_state l) l.assumptions.lits id
 IsRefutation-guided l stands id s f all standing c =
-    IsRefutation-closed l l.assumptions.items id c.at s c.within c.named (λ lit has. elim (c.closed lit has) [
+    IsRefutation-closed l l.assumptions.lits id c.at s c.within c.named (λ lit has. elim (c.closed lit has) [
       | inl stood ↦ standing lit stood
       | inr decided ↦
           let found = decided-index l.trail.places (negation_of lit) decided in
           let most = level-most l.trail found.0 f found.1 in
-          subst (Contains l.assumptions.items) found.2 (own-assumptions l.trail (guide_of l) found.0 f s.guided.marked found.1 found.3 (omega arith))
+          subst (Contains l.assumptions.lits) found.2 (own-assumptions l.trail l.assumptions found.0 f s.guided.marked found.1 found.3 (omega arith))
     ])
 
 -- a false assumption was implied
-pub false-implied : (l : Learner) (lit : ℕ) → IsTrail l.trail → IsSound l → AreConsistent l.assumptions.items → IsNext l lit → is_false l.trail.places lit ≡ true → reason_of l.trail.places (variable_of lit) ≢ None
+pub false-implied : (l : Learner) (lit : ℕ) → IsTrail l.trail → IsSound l → AreConsistent l.assumptions.lits → IsNext l.assumptions lit → is_false l.trail.places lit ≡ true → reason_of l.trail.places (variable_of lit) ≢ None
 false-implied l lit f s consistent next false_there none =
     let found = true-index l.trail.places (negation_of lit) false_there in
     let one : variable_of (place_at l.trail.places found.0).lit ≡ variable_of lit = ap variable_of found.2 ∙ variable_of-negation lit in
@@ -103,5 +104,5 @@ false-implied l lit f s consistent next false_there none =
     let reason : (place_at l.trail.places found.0).reason ≡ None = sym (ap (λ (o : Option ℕ). option_and_then (λ k. (place_at l.trail.places k).reason) o) place) ∙ none in
     let most = level-most l.trail found.0 f found.1 in
     let guided = guided-all (guide_of l) s.guided next.within in
-    let own = own-assumptions l.trail (guide_of l) found.0 f s.guided.marked found.1 (ap is_none reason) (omega arith) in
-    consistent lit (next-assumptions l lit next) (subst (Contains l.assumptions.items) found.2 own)
+    let own = own-assumptions l.trail l.assumptions found.0 f s.guided.marked found.1 (ap is_none reason) (omega arith) in
+    consistent lit (next-assumptions l lit next) (subst (Contains l.assumptions.lits) found.2 own)

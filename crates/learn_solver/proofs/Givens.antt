@@ -1,5 +1,5 @@
 -- One more given clause, and what is so of a solver.
-use Rattle.std.proofs.Common.{◌≡◌, ◌∙◌, ℕ, ◌+◌, ◌≤◌, true, false, List, [], ◌∷◌, ◌++◌, length, get_or, Result, Ok, Err, sym, ap, subst, arith, length-take}
+use Rattle.std.proofs.Common.{◌≡◌, ◌∙◌, ℕ, ◌+◌, ◌≤◌, true, false, List, [], ◌∷◌, ◌++◌, length, get_or, Result, Ok, Err, sym, subst, arith, length-take}
 use Rattle.std.specs.Prelude.{OnErr}
 use Rattle.std.specs.List.{All, Contains}
 use Rattle.std.proofs.lemmas.List.{length-map, length_push}
@@ -13,7 +13,7 @@ use Rattle.learn_solver.specs.States.{state_of}
 use Rattle.learn_solver.specs.Guides.{IsGuided}
 use Rattle.learn_solver.specs.Learners.{solver_state, IsSound, AreRecords, AreNoted, guide_of}
 use Rattle.learn_solver.proofs.SameStates.{SameState-records}
-use Rattle.learn_solver.proofs.RecordLemmas.{AreRecords-same, AreUpTo-same, AreUpTo-more, AreRecords-given, AreNoted-same, AreNoted-given, given-all, state-given}
+use Rattle.learn_solver.proofs.RecordState.{AreRecords-same, AreUpTo-same, AreUpTo-more, AreRecords-given, AreNoted-same, AreNoted-given, given-all, state-given}
 use Rattle.learn_solver.proofs.Idle.{idle_of-none, distinct-state, state-from_one, idle-derived, idle-distinct}
 
 -- what is so of a solver whose parts are sound

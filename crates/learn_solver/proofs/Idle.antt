@@ -11,7 +11,7 @@ use Rattle.clause_arena.specs.Records.{Record, record_at, no_record}
 use Rattle.watch_arena.specs.declared.places.Place.{Place}
 use Rattle.learn_solver.specs.States.{state_of, is_reason, idle_from, idle_of}
 use Rattle.learn_solver.specs.Learners.{AreRecords}
-use Rattle.learn_solver.proofs.RecordLemmas.{derived-none, derived-at, given-none, derived-id, ids-apart}
+use Rattle.learn_solver.proofs.RecordState.{derived-none, derived-at, given-none, derived-id, ids-apart}
 
 -- one record after another
 pub idle-step : (places : List Place) (records : List Record) (at : ℕ) → at < length records → idle_from places at (drop at records) ≡ cond (is_reason places at) (idle_from places (at + 1) (drop (at + 1) records)) ((record_at records at).id ∷ idle_from places (at + 1) (drop (at + 1) records))

@@ -1,19 +1,20 @@
 mod SameStates
-mod Goings
-mod RecordLemmas
-mod TrailLemmas
+mod CallSequence
+mod RecordState
+mod TrailPlaces
 mod Cuts
-mod Alikeness
-mod Guidance
+mod CommonPrefix
+mod AssumptionsInvariant
 mod Reasons
-mod StepLemmas
-mod Weighing
-pub mod Answering
-mod Teaching
+mod StepInvariant
+mod PlaceWeight
+pub mod ModelOrRefutation
+mod TaughtClauses
 mod Conflicts
 mod Idle
-mod Forgetting
-mod Remaining
+mod ForgottenClauses
+mod RemainingRecords
 mod Tidied
 mod Givens
-mod Hinting
+mod HintChain
+pub mod Derived

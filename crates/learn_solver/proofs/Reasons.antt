@@ -9,10 +9,10 @@ use Rattle.watch_arena.specs.declared.places.Place.{Place}
 use Rattle.watch_arena.specs.Places.{place_at, no_place, place_of, reason_of}
 use Rattle.watch_arena.specs.Trails.{TrailState, IsTrail}
 use Rattle.watch_arena.proofs.ByIndex.{list_any_at, list_any_index}
-use Rattle.watch_arena.proofs.Watching.{index_of}
+use Rattle.watch_arena.proofs.WatchedPair.{index_of}
 use Rattle.learn_solver.specs.States.{is_reason}
-use Rattle.learn_solver.proofs.RecordLemmas.{live-within}
-use Rattle.learn_solver.proofs.TrailLemmas.{place_of-at, place_of-found, place_of-cases}
+use Rattle.learn_solver.proofs.RecordState.{live-within}
+use Rattle.learn_solver.proofs.TrailPlaces.{place_of-at, place_of-found, place_of-cases}
 
 -- a reason that is a clause
 abbrev is_at : ℕ → Option ℕ → Bool

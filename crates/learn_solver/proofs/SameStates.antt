@@ -62,7 +62,7 @@ SameState-trans a b c h k = record {
   same_derived = derived-trans a.derived b.derived c.derived h.same_derived k.same_derived;
 }
 
--- the same records stand for the same state
+-- records that stayed themselves stand for one state
 given_same : (one other : List Record) (n : ℕ) → length other ≡ length one → ((at : ℕ) → IsSameRecord (record_at one at) (record_at other at)) → SameGiven (map (λ r. r.lits) (take n one)) (map (λ r. r.lits) (take n other))
 given_same one other zero count each = tt
 given_same [] [] (suc n) count each = tt

@@ -16,14 +16,14 @@ use Rattle.watch_arena.specs.Places.{places_with}
 use Rattle.watch_arena.specs.Trails.{TrailState, IsTrail, IsCompacted}
 use Rattle.learn_solver.specs.declared.learner.Learner.{Learner}
 use Rattle.learn_solver.specs.States.{state_of, idle_of}
-use Rattle.learn_solver.specs.Guides.{IsGuided}
+use Rattle.learn_solver.specs.Guides.{IsGuided, by_trail}
 use Rattle.learn_solver.specs.Learners.{solver_state, guide_of, IsSound, Forgets}
 use Rattle.learn_solver.specs.Solving.{FromOne, GoesTo, IsTidied, forgetting}
 use Rattle.learn_solver.proofs.SameStates.{SameState-records}
-use Rattle.learn_solver.proofs.RecordLemmas.{AreRecords-same, AreUpTo-same, AreNoted-same}
-use Rattle.learn_solver.proofs.Guidance.{by_trail, IsGuided-renamed}
-use Rattle.learn_solver.proofs.Goings.{GoesTo-same}
-use Rattle.learn_solver.proofs.Remaining.{AreForgotten, AreForgotten-from, AreRecords-left, AreUpTo-left, AreNoted-left, idle-left, state-left, line-left, idle-from_one}
+use Rattle.learn_solver.proofs.RecordState.{AreRecords-same, AreUpTo-same, AreNoted-same}
+use Rattle.learn_solver.proofs.AssumptionsInvariant.{IsGuided-renamed}
+use Rattle.learn_solver.proofs.CallSequence.{GoesTo-same}
+use Rattle.learn_solver.proofs.RemainingRecords.{AreForgotten, AreForgotten-from, AreRecords-left, AreUpTo-left, AreNoted-left, idle-left, state-left, line-left, idle-from_one}
 
 -- what tidying came to
 pub record HasTidied (old new : Learner) : Type 0 where
@@ -60,7 +60,7 @@ lits-renamed name [] = refl
 lits-renamed name (p ∷ places) = ap (λ (lits : List ℕ). p.lit ∷ lits) (lits-renamed name places)
 
 -- by its steps
-pub HasTidied-from : (old new : Learner) (start mid : TrailState) (ids : List ℕ) → IsSound old → start ≡ record old.trail { spare = start.spare } → ids ≡ (solver_state old).idle → 0 < length ids → Forgets start mid old.given → IsCompacted mid new.trail → new.variables ≡ old.variables → new.analyzer ≡ old.analyzer → new.order ≡ old.order → new.given ≡ old.given → new.last ≡ old.last → new.waiting.items ≡ old.waiting.items ++ Forget ids ∷ [] → IsTrail old.trail → IsTrail new.trail → guide_of new ≡ by_trail new.trail (guide_of old) → HasTidied old new
+pub HasTidied-from : (old new : Learner) (start mid : TrailState) (ids : List ℕ) → IsSound old → start ≡ record old.trail { spare = start.spare } → ids ≡ (solver_state old).idle → 0 < length ids → Forgets start mid old.given → IsCompacted mid new.trail → new.variables ≡ old.variables → new.analyzer ≡ old.analyzer → new.order ≡ old.order → new.given ≡ old.given → new.last ≡ old.last → new.waiting.items ≡ old.waiting.items ++ Forget ids ∷ [] → IsTrail old.trail → IsTrail new.trail → guide_of new ≡ by_trail new.trail old.assumptions → HasTidied old new
 HasTidied-from old new start mid ids s start_is ids_are some forgets compacts variables analyzer order given last waiting facts after_facts guide =
     let f : AreForgotten old.trail.places old.trail.records mid.records old.given =
     subst (λ (ps : List Place). AreForgotten ps old.trail.records mid.records old.given) (ap (λ (t : TrailState). t.places) start_is)
@@ -90,7 +90,7 @@ HasTidied-from old new start mid ids s start_is ids_are some forgets compacts va
         last = rw last (AreUpTo-same (compacted mid.records) new.trail.records old.last (AreUpTo-left old.trail.places old.trail.records mid.records old.given old.last s.records f s.last) compacts.records);
         waiting = subst (All FromOne) (sym waiting) (All-append FromOne old.waiting.items (Forget ids ∷ []) s.waiting from_one);
         noted = rw (given, order) (AreNoted-same (compacted mid.records) new.trail.records old.given old.order (AreNoted-left old.trail.places old.trail.records mid.records old.given old.order s.records f s.noted) compacts.records);
-        guided = subst IsGuided (sym guide) (IsGuided-renamed old.trail new.trail (guide_of old) (place_after mid.records) facts after_facts places (compacts.level ∙ mid_level) s.guided);
+        guided = subst IsGuided (sym guide) (IsGuided-renamed old.trail new.trail old.assumptions (place_after mid.records) facts after_facts places (compacts.level ∙ mid_level) s.guided);
       };
       kept = record {
         variables = vars;

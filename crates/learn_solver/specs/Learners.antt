@@ -1,5 +1,5 @@
 -- The parts of a solver: what is so of them, and what its steps keep.
-use Rattle.std.specs.Prelude.{◌≡◌, ℕ, ◌+◌, ◌*◌, ◌<◌, ◌≤◌, ◌⊎◌, Bool, true, false, List, [], ◌∷◌, ◌++◌, length, map, min, Option, Some, None, All, Contains, IsPermutation, slice_index_or}
+use Rattle.std.specs.Prelude.{◌≡◌, ℕ, ◌+◌, ◌*◌, ◌<◌, ◌≤◌, ◌⊎◌, Bool, true, false, List, [], ◌∷◌, ◌++◌, length, map, Option, Some, None, All, Contains, IsPermutation, slice_index_or}
 use Rattle.lits_core.specs.Literals.{variable_of, is_negative}
 use Rattle.lits_core.specs.Derivation.{DerivedFollow}
 use Rattle.clause_arena.specs.Records.{Record, record_at, forgotten}
@@ -13,7 +13,7 @@ use Rattle.learn_solver.specs.Solving.{SolverState, FromOne, GoesTo}
 use Rattle.learn_solver.specs.Answers.{IsAnswer}
 use Rattle.learn_solver.specs.States.{state_of, idle_of, is_reason}
 use Rattle.learn_solver.specs.Weights.{weight}
-use Rattle.learn_solver.specs.Guides.{Guide, IsGuided, lowered}
+use Rattle.learn_solver.specs.Guides.{Guide, IsGuided, by_trail, lowered}
 
 -- what the public sees
 abbrev pub solver_state : Learner → SolverState
@@ -27,14 +27,7 @@ solver_state l = record {
 
 -- what it knows of the assumptions
 abbrev pub guide_of : Learner → Guide
-guide_of l = record {
-  places = l.trail.places;
-  level = l.trail.level;
-  assumptions = l.assumptions.items;
-  holding = l.holding;
-  guided = l.guided;
-  holding_before = l.holding_before.items;
-}
+guide_of l = by_trail l.trail l.assumptions
 
 -- records, of which the first ones are given clauses: all are live, and their ids ascend; those of the given ones are 1, 2
 -- and so on
@@ -78,21 +71,15 @@ pub record Steps (old new : Learner) : Type 0 where
   pub sound : IsSound new
   pub goes : GoesTo (solver_state old) (solver_state new)
   pub variables : new.trail.variables ≡ old.trail.variables
-  pub assumptions : new.assumptions.items ≡ old.assumptions.items
+  pub assumptions : new.assumptions.lits ≡ old.assumptions.lits
 
 -- the trail after going back to a level
 abbrev pub backtracked : TrailState → ℕ → TrailState
 backtracked t level = record t { places = places_up_to t.places level; level = level }
 
--- only what is known of the assumptions changes: it is that up to a level
-pub record Lowers (old new : Learner) (level : ℕ) : Type 0 where
-  pub same : new ≡ record old { holding = new.holding; guided = min old.guided level; holding_before = new.holding_before }
-  pub guide : guide_of new ≡ lowered (guide_of old) level
-
 -- the trail goes back to a level, and what is known of the assumptions up to it stays known
-pub record Backtracks (old new : Learner) (level : ℕ) : Type 0 where
-  pub same : new ≡ record old { trail = backtracked old.trail level; holding = new.holding; guided = min old.guided level; holding_before = new.holding_before }
-  pub guide : guide_of new ≡ lowered (guide_of (record old { trail = backtracked old.trail level })) level
+abbrev pub Backtracks : Learner → Learner → ℕ → Type 0
+Backtracks old new level = new ≡ record old { trail = backtracked old.trail level; assumptions = lowered old.assumptions level }
 
 -- the places up to a level below stay, and one more is implied
 pub record Backjumps (old new : TrailState) : Type 0 where
@@ -111,7 +98,7 @@ pub record IsClosed (t : TrailState) (stands : Option ℕ) (id : ℕ) : Type 0 w
   pub closed : AreClosed t.places stands (record_at t.records at).lits
 
 -- a live record has these literals, in some order
-pub record IsPut (t : TrailState) (lits : List ℕ) (at : ℕ) : Type 0 where
+pub record IsStored (t : TrailState) (lits : List ℕ) (at : ℕ) : Type 0 where
   pub within : at < length t.records
   pub live : (record_at t.records at).live ≡ true
   pub lits_are : IsPermutation lits (record_at t.records at).lits
@@ -129,12 +116,7 @@ KeepsRest old new = new ≡ record old { trail = new.trail; waiting = new.waitin
 -- a step of the search has an answer, or goes on with less to do
 abbrev pub Serves : Learner → Learner → Option Answer → Type 0
 Serves old new None = weight new.trail.variables new.trail.places < weight old.trail.variables old.trail.places
-Serves old new (Some answer) = IsAnswer (solver_state new) old.assumptions.items answer
-
--- a literal is the first assumption that is not known to hold
-pub record IsNext (l : Learner) (lit : ℕ) : Type 0 where
-  pub within : l.holding < length l.assumptions.items
-  pub at : lit ≡ slice_index_or l.assumptions.items l.holding 0
+Serves old new (Some answer) = IsAnswer (solver_state new) old.assumptions.lits answer
 
 -- a literal is assumed on a new level
 abbrev pub assumed : TrailState → ℕ → TrailState
@@ -147,5 +129,6 @@ pub record AreBits (t : TrailState) (bits : List Bool) : Type 0 where
 
 -- the trail stays or goes back, and what is known of the assumptions was found anew
 pub record Reuses (old new : Learner) : Type 0 where
-  pub same : new ≡ record old { trail = record old.trail { places = new.trail.places; level = new.trail.level }; holding = new.holding; guided = new.guided; holding_before = new.holding_before }
+  pub same : new ≡ record old { trail = record old.trail { places = new.trail.places; level = new.trail.level }; assumptions = new.assumptions }
+  pub lits : new.assumptions.lits ≡ old.assumptions.lits
   pub guided : IsGuided (guide_of new)

@@ -7,6 +7,7 @@ ghost use Rattle.clause_arena.specs.Records.{record_at};
 ghost use Rattle.watch_arena.specs.Trails.{IsTrail, AreInRange, Adds};
 ghost use Rattle.conflict_clause.specs.Taught.{IsTaught};
 
+use crate::assumptions::Assumptions;
 use crate::order::Order;
 use clause_arena::Ref;
 use conflict_clause::Analyzer;
@@ -24,12 +25,7 @@ pub(crate) struct Learner {
     // The largest id that was ever given.
     pub(crate) last: u64,
     pub(crate) waiting: Vec<Line>,
-    // The assumptions of the last call, and how many of the first are known to hold.
-    pub(crate) assumptions: Vec<Lit>,
-    pub(crate) holding: usize,
-    // How many of the first levels begin with an assumption, and for each of these how many assumptions hold before it.
-    pub(crate) guided: u32,
-    pub(crate) holding_before: Vec<usize>,
+    pub(crate) assumptions: Assumptions,
     pub(crate) alloc: Global,
 }
 
@@ -45,9 +41,6 @@ impl Drop for Learner {
             last: _,
             waiting: _,
             assumptions: _,
-            holding: _,
-            guided: _,
-            holding_before: _,
             alloc: _,
         } = self;
     }
@@ -56,7 +49,7 @@ impl Drop for Learner {
 impl Learner {
     ghost use Rattle.learn_solver.specs.Solving.{AddsGiven};
     ghost use Rattle.learn_solver.specs.Hints.{AddsLine};
-    ghost use Rattle.learn_solver.specs.Learners.{solver_state, IsSound, Steps, Lowers, Backtracks, IsPut, KeepsPlaces, KeepsRest};
+    ghost use Rattle.learn_solver.specs.Learners.{solver_state, IsSound, Steps, Backtracks, IsStored, KeepsPlaces, KeepsRest};
 
     pub(crate) fn new(alloc: Global, variables: u32) -> Result<Learner, AllocError>
         ensures sound { IfOk result (λ l. IsSound l) }
@@ -70,10 +63,7 @@ impl Learner {
             given: 0,
             last: 0,
             waiting: Vec::new(alloc),
-            assumptions: Vec::new(alloc),
-            holding: 0,
-            guided: 0,
-            holding_before: Vec::new(alloc),
+            assumptions: Assumptions::new(alloc),
             alloc,
         })
     }
@@ -133,24 +123,12 @@ impl Learner {
     // The places above a level go, and what is known of the assumptions by them.
     pub(crate) fn cancel_until(&mut self, level: u32)
         requires level { level ≤ self.old.trail.level }
-        requires counted { length self.old.holding_before.items ≡ self.old.guided }
+        requires counted { length self.old.assumptions.holding_before ≡ self.old.assumptions.guided }
         ensures { Backtracks self.old self.new level }
     {
         self.unassign_above(level);
         self.trail.undo_to(level);
-        self.lower(level);
-    }
-
-    // Of the assumptions only that stays known which is so by the levels up to this one.
-    pub(crate) fn lower(&mut self, level: u32)
-        requires { length self.old.holding_before.items ≡ self.old.guided }
-        ensures { Lowers self.old self.new level }
-    {
-        if level < self.guided {
-            self.holding = self.holding_before[level as usize];
-            self.holding_before.truncate(level as usize);
-            self.guided = level;
-        }
+        self.assumptions.lower(level);
     }
 
     // The variables above a level may be decided again.
@@ -166,17 +144,17 @@ impl Learner {
     }
 
     // One derived clause more, with its line. All memory is taken before anything changes.
-    pub(crate) fn note(&mut self, lits: Clause, hints: Ids) -> Result<Ref, AllocError>
+    pub(crate) fn add_derived(&mut self, lits: Clause, hints: Ids) -> Result<Ref, AllocError>
         requires sound { IsSound self.old }
         requires taught { IsTaught self.old.trail lits hints }
         ensures steps { Steps self.old self.new }
         ensures kept { KeepsPlaces self.old.trail self.new.trail }
         ensures same { KeepsRest self.old self.new }
-        ensures put { IfOk result (λ at. IsPut self.new.trail lits at) }
+        ensures stored { IfOk result (λ at. IsStored self.new.trail lits at) }
         ensures line { IfOk result (λ at. AddsLine (solver_state self.old) (solver_state self.new) lits hints (record_at self.new.trail.records at).id) }
         ensures err { OnErr result (solver_state self.new ≡ solver_state self.old) }
     {
-        let at = self.keep(lits.lits())?;
+        let at = self.add_record(lits.lits())?;
         self.waiting.push_reserved(Line::Derive {
             id: self.last,
             lits,
@@ -186,7 +164,7 @@ impl Learner {
     }
 
     // One record more, under the next id, and room for its line.
-    fn keep(&mut self, lits: &[Lit]) -> Result<Ref, AllocError>
+    fn add_record(&mut self, lits: &[Lit]) -> Result<Ref, AllocError>
         requires { AreInRange lits.now self.old.trail.variables }
         ensures same { KeepsRest self.old self.new }
         ensures waiting { self.new.waiting.items ≡ self.old.waiting.items }

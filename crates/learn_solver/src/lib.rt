@@ -3,6 +3,7 @@
 
 mod alike;
 mod asking;
+mod assumptions;
 mod learner;
 mod literals;
 mod order;

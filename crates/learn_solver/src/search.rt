@@ -15,7 +15,8 @@ use std::alloc::AllocError;
 impl Learner {
     ghost use Rattle.learn_solver.specs.Solving.{GoesTo, AreConsistent};
     ghost use Rattle.learn_solver.specs.Answers.{IsAnswer};
-    ghost use Rattle.learn_solver.specs.Learners.{solver_state, IsSound, Steps, Backjumps, IsClosed, KeepsPlaces, KeepsRest, Serves, IsNext, AreBits};
+    ghost use Rattle.learn_solver.specs.Guides.{IsNext};
+    ghost use Rattle.learn_solver.specs.Learners.{solver_state, IsSound, Steps, Backjumps, IsClosed, KeepsPlaces, KeepsRest, Serves, AreBits};
 
     // Learns from a conflict at a level, and goes back to where the learnt clause implies its first literal.
     fn learn(&mut self, at: Ref) -> Result<(), AllocError>
@@ -31,7 +32,7 @@ impl Learner {
         self.order.bump(self.analyzer.seen());
         let first = learnt.lits.lits()[0];
         let back = learnt.back;
-        let at = self.note(learnt.lits, learnt.hints)?;
+        let at = self.add_derived(learnt.lits, learnt.hints)?;
         self.backtrack(back);
         self.trail.imply(first, at);
         Ok(())
@@ -51,7 +52,7 @@ impl Learner {
         }
         let closing = self.analyzer.analyze_final(&self.trail, at)?;
         self.order.bump(self.analyzer.seen());
-        let noted = self.note(closing.lits, closing.hints)?;
+        let noted = self.add_derived(closing.lits, closing.hints)?;
         Ok(self.trail.arena().id_of(noted))
     }
 
@@ -74,7 +75,7 @@ impl Learner {
         }
         let closing = self.analyzer.analyze_final_lit(&self.trail, lit)?;
         self.order.bump(self.analyzer.seen());
-        let noted = self.note(closing.lits, closing.hints)?;
+        let noted = self.add_derived(closing.lits, closing.hints)?;
         Ok(self.trail.arena().id_of(noted))
     }
 
@@ -89,7 +90,7 @@ impl Learner {
         let level = self.top_level(at);
         self.backtrack(level);
         self.facts();
-        if self.guided < level {
+        if self.assumptions.guided() < level {
             self.learn(at)?;
             return Ok(None);
         }
@@ -111,18 +112,17 @@ impl Learner {
     // Counts the assumptions that hold, up to the first that does not, which it answers.
     fn next_open(&mut self) -> Option<Lit>
         requires sound { IsSound self.old }
-        requires range { AreInRange self.old.assumptions.items self.old.trail.variables }
+        requires range { AreInRange self.old.assumptions.lits self.old.trail.variables }
         ensures steps { Steps self.old self.new }
-        ensures same { self.new ≡ record self.old { holding = self.new.holding } }
-        ensures open { MatchOption result (self.new.holding ≡ length self.new.assumptions.items) (λ lit. IsNext self.new lit × (is_true self.new.trail.places lit ≡ false)) }
+        ensures same { self.new ≡ record self.old { assumptions = record self.old.assumptions { holding = self.new.assumptions.holding } } }
+        ensures open { MatchOption result (self.new.assumptions.holding ≡ length self.new.assumptions.lits) (λ lit. IsNext self.new.assumptions lit × (is_true self.new.trail.places lit ≡ false)) }
     {
         self.facts();
-        while self.holding < self.assumptions.len() {
-            let lit = self.assumptions[self.holding];
+        while let Some(lit) = self.assumptions.next() {
             if !self.is_true(lit) {
                 return Some(lit);
             }
-            self.holding += 1;
+            self.assumptions.hold_next();
         }
         None
     }
@@ -132,14 +132,12 @@ impl Learner {
         requires sound { IsSound self.old }
         requires range { variable_of lit < self.old.trail.variables }
         requires unassigned { place_of self.old.trail.places (variable_of lit) ≡ None }
-        requires next { IsNext self.old lit }
+        requires next { IsNext self.old.assumptions lit }
         ensures steps { Steps self.old self.new }
         ensures lighter { OnOk result (Serves self.old self.new None) }
     {
         self.facts();
-        self.holding_before.push(self.holding)?;
-        self.trail.assume(lit);
-        self.guided = self.trail.level();
+        self.assumptions.assume(&mut self.trail, lit)?;
         self.facts();
         Ok(())
     }
@@ -164,7 +162,7 @@ impl Learner {
     fn decide(&mut self) -> Result<Option<Answer>, AllocError>
         requires sound { IsSound self.old }
         requires propagated { IsPropagated self.old.trail }
-        requires holding { self.old.holding ≡ length self.old.assumptions.items }
+        requires holding { self.old.assumptions.holding ≡ length self.old.assumptions.lits }
         ensures steps { Steps self.old self.new }
         ensures served { IfOk result (Serves self.old self.new) }
     {
@@ -186,9 +184,9 @@ impl Learner {
     fn assume_next(&mut self, lit: Lit) -> Result<Option<Answer>, AllocError>
         requires sound { IsSound self.old }
         requires range { variable_of lit < self.old.trail.variables }
-        requires next { IsNext self.old lit }
+        requires next { IsNext self.old.assumptions lit }
         requires open { is_true self.old.trail.places lit ≡ false }
-        requires consistent { AreConsistent self.old.assumptions.items }
+        requires consistent { AreConsistent self.old.assumptions.lits }
         ensures steps { Steps self.old self.new }
         ensures served { IfOk result (Serves self.old self.new) }
     {
@@ -205,8 +203,8 @@ impl Learner {
     // One step where no clause is false or unit: an assumption or a decision, or an answer.
     fn extend(&mut self) -> Result<Option<Answer>, AllocError>
         requires sound { IsSound self.old }
-        requires range { AreInRange self.old.assumptions.items self.old.trail.variables }
-        requires consistent { AreConsistent self.old.assumptions.items }
+        requires range { AreInRange self.old.assumptions.lits self.old.trail.variables }
+        requires consistent { AreConsistent self.old.assumptions.lits }
         requires propagated { IsPropagated self.old.trail }
         ensures steps { Steps self.old self.new }
         ensures served { IfOk result (Serves self.old self.new) }
@@ -220,8 +218,8 @@ impl Learner {
     // One step of the search, which goes on after None.
     fn step(&mut self) -> Result<Option<Answer>, AllocError>
         requires sound { IsSound self.old }
-        requires range { AreInRange self.old.assumptions.items self.old.trail.variables }
-        requires consistent { AreConsistent self.old.assumptions.items }
+        requires range { AreInRange self.old.assumptions.lits self.old.trail.variables }
+        requires consistent { AreConsistent self.old.assumptions.lits }
         ensures steps { Steps self.old self.new }
         ensures served { IfOk result (Serves self.old self.new) }
     {

@@ -28,7 +28,7 @@ impl Learner {
     {
         match self.shown_by(lits, hints)? {
             Some(count) => {
-                let id = self.put(lits, &hints[..count])?;
+                let id = self.add_shown(lits, &hints[..count])?;
                 Ok(Some(id))
             }
             None => Ok(None),
@@ -36,17 +36,17 @@ impl Learner {
     }
 
     // Adds a clause that hints show, with its line, and answers its id.
-    fn put(&mut self, lits: &[Lit], hints: &[u64]) -> Result<u64, AllocError>
+    fn add_shown(&mut self, lits: &[Lit], hints: &[u64]) -> Result<u64, AllocError>
         requires sound { IsSound self.old }
         requires taught { IsTaught self.old.trail lits.now hints.now }
         ensures steps { Steps self.old self.new }
-        ensures put { IfOk result (λ id. MatchOption (live_clause (solver_state self.new).state id) ⊥ (SameLits lits.now)) }
+        ensures stored { IfOk result (λ id. MatchOption (live_clause (solver_state self.new).state id) ⊥ (SameLits lits.now)) }
         ensures line { IfOk result (AddsLine (solver_state self.old) (solver_state self.new) lits.now hints.now) }
         ensures err { OnErr result (solver_state self.new ≡ solver_state self.old) }
     {
         let ids = Ids::new(Vec::from_slice(self.alloc, hints)?);
         let clause = Clause::from_lits(self.alloc, lits)?;
-        let at = self.note(clause, ids)?;
+        let at = self.add_derived(clause, ids)?;
         Ok(self.trail.arena().id_of(at))
     }
 

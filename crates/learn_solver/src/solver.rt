@@ -1,9 +1,9 @@
 //! The solver, as its users see it.
-ghost use Rattle.std.specs.Prelude.{◌≡◌, ◌≢◌, ◌+◌, ◌++◌, [], None, nat_lt, length, IfOk, OnOk, OnErr, IfSome, IfNone, MatchOption, MatchResult, ⊤};
+ghost use Rattle.std.specs.Prelude.{◌≡◌, ◌≢◌, ◌+◌, ◌++◌, [], None, nat_lt, length, IfOk, OnOk, OnErr, IfSome, IfNone, IsTrue, ◌↔◌, MatchOption, MatchResult, ⊤};
 ghost use Rattle.lits_core.specs.Derivation.{State, first_state, live_clause, hints_fault, SameLits};
 ghost use Rattle.watch_arena.specs.Trails.{AreInRange};
 ghost use Rattle.learn_solver.specs.Solving.{SolverState, GoesTo, IsSolver, AddsGiven, IsTidied, AreConsistent, IsModel, IsRefutation};
-ghost use Rattle.learn_solver.specs.Hints.{Derives};
+ghost use Rattle.learn_solver.specs.Hints.{IsDerived, IsShown};
 ghost use Rattle.learn_solver.specs.Answers.{IsAnswer};
 
 use crate::learner::Learner;
@@ -76,22 +76,22 @@ impl Solver {
         self.learner.solve(assumptions, more)
     }
 
-    /// Adds a clause that live clauses show, with its line, and answers its id. None comes where the hints do not show it, and
-    /// then nothing has changed.
+    /// Adds a clause that live clauses show, with its line, and answers its id; none exactly where a literal is of no variable of
+    /// the solver, or the hints do not show it.
     ///
     /// The hints are ids, taken in turn with the clause's literals held false: each one's clause must be left at most one
     /// literal, which then holds, until one is left none. Hints after that one are dropped. After want of memory nothing has
     /// changed either.
     pub fn derive(&mut self, lits: &[Lit], hints: &[u64]) -> Result<Option<u64>, AllocError>
-        requires range { AreInRange lits.now self.old.variables }
         ensures kept { GoesTo self.old self.new }
-        ensures derived { IfOk result (λ o. IfSome o (λ id. MatchOption (live_clause self.new.state id) ⊥ (SameLits lits.now))) }
-        ensures shown { IfOk result (λ o. IfSome o (λ _. hints_fault self.old.state hints.now lits.now ≡ None)) }
-        ensures fault { IfOk result (λ o. IfNone o (hints_fault self.old.state hints.now lits.now ≢ None)) }
+        ensures derived { IfOk result (λ o. IfSome o (IsDerived self.old self.new lits.now hints.now)) }
+        ensures none { IfOk result (λ o. IfNone o (IsShown self.old lits.now hints.now → ⊥)) }
         ensures same { IfOk result (λ o. IfNone o (self.new ≡ self.old)) }
-        ensures line { IfOk result (λ o. IfSome o (Derives self.old self.new lits.now hints.now)) }
         ensures err { OnErr result (self.new ≡ self.old) }
     {
+        if !are_in_range(lits, self.learner.variables) {
+            return Ok(None);
+        }
         self.learner.derive(lits, hints)
     }
 
@@ -148,4 +148,11 @@ impl Solver {
     {
         let _ = &self.learner;
     }
+}
+
+// Whether literals are of the first variables.
+fn are_in_range(lits: &[Lit], variables: u32) -> bool
+    ensures { IsTrue result ↔ AreInRange lits.now variables }
+{
+    lits.iter().all(|lit| lit.variable() < variables)
 }

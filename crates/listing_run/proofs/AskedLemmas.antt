@@ -232,7 +232,7 @@ pub if_err : {X E : Type 0} (r : Result X E) (P : E → Type 0) (fault : E) → 
 if_err (Ok value) P fault fact e = tt
 if_err (Err other) P fault fact e = subst P (err_is other fault (Err other) refl e) fact
 
--- the same by the text of the problem's name
+-- what is asked, by the text of the problem's name
 pub named_without : (text input : List ℕ) (switches : Switches) (s : Status) (one other : StoreState) → text ≡ input → IsWithout text (problem_in switches) s one other → IsWithout input (problem_in switches) s one other
 named_without text input switches s one other same end = subst (λ (n : List ℕ). IsWithout n (problem_in switches) s one other) same end
 

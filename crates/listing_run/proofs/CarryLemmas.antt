@@ -22,9 +22,9 @@ use Rattle.run_ends.proofs.EndLemmas.{none_written}
 use Rattle.listing_run.specs.declared.Order.{Order}
 use Rattle.resume_token.specs.Token.{token_text}
 use Rattle.run_ends.specs.Runs.{file_under}
-use Rattle.world_watch.specs.Held.{count_of}
-use Rattle.listing_run.specs.Certs.{IsCertOf}
-use Rattle.listing_run.specs.Output.{last_line, listing_text, listing_status, token_under, written_names}
+use Rattle.world_model.specs.Saturated.{count_of}
+use Rattle.listing_run.specs.Certs.{IsListingCert}
+use Rattle.listing_run.specs.Output.{last_line, listing_text, listing_end, token_under, written_names}
 use Rattle.listing_run.specs.Logged.{IsCertLeft, IsListedWith}
 use Rattle.listing_run.specs.Putting.{IsPutPartly}
 use Rattle.listing_run.specs.Steps.{status_at, AreApart, IsCutEnded, IsEnded, order_answers}
@@ -48,11 +48,11 @@ begun_status rel rels count = by (length (rel ∷ rels) == 0) refl
     by true e = absurd (omega (arith, eqb-true (length (rel ∷ rels)) 0 e))
     by false e = refl
 
-no_world_status : (start : List Rel) (count : ℕ) → count ≡ 0 → status_at start None count ≡ listing_status start None []
+no_world_status : (start : List Rel) (count : ℕ) → count ≡ 0 → status_at start None count ≡ listing_end start None []
 no_world_status [] count zero = rw zero refl
 no_world_status (rel ∷ rels) count zero = begun_status rel rels count
 
-some_world_status : (start : List Rel) (world : List Rel) (worlds : List (List Rel)) (count : ℕ) → (count ≡ 0 → ⊥) → status_at start None count ≡ listing_status start None (world ∷ worlds)
+some_world_status : (start : List Rel) (world : List Rel) (worlds : List (List Rel)) (count : ℕ) → (count ≡ 0 → ⊥) → status_at start None count ≡ listing_end start None (world ∷ worlds)
 some_world_status [] world worlds count some = by (count == 0) refl
   where
     by : (b : Bool) → (count == 0) ≡ b → (if b then status.NoWorld else status.Done) ≡ status.Done
@@ -60,7 +60,7 @@ some_world_status [] world worlds count some = by (count == 0) refl
     by false e = refl
 some_world_status (rel ∷ rels) world worlds count some = begun_status rel rels count
 
-status_counted : (start : List Rel) (cut : Option (List Rel)) (worlds : List (List Rel)) (count : ℕ) → count ≡ count_of worlds → status_at start cut count ≡ listing_status start cut worlds
+status_counted : (start : List Rel) (cut : Option (List Rel)) (worlds : List (List Rel)) (count : ℕ) → count ≡ count_of worlds → status_at start cut count ≡ listing_end start cut worlds
 status_counted start (Some cut) worlds count e = refl
 status_counted start None [] count e = no_world_status start count e
 status_counted start None (world ∷ worlds) count e = some_world_status start world worlds count (λ zero. omega (arith, e, zero))
@@ -97,7 +97,7 @@ by_cause_from (Err NoMemory) cert token store mid store' old between new quiet s
 }
 
 -- each status of a listing answers
-listed_ending : (start : List Rel) (cut : Option (List Rel)) (worlds : List (List Rel)) → ending_of (listing_status start cut worlds) ≡ Answered
+listed_ending : (start : List Rel) (cut : Option (List Rel)) (worlds : List (List Rel)) → ending_of (listing_end start cut worlds) ≡ Answered
 listed_ending start (Some cut) worlds = refl
 listed_ending [] None [] = refl
 listed_ending [] None (world ∷ worlds) = refl
@@ -117,7 +117,7 @@ partly : (order : Order) (cert token : Option (List ℕ)) (store : StoreState) (
 partly order cert token store old new part = record {
   text = listing_text part.cut part.worlds;
   of_answer = inl (
-    listing_status order.start part.cut part.worlds,
+    listing_end order.start part.cut part.worlds,
     file_under cert None ++ token_under order.problem token part.cut store.held,
     record {
       cut = part.cut;
@@ -127,7 +127,7 @@ partly order cert token store old new part = record {
       put = refl;
       ended = refl;
       bytes = None;
-      certified = none_certified cert store.held (IsCertOf order.problem order.start part.cut part.worlds);
+      certified = none_certified cert store.held (IsListingCert order.problem order.start part.cut part.worlds);
       written = refl;
     },
   );
@@ -175,20 +175,20 @@ cert_written p from to (Some name) old new left kept = record {
   others = kept;
 }
   where
-    by : (a b : Option (List ℕ)) → IfSome a (λ _. (bytes : List ℕ) × (b ≡ Some bytes) × ((worlds : List (List Rel)) → IsListing p from to worlds → IsCertOf p from to worlds bytes))
+    by : (a b : Option (List ℕ)) → IfSome a (λ _. (bytes : List ℕ) × (b ≡ Some bytes) × ((worlds : List (List Rel)) → IsListing p from to worlds → IsListingCert p from to worlds bytes))
         → IfSome a (λ _. IsTrue (is_some b))
     by None b h = tt
     by (Some held) b h = rw h.1 refl
 
 certified : (p : Problem) (from : List Rel) (to : Option (List Rel)) (worlds : List (List Rel)) (cert : Option (List ℕ)) (old new : Contents) → IsListing p from to worlds
-    → IsCertLeft p from to cert old new → IfSome cert (λ name. IfSome (old name) (λ _. IfSome (bytes_of cert new) (IsCertOf p from to worlds)))
+    → IsCertLeft p from to cert old new → IfSome cert (λ name. IfSome (old name) (λ _. IfSome (bytes_of cert new) (IsListingCert p from to worlds)))
 certified p from to worlds None old new exactly left = tt
 certified p from to worlds (Some name) old new exactly left = by (old name) (new name) left
   where
-    by : (a b : Option (List ℕ)) → IfSome a (λ _. (bytes : List ℕ) × (b ≡ Some bytes) × ((worlds : List (List Rel)) → IsListing p from to worlds → IsCertOf p from to worlds bytes))
-        → IfSome a (λ _. IfSome b (IsCertOf p from to worlds))
+    by : (a b : Option (List ℕ)) → IfSome a (λ _. (bytes : List ℕ) × (b ≡ Some bytes) × ((worlds : List (List Rel)) → IsListing p from to worlds → IsListingCert p from to worlds bytes))
+        → IfSome a (λ _. IfSome b (IsListingCert p from to worlds))
     by None b h = tt
-    by (Some held) b h = subst (λ (told : Option (List ℕ)). IfSome told (IsCertOf p from to worlds)) (sym h.1) (h.2 worlds exactly)
+    by (Some held) b h = subst (λ (told : Option (List ℕ)). IfSome told (IsListingCert p from to worlds)) (sym h.1) (h.2 worlds exactly)
 
 -- a listing that is put to its cut and written, and then ended
 pub carried : (r : Result Status StoreFault) (order : Order) (cert token : Option (List ℕ)) (cut : Option (List Rel)) (count : ℕ) (store mid store' : StoreState) (old between new : SinkState)
@@ -197,7 +197,7 @@ pub carried : (r : Result Status StoreFault) (order : Order) (cert token : Optio
 carried (Ok s) order cert token cut count store mid store' old between new two with_cert ended =
     let p = order.problem in
     let listed = with_cert.ok in
-    let is : s ≡ listing_status order.start cut listed.worlds = ended.status ∙ status_counted order.start cut listed.worlds count listed.counted in
+    let is : s ≡ listing_end order.start cut listed.worlds = ended.status ∙ status_counted order.start cut listed.worlds count listed.counted in
     let token_written : AreWritten (token_under p token cut store.held) mid.held store'.held =
     subst (λ (files : List File). AreWritten files mid.held store'.held) (token_since p cert token cut store.held mid.held two with_cert.kept) ended.written in
     record {

@@ -28,9 +28,10 @@ use Rattle.cert_rules.proofs.Writing.{alive_append}
 use Rattle.check_run.specs.Checking.{cert_answer}
 use Rattle.outer_store.specs.States.{StoreState, SinkState, IsQuiet, OnlyWritten, IsQuiet-joins}
 use Rattle.run_ends.specs.Runs.{HasFailed, AreKeptBut, IsWriteCause}
+use Rattle.run_ends.proofs.OneName.{kept_but_one, write_failed}
 use Rattle.listing_run.specs.declared.listing.Listed.{Listed}
 use Rattle.listing_run.specs.declared.Order.{Order}
-use Rattle.listing_run.specs.Certs.{IsCertOf}
+use Rattle.listing_run.specs.Certs.{IsListingCert}
 use Rattle.listing_run.specs.Putting.{IsOrder, IsPutToCut, IsPutPartly}
 use Rattle.world_search.specs.Told.{IsToldWhole}
 use Rattle.listing_run.specs.Logged.{IsListedIn, IsCertLeft, IsListedWith}
@@ -38,14 +39,8 @@ use Rattle.listing_run.proofs.WrittenLemmas.{is_first}
 use Rattle.cert_check.proofs.WrittenLemmas.{written_is_read, written_is_accepted_law}
 use Rattle.cert_text.proofs.StoreLemmas.{told_bytes}
 
-kept_but_one : (name : List ℕ) (old new : Contents) → OthersKept name old new → AreKeptBut (name ∷ []) old new
-kept_but_one name old new others other apart = others other (λ e. apart (subst (Contains (name ∷ [])) (sym e) (is_first name [])))
-
 others_twice : (name : List ℕ) (old mid new : Contents) → OthersKept name old mid → OthersKept name mid new → OthersKept name old new
 others_twice name old mid new a b other apart = b other apart ∙ a other apart
-
-write_failed : (name : List ℕ) (before now : Counts) → Rose (before name) (now name) → HasFailed (name ∷ []) before now
-write_failed name before now rose = record { name = name; named = is_first name []; rose = rose }
 
 -- a certificate's name that can't be made empty
 create_refused_by : (T : Type 0) (e : StoreFault) (order : Order) (name : List ℕ) (store store' : StoreState) (sink : SinkState)
@@ -82,7 +77,7 @@ alive_to_end p from state at to lines k =
 
 -- what keeps up with a listing, with an end behind it, is its certificate, by bytes that spell it
 cert_of : (p : Problem) (from : List Rel) (told : List CertLine) (state : State) (to : Option (List Rel)) (worlds : List (List Rel)) (bytes : List ℕ) → IsBuilt p → length from ≤ pair_count p
-    → BeginsAndKeepsUp p from [] state to told → lines_in bytes ≡ Some (told ++ End to ∷ []) → IsListing p from to worlds → IsCertOf p from to worlds bytes
+    → BeginsAndKeepsUp p from [] state to told → lines_in bytes ≡ Some (told ++ End to ∷ []) → IsListing p from to worlds → IsListingCert p from to worlds bytes
 cert_of p from told state to worlds bytes valid within keeps spelled exactly small =
     let accepted = written_is_accepted_law.accepted p from told state to bytes valid within keeps spelled small in
     record {
@@ -102,7 +97,7 @@ cert_left order to name refused held mid held' valid within made told = by (held
     p = order.problem
 
     by : (before : Option (List ℕ)) → mid name ≡ emptied before
-        → IfSome before (λ _. (bytes : List ℕ) × (held' name ≡ Some bytes) × ((worlds : List (List Rel)) → IsListing p order.start to worlds → IsCertOf p order.start to worlds bytes))
+        → IfSome before (λ _. (bytes : List ℕ) × (held' name ≡ Some bytes) × ((worlds : List (List Rel)) → IsListing p order.start to worlds → IsListingCert p order.start to worlds bytes))
     by None made = tt
     by (Some before) made =
         let whole = told (ap (lines_held false) made) in
@@ -151,7 +146,7 @@ none_left : (r : Result Listed StoreFault) (order : Order) (held : Contents) →
 none_left (Ok listed) order held = tt
 none_left (Err e) order held = tt
 
--- the same by the log's own words
+-- a listing with its certificate, by the log's own words
 module _ {S : Type 0} (state : S → StoreState) where
   abbrev lines_of : StoreLog S → Told
   lines_of l = lines_held (is_refused l) ((state (log_store l).now).held (log_name l).now)

@@ -17,9 +17,9 @@ use Rattle.world_search.specs.Steps.{StandsBehind}
 use Rattle.world_search.proofs.WorldsLeft.{came_fewer}
 use Rattle.listing_run.specs.declared.Order.{Order}
 use Rattle.run_ends.specs.Ends.{world_line}
-use Rattle.world_watch.specs.Held.{count_of}
+use Rattle.world_model.specs.Saturated.{count_of}
 use Rattle.listing_run.specs.Output.{last_line, listing_text}
-use Rattle.listing_run.specs.Putting.{AreUpTo, LastsTo, IsPutTo, IsPutToCut, IsPutPartly, StandsAt, IsStop}
+use Rattle.listing_run.specs.Putting.{AreUpTo, LastsTo, IsPutTo, IsPutToCut, IsPutPartly, StopsAt, IsListingStop}
 use Rattle.listing_run.proofs.CutLemmas.{up_to_start, lasts_start, up_to_more, lasts_on, lasts_behind, lasts_still, cut_none, cut_here, limit_reached, limit_unreached, fell_twice, fell_nothing, none_passed, no_world_passed}
 
 added-nil : (told : Option (List ℕ)) → told ≡ added told []
@@ -123,7 +123,7 @@ put_end_met order valid one other before left wanted old mid count same some so_
 
 -- the limit of worlds is reached
 pub put_stopped : (order : Order) (one other : SearchState) (before wanted : Option ℕ) (cut : Option (List Rel)) (old mid : Option (List ℕ)) (count : ℕ)
-    → one.problem ≡ order.problem → one.from ≡ order.start → wanted ≡ Some 0 → IsPutTo order one.at old mid count before wanted → IsStop one other cut
+    → one.problem ≡ order.problem → one.from ≡ order.start → wanted ≡ Some 0 → IsPutTo order one.at old mid count before wanted → IsListingStop one other cut
     → IsPutToCut order old mid cut count
 put_stopped order one other before wanted cut old mid count same start none so_far stop =
     let came = stop.came in
@@ -134,7 +134,7 @@ put_stopped order one other before wanted cut old mid count same start none so_f
     (subst (λ ws. AreUpTo order other.at (so_far.nodes ++ []) ws) (append-nil so_far.worlds) (up_to_more order one.at other.at so_far.nodes so_far.worlds [] [] so_far.up_to passes)) in
     by cut stop.stands up (lasts_still order one.at other.at passes so_far.lasts)
   where
-    by : (cut : Option (List Rel)) → StandsAt other cut → AreUpTo order other.at so_far.nodes so_far.worlds → LastsTo order other.at → IsPutToCut order old mid cut count
+    by : (cut : Option (List Rel)) → StopsAt other cut → AreUpTo order other.at so_far.nodes so_far.worlds → LastsTo order other.at → IsPutToCut order old mid cut count
     by None stands up lasts =
         let all : AreUpTo order None so_far.nodes so_far.worlds = subst (λ at. AreUpTo order at so_far.nodes so_far.worlds) stands up in
         record { worlds = so_far.worlds; cut_is = cut_none order (subst (LastsTo order) stands lasts); exactly = all.worlds_are; put = so_far.put; counted = so_far.counted }
@@ -234,10 +234,10 @@ stop_world one other left table came =
     let empty : came.nodes ≡ [] = none_passed (Some 0) left came.nodes refl came.counted in
     no_world_passed one.problem one.at other.at table (subst (λ ns. Passes one.problem one.at other.at ns (table ∷ [])) empty came.passed)
 
-pub stop_node : (one other : SearchState) (left : Option ℕ) (node : List Rel) → Came one other (Some 0) left [] → IsNext other node → IsStop one other (Some node)
+pub stop_node : (one other : SearchState) (left : Option ℕ) (node : List Rel) → Came one other (Some 0) left [] → IsNext other node → IsListingStop one other (Some node)
 stop_node one other left node came next = record { left = left; came = came; stands = next }
 
-pub stop_end : (one other : SearchState) (left : Option ℕ) → Came one other (Some 0) left [] → other.at ≡ None → IsStop one other None
+pub stop_end : (one other : SearchState) (left : Option ℕ) → Came one other (Some 0) left [] → other.at ≡ None → IsListingStop one other None
 stop_end one other left came end = record { left = left; came = came; stands = end }
 
 pub ruleset stop_rules = (stop_node, stop_end)

@@ -16,7 +16,7 @@ use Rattle.run_ends.specs.Ends.{world_line}
 use Rattle.outer_store.specs.States.{SinkState}
 use Rattle.listing_run.specs.declared.listing.Listed.{Listed}
 use Rattle.listing_run.specs.declared.Order.{Order}
-use Rattle.world_watch.specs.Held.{count_of}
+use Rattle.world_model.specs.Saturated.{count_of}
 use Rattle.listing_run.specs.Output.{last_line}
 use Rattle.listing_run.specs.Putting.{IsPutToCut, IsPutPartly}
 use Rattle.listing_run.specs.Logged.{LogMoves, IsListedIn}

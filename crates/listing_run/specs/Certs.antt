@@ -19,8 +19,8 @@ pub record IsPrunedCert (p : Problem) (from : List Rel) (to : Option (List Rel))
   pub alive : AllBranchesAlive (listing_tree p from) (Going 1 (start p)) lines
 
 -- bytes that are a certificate of a listing: so it is of them where they are no more than are checked
-abbrev pub IsCertOf : Problem → List Rel → Option (List Rel) → List (List Rel) → List ℕ → Type 0
-IsCertOf p from to worlds bytes = length bytes ≤ 2 ^ 36 → IsPrunedCert p from to worlds bytes
+abbrev pub IsListingCert : Problem → List Rel → Option (List Rel) → List (List Rel) → List ℕ → Type 0
+IsListingCert p from to worlds bytes = length bytes ≤ 2 ^ 36 → IsPrunedCert p from to worlds bytes
 
 -- the lines of the tree of such a certificate stand, one each, at exactly the shown nodes below its end, ascending
 abbrev pub CertLinesAreNodes : Type 0

@@ -14,7 +14,7 @@ use Rattle.listing_run.specs.declared.listing.Listed.{Listed}
 use Rattle.listing_run.specs.declared.listing.Met.{Met}
 use Rattle.listing_run.specs.declared.listing.Met.TheVariants as met
 use Rattle.listing_run.specs.declared.Order.{Order}
-use Rattle.listing_run.specs.Certs.{IsCertOf}
+use Rattle.listing_run.specs.Certs.{IsListingCert}
 use Rattle.listing_run.specs.Putting.{IsPutToCut, IsPutPartly}
 
 -- what a step leaves of a log: a failure only where its count rose, and else no count that moved
@@ -48,7 +48,7 @@ pub record IsListedIn {L : Type 0} (lines : L → Told) (faults : L → ℕ) (st
 abbrev pub IsCertLeft : Problem → List Rel → Option (List Rel) → Option (List ℕ) → Contents → Contents → Type 0
 IsCertLeft p from to None held held' = ⊤
 IsCertLeft p from to (Some name) held held' =
-    IfSome (held name) (λ _. (bytes : List ℕ) × (held' name ≡ Some bytes) × ((worlds : List (List Rel)) → IsListing p from to worlds → IsCertOf p from to worlds bytes))
+    IfSome (held name) (λ _. (bytes : List ℕ) × (held' name ≡ Some bytes) × ((worlds : List (List Rel)) → IsListing p from to worlds → IsListingCert p from to worlds bytes))
 
 -- what a listing leaves on a sink and in a store, with the name of its certificate, if there is one
 pub record IsListedWith (order : Order) (cert : Option (List ℕ)) (result : Result Listed StoreFault) (store store' : StoreState) (sink sink' : SinkState) : Type 0 where

@@ -10,7 +10,7 @@ use Rattle.cleantax_text.specs.declared.TextKind.{TextKind}
 use Rattle.cleantax_text.specs.Reading.{text_result}
 use Rattle.resume_token.specs.declared.TokenKind.{TokenKind}
 use Rattle.resume_token.specs.Token.{token_text, token_result}
-use Rattle.world_watch.specs.Held.{count_of}
+use Rattle.world_model.specs.Saturated.{count_of}
 use Rattle.run_ends.specs.declared.Status.{Status}
 use Rattle.run_ends.specs.declared.Status.TheVariants.{Done, RefusedText, Cut, NoWorld, RefusedToken}
 use Rattle.run_ends.specs.Ends.{line_of, world_line, complete_line, end_line}
@@ -19,7 +19,7 @@ use Rattle.run_ends.specs.Runs.{File, Names}
 use Rattle.run_ends.specs.Runs.{file_under}
 use Rattle.listing_run.specs.declared.Asking.{Asking}
 use Rattle.listing_run.specs.declared.Order.{Order}
-use Rattle.listing_run.specs.Certs.{IsCertOf}
+use Rattle.listing_run.specs.Certs.{IsListingCert}
 
 -- the last line of a listing of so many worlds that stopped before its end
 abbrev pub cut_line : ℕ → List ℕ
@@ -35,11 +35,11 @@ abbrev pub listing_text : Option (List Rel) → List (List Rel) → List ℕ
 listing_text cut worlds = flat_map world_line worlds ++ last_line cut (count_of worlds)
 
 -- a good end: where the listing was cut; NoWorld where it began at the empty position and there is no world
-abbrev pub listing_status : List Rel → Option (List Rel) → List (List Rel) → Status
-listing_status start (Some cut) worlds = Cut cut
-listing_status [] None [] = NoWorld
-listing_status [] None (world ∷ worlds) = Done
-listing_status (rel ∷ rels) None worlds = Done
+abbrev pub listing_end : List Rel → Option (List Rel) → List (List Rel) → Status
+listing_end start (Some cut) worlds = Cut cut
+listing_end [] None [] = NoWorld
+listing_end [] None (world ∷ worlds) = Done
+listing_end (rel ∷ rels) None worlds = Done
 
 -- the token of a cut under its name, told where the name tells its bytes
 abbrev pub token_under : Problem → Option (List ℕ) → Option (List Rel) → Contents → List File
@@ -54,9 +54,9 @@ pub record IsListed (order : Order) (cert token : Option (List ℕ)) (held : Con
   pub worlds : List (List Rel)
   pub exactly : IsListing order.problem order.start cut worlds
   pub put : text ≡ listing_text cut worlds
-  pub ended : status ≡ listing_status order.start cut worlds
+  pub ended : status ≡ listing_end order.start cut worlds
   pub bytes : Option (List ℕ)
-  pub certified : IfSome cert (λ name. IfSome (held name) (λ _. IfSome bytes (IsCertOf order.problem order.start cut worlds)))
+  pub certified : IfSome cert (λ name. IfSome (held name) (λ _. IfSome bytes (IsListingCert order.problem order.start cut worlds)))
   pub written : files ≡ file_under cert bytes ++ token_under order.problem token cut held
 
 -- the start of a listing: the position of the token, if one is given, and else the empty one

@@ -13,7 +13,7 @@ use Rattle.listing_run.specs.declared.listing.Met.{Met}
 use Rattle.listing_run.specs.declared.listing.Met.TheVariants as met
 use Rattle.listing_run.specs.declared.Order.{Order}
 use Rattle.run_ends.specs.Ends.{world_line}
-use Rattle.world_watch.specs.Held.{count_of}
+use Rattle.world_model.specs.Saturated.{count_of}
 use Rattle.listing_run.specs.Output.{listing_text}
 
 -- just these nodes and these worlds stand from the start on and below a place, which is not before the start
@@ -60,20 +60,20 @@ IsOrder order = length order.start ≤ pair_count order.problem
 
 -- what a search without an end meets: a world, right behind which it then stands; the next node, where none may be visited; or the
 -- end, where all nodes are passed
-abbrev pub IsMet : SearchState → SearchState → Option ℕ → Option ℕ → Met → Type 0
-IsMet one other before left (met.World table) = Came one other before left (table ∷ []) × StandsBehind other table
-IsMet one other before left (met.Cut node) = Came one other before left [] × (left ≡ Some 0) × IsNext other node
-IsMet one other before left met.End = Came one other before left [] × (other.at ≡ None)
+abbrev pub MeetsNext : SearchState → SearchState → Option ℕ → Option ℕ → Met → Type 0
+MeetsNext one other before left (met.World table) = Came one other before left (table ∷ []) × StandsBehind other table
+MeetsNext one other before left (met.Cut node) = Came one other before left [] × (left ≡ Some 0) × IsNext other node
+MeetsNext one other before left met.End = Came one other before left [] × (other.at ≡ None)
 
 -- where a search stands that passed no node: at a node, or past all of them
-abbrev pub StandsAt : SearchState → Option (List Rel) → Type 0
-StandsAt s None = s.at ≡ None
-StandsAt s (Some node) = IsNext s node
+abbrev pub StopsAt : SearchState → Option (List Rel) → Type 0
+StopsAt s None = s.at ≡ None
+StopsAt s (Some node) = IsNext s node
 
-pub record IsStop (one other : SearchState) (cut : Option (List Rel)) : Type 0 where
+pub record IsListingStop (one other : SearchState) (cut : Option (List Rel)) : Type 0 where
   pub left : Option ℕ
   pub came : Came one other (Some 0) left []
-  pub stands : StandsAt other cut
+  pub stands : StopsAt other cut
 
 -- tables that list in the place of a search: nobody counts nodes, some world may be put, and they begin at the start
 pub record AreTablesFor (order : Order) (tables : TablesState) : Type 0 where

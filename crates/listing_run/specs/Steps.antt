@@ -56,7 +56,7 @@ pub record IsAskable (asking : Asking) : Type 0 where
   pub two : AreApart asking.cert asking.token
 
 -- an order that can be carried out, with the names for its certificate and its token
-pub record IsReady (order : Order) (cert token : Option (List ℕ)) : Type 0 where
+pub record IsListingReady (order : Order) (cert token : Option (List ℕ)) : Type 0 where
   pub as_read : IsAsRead order.problem
   pub within : IsOrder order
   pub limited : IfNone token ((order.nodes ≡ None) × (order.worlds ≡ None))

@@ -11,7 +11,7 @@ ghost use Rattle.listing_run.specs.Output.{cut_line, written_names};
 ghost use Rattle.run_ends.specs.Ends.{complete_line};
 ghost use Rattle.outer_store.specs.States.{IsQuiet};
 ghost use Rattle.run_ends.specs.Runs.{LeavesPiece, IsCarriedOut};
-ghost use Rattle.listing_run.specs.Steps.{status_at, IsReady, IsCutEnded, IsEnded, order_answers};
+ghost use Rattle.listing_run.specs.Steps.{status_at, IsListingReady, IsCutEnded, IsEnded, order_answers};
 
 use crate::Order;
 use crate::certified::put_listing;
@@ -21,14 +21,8 @@ use constraint_set::Problem;
 use outer_store::{Sink, Store, StoreFault};
 use rcc5_core::Position;
 use resume_token::print_token;
-use run_ends::{Status, put_line};
+use run_ends::{Status, put_complete, put_line};
 use std::alloc::{AllocError, Global};
-
-fn complete_words(alloc: Global, count: u64) -> Result<String, AllocError>
-    ensures { IfOk result (λ words. string_bytes words ++ 10 ∷ [] ≡ complete_line count) }
-{
-    format!(in alloc; "complete {count}")
-}
 
 fn cut_words(alloc: Global, count: u64) -> Result<String, AllocError>
     ensures { IfOk result (λ words. string_bytes words ++ 10 ∷ [] ≡ cut_line count) }
@@ -57,8 +51,7 @@ fn end_whole<W: Sink>(
     ensures ended { IfOk result (λ status. status ≡ status_at start.now None count) }
     ensures put { LeavesPiece result (complete_line count) (W.state out.old) (W.state out.new) }
 {
-    let words = complete_words(alloc, count)?;
-    put_line(alloc, out, words.as_bytes())?;
+    put_complete(alloc, out, count)?;
     Ok(whole_status(start, count))
 }
 
@@ -150,7 +143,7 @@ pub(crate) fn carry_out<S: Store, W: Sink>(
     cert: &Option<Word>,
     token: &Option<Word>,
 ) -> Result<Status, StoreFault>
-    requires { IsReady order.now cert.now token.now }
+    requires { IsListingReady order.now cert.now token.now }
     ensures { IsCarriedOut (order_answers order.now cert.now token.now) result (written_names cert.now token.now) (S.state store.old) (S.state store.new) (W.state out.old) (W.state out.new) }
 {
     let listed = put_listing(alloc, store, out, order, cert)?;

@@ -52,7 +52,7 @@ fn put_lines<W: Sink, L: TreeLog>(
     Ok(listed)
 }
 
-// The same. That the log is the same one still is a clause of its own, since what a log over a store leaves of it hangs on that.
+// Puts the lines of a listing and of its certificate. That the log is the same one still is a clause of its own, since what a log over a store leaves of it hangs on that.
 fn put_with_log<W: Sink, L: TreeLog>(
     alloc: Global,
     out: &mut W,
@@ -66,7 +66,7 @@ fn put_with_log<W: Sink, L: TreeLog>(
     put_lines(alloc, out, order, log)
 }
 
-// The same, and the certificate is what the name then holds.
+// Puts the lines of a listing, and the certificate is what the name then holds.
 fn put_certified<S: Store, W: Sink>(
     alloc: Global,
     store: &mut S,

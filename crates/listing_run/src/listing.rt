@@ -1,13 +1,12 @@
 //! The listing of worlds on a sink, within a budget: by a table of all points where nobody counts nodes, and else by the search.
-ghost use Rattle.std.specs.Prelude.{◌≡◌, ◌≢◌, ◌++◌, [], ◌∷◌, None, Some, codes, decimal, map, string_bytes, IfOk, IfSome, OnOk, OnErr, IsTrue, ◌↔◌};
-ghost use Rattle.rcc5_core.specs.Relation.{letter_of};
+ghost use Rattle.std.specs.Prelude.{◌≡◌, [], None, IfOk, IfSome, OnOk, OnErr};
 ghost use Rattle.constraint_set.specs.Shape.{shape_of};
 ghost use Rattle.point_query.specs.Asking.{IsNewAsker};
-ghost use Rattle.world_search.specs.Logging.{step_fault, KeepsOn, AddsLines};
-ghost use Rattle.world_search.specs.Searching.{begun, Came, FellBy};
+ghost use Rattle.world_search.specs.Logging.{KeepsOn, AddsLines};
+ghost use Rattle.world_search.specs.Searching.{begun, Came};
 ghost use Rattle.run_ends.specs.Ends.{world_line};
 ghost use Rattle.run_ends.specs.Runs.{Leaves, LeavesPiece};
-ghost use Rattle.listing_run.specs.Putting.{IsPutTo, IsPutToCut, IsPutPartly, IsMet, IsStop, IsOrder};
+ghost use Rattle.listing_run.specs.Putting.{IsPutTo, IsPutToCut, IsPutPartly, MeetsNext, IsListingStop, IsOrder};
 ghost use Rattle.world_search.specs.Told.{IsToldTo};
 ghost use Rattle.listing_run.specs.Logged.{LogMoves, MetAt, IsListedIn};
 
@@ -16,10 +15,11 @@ use crate::table_listing::{put_tables, tables_for};
 use cert_text::{NoLog, TreeLog};
 use outer_store::{Sink, StoreFault};
 use point_query::Asker;
+use proof_text::put_letters;
 use rcc5_core::Position;
 use run_ends::put_line;
 use std::alloc::{AllocError, Global};
-use world_search::{Nodes, Search, Step, StepFault, TableStep};
+use world_search::{Nodes, Search, Step, TableStep, is_spent, one_less, store_fault};
 
 /// How many worlds were put, up to the last value of a u64, and the node before which the budget was used up, if any.
 #[derive(Drop)]
@@ -37,18 +37,12 @@ pub(crate) enum Met {
     End,
 }
 
-// The letters of a table.
-fn letters_of(alloc: Global, world: &Position) -> Result<Vec<u8>, AllocError>
-    ensures { IfOk result (λ letters. letters.items ≡ map letter_of world.now) }
-{
-    world.rels().iter().map(|rel| rel.letter()).collect(alloc)
-}
-
 // Puts the line of a world.
 fn put_world<W: Sink>(alloc: Global, out: &mut W, world: &Position) -> Result<(), StoreFault>
     ensures { LeavesPiece result (world_line world.now) (W.state out.old) (W.state out.new) }
 {
-    let letters = letters_of(alloc, world)?;
+    let mut letters = Vec::new(alloc);
+    put_letters(&mut letters, world.rels())?;
     put_line(alloc, out, &letters)
 }
 
@@ -63,7 +57,7 @@ fn next_unlogged(
     requires problem { search.old.problem ≡ order.now.problem }
     requires shape { asker.old.shape ≡ shape_of order.now.problem }
     requires unbounded { search.old.to ≡ None }
-    ensures met { IfOk result (IsMet search.old search.new nodes.old.left nodes.new.left) }
+    ensures met { IfOk result (MeetsNext search.old search.new nodes.old.left nodes.new.left) }
     ensures err { OnErr result (Came search.old search.new nodes.old.left nodes.new.left []) }
     ensures asker { asker.new.shape ≡ asker.old.shape }
     ensures none_waits { OnOk result (asker.new.solver.waiting ≡ []) }
@@ -72,16 +66,6 @@ fn next_unlogged(
         TableStep::World(table) => Ok(Met::World(table)),
         TableStep::Spent(node) => Ok(Met::Cut(node)),
         TableStep::End(_) => Ok(Met::End),
-    }
-}
-
-// A fault of a step as one of a listing.
-fn store_fault(fault: StepFault) -> StoreFault
-    ensures { step_fault result ≡ fault }
-{
-    match fault {
-        StepFault::LogFailed => StoreFault::Failed,
-        StepFault::NoMemory => StoreFault::NoMemory,
     }
 }
 
@@ -97,7 +81,7 @@ fn next_logged<L: TreeLog>(
     requires problem { search.old.problem ≡ order.now.problem }
     requires shape { asker.old.shape ≡ shape_of order.now.problem }
     requires unbounded { search.old.to ≡ None }
-    ensures met { IfOk result (IsMet search.old search.new nodes.old.left nodes.new.left) }
+    ensures met { IfOk result (MeetsNext search.old search.new nodes.old.left nodes.new.left) }
     ensures err { OnErr result (Came search.old search.new nodes.old.left nodes.new.left []) }
     ensures asker { asker.new.shape ≡ asker.old.shape }
     ensures none_waits { OnOk result (asker.new.solver.waiting ≡ []) }
@@ -125,7 +109,7 @@ fn next_met<L: TreeLog>(
     requires problem { search.old.problem ≡ order.now.problem }
     requires shape { asker.old.shape ≡ shape_of order.now.problem }
     requires unbounded { search.old.to ≡ None }
-    ensures met { IfOk result (IsMet search.old search.new nodes.old.left nodes.new.left) }
+    ensures met { IfOk result (MeetsNext search.old search.new nodes.old.left nodes.new.left) }
     ensures err { OnErr result (Came search.old search.new nodes.old.left nodes.new.left []) }
     ensures asker { asker.new.shape ≡ asker.old.shape }
     ensures none_waits { OnOk result (asker.new.solver.waiting ≡ []) }
@@ -140,24 +124,6 @@ fn next_met<L: TreeLog>(
     next_logged(order, asker, search, nodes, log)
 }
 
-/// One world fewer may be put.
-pub(crate) fn one_less(left: Option<u64>) -> Option<u64>
-    requires { left ≢ Some 0 }
-    ensures { FellBy left result 1 }
-{
-    match left {
-        None => None,
-        Some(left) => Some(left - 1),
-    }
-}
-
-/// Whether no world may be put any more.
-pub(crate) fn is_spent(left: Option<u64>) -> bool
-    ensures { IsTrue result ↔ (left ≡ Some 0) }
-{
-    matches!(left, Some(0))
-}
-
 // Where the limit of worlds is reached: the node that is next, if any. No node is visited.
 #[tactic(auto, using(crate::proofs::ListingLemmas::stop_rules))]
 fn put_stop<L: TreeLog>(
@@ -169,7 +135,7 @@ fn put_stop<L: TreeLog>(
     requires problem { search.old.problem ≡ order.now.problem }
     requires shape { asker.old.shape ≡ shape_of order.now.problem }
     requires unbounded { search.old.to ≡ None }
-    ensures stop { IfOk result (IsStop search.old search.new) }
+    ensures stop { IfOk result (IsListingStop search.old search.new) }
     ensures none_waits { OnOk result (asker.new.solver.waiting ≡ []) }
     ensures keeps { OnOk result (KeepsOn order.now.problem search.old.from (L.lines log.old) (L.lines log.new) asker.old asker.new search.old.expects search.new.expects) }
     ensures told { OnOk result (AddsLines (L.lines log.old) (L.lines log.new)) }
@@ -223,7 +189,7 @@ fn put_found_worlds<W: Sink, L: TreeLog>(
     Ok(Listed { count, cut })
 }
 
-// The same from the order's start, by a new asker of its problem.
+// Puts the worlds from the order's start on, by a new asker of its problem.
 fn put_worlds_from<W: Sink, L: TreeLog>(
     alloc: Global,
     out: &mut W,
@@ -259,7 +225,7 @@ pub(crate) fn put_logged_worlds<W: Sink, L: TreeLog>(
     put_worlds_from(alloc, out, order, &mut asker, start, log)
 }
 
-/// The same with no log. Where nobody counts nodes, and the problem has not too many points, a table of all points lists them.
+/// Puts the worlds of an order with no log. Where nobody counts nodes, and the problem has not too many points, a table of all points lists them.
 #[tactic(auto, using(crate::proofs::ListingLemmas::partly_nothing))]
 pub(crate) fn put_worlds<W: Sink>(
     alloc: Global,

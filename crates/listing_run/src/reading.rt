@@ -6,7 +6,7 @@ ghost use Rattle.outer_store.specs.States.{IsQuiet};
 ghost use Rattle.run_ends.specs.Runs.{IsEarlyEnd};
 ghost use Rattle.run_ends.specs.Reads.{IsRefused, ComesOf, IsWithout};
 ghost use Rattle.listing_run.specs.Output.{ComesTo, listing_names, IsListingAnswer};
-ghost use Rattle.listing_run.specs.Steps.{start_in, token_end, IsStart, IsWithoutStart, IsAskable, IsReady};
+ghost use Rattle.listing_run.specs.Steps.{start_in, token_end, IsStart, IsWithoutStart, IsAskable, IsListingReady};
 
 use crate::{Asking, Order};
 use command_line::Word;
@@ -88,7 +88,7 @@ pub(crate) fn order_of<S: Store>(
 ) -> Result<Order, Status>
     requires { IsAskable asking.now }
     ensures order { IfOk result (λ order. ComesTo asking.now (S.state store.old).held (Ok order)) }
-    ensures ready { IfOk result (λ order. IsReady order asking.now.cert asking.now.token) }
+    ensures ready { IfOk result (λ order. IsListingReady order asking.now.cert asking.now.token) }
     ensures quiet { OnOk result (IsQuiet (S.state store.old) (S.state store.new)) }
     ensures ended { IfErr result (λ status. IsEarlyEnd (listing_names asking.now) (IsListingAnswer asking.now) status (S.state store.old) (S.state store.new)) }
     ensures kept { (S.state store.new).held ≡ (S.state store.old).held }

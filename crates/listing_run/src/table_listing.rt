@@ -8,13 +8,13 @@ ghost use Rattle.run_ends.specs.Runs.{Leaves};
 ghost use Rattle.listing_run.specs.Putting.{IsPutToCut, IsPutPartly, IsOrder, AreTablesFor};
 
 use crate::Order;
-use crate::listing::{Listed, is_spent, one_less};
+use crate::listing::Listed;
 use constraint_set::Problem;
 use outer_store::{Sink, StoreFault};
 use rcc5_core::{Position, Rel};
 use std::alloc::{AllocError, Global};
 use table_walk::Tables;
-use world_search::node_behind;
+use world_search::{is_spent, node_behind, one_less};
 
 /// A table for an order, if nobody counts nodes, a world may be put, and the problem has not too many points.
 pub(crate) fn tables_for(alloc: Global, order: &Order) -> Result<Option<Tables>, AllocError>

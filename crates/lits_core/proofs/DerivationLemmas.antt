@@ -45,7 +45,7 @@ hint-no_end bits falses (lit ∷ lits) further t f next e =
       | inr other ↦ let fault : Some HintNotUnit ≡ None = rw other at e in cc
     ]
 
--- the same for what a hint names
+-- and neither does what a hint names, where its clause is true
 named-no_end : (bits : List Bool) (falses : List ℕ) (named : Option (List ℕ)) (further : ℕ → Option LineFault) → ((clause : List ℕ) → named ≡ Some clause → clause_true bits clause ≡ true) → clause_true bits falses ≡ false → ((lit : ℕ) → clause_true bits (negation_of lit ∷ falses) ≡ false → further lit ≡ None → ⊥) → named_fault named falses further ≡ None → ⊥
 named-no_end bits falses None further live f next e = cc
 named-no_end bits falses (Some clause) further live f next e =

@@ -1,7 +1,7 @@
 //! Literals, clauses, bits and derivation lines.
 #![tactic(auto)]
 
-ghost use Rattle.std.specs.Prelude.{◌≡◌, ◌+◌, ◌*◌, ◌^◌, ◌<◌, ◌↔◌, Bool, true, false, [], length, IfOk, IsTrue, replicate, slice_set, slice_index_or};
+ghost use Rattle.std.specs.Prelude.{◌≡◌, ◌+◌, ◌*◌, ◌^◌, ◌<◌, Bool, true, false, length, IfOk, replicate, slice_set, slice_index_or};
 ghost use Rattle.lits_core.specs.Literals.{literal_of, variable_of, is_negative, negation_of, lit_true};
 ghost use Rattle.lits_core.specs.Derivation.{DerivedClausesFollow, IdsStayDistinct, LiteralsAreSets};
 
@@ -145,12 +145,6 @@ impl Bits {
         ensures { result ≡ length self.now }
     {
         self.bits.len()
-    }
-
-    pub fn is_empty(&self) -> bool
-        ensures { IsTrue result ↔ (self.now ≡ []) }
-    {
-        self.bits.is_empty()
     }
 
     pub fn get(&self, place: usize) -> bool

@@ -130,7 +130,7 @@ fn search(solver: &mut Solver, alloc: Global, splits: u32) -> Result<(bool, usiz
     Ok((false, learnt))
 }
 
-// The same for the formula that these words are.
+// The answer for the formula that these words are.
 fn answer(alloc: Global, words: &[&str], splits: u32) -> Result<Option<(bool, usize)>, AllocError> {
     let ["p", "cnf", variables, _, numbers @ ..] = words else {
         return Ok(None);

@@ -10,7 +10,7 @@ use Rattle.rcc5_core.specs.declared.RelSet.{RelSet}
 use Rattle.rcc5_core.specs.RelationSet.{has, no_rels, adding}
 use Rattle.world_model.specs.Problem.{Problem, cross_pairs}
 use Rattle.world_model.specs.Questions.{IsMet, IsPossibleRelation}
-use Rattle.point_ladder.proofs.ByItself.{at_end}
+use Rattle.point_ladder.proofs.AliveAlone.{at_end}
 use Rattle.point_query.proofs.Choosing.{has_none}
 use Rattle.mir_report.specs.Possible.{ArePossibleSets}
 use Rattle.mir_report.specs.Steps.{AllPossible, AreSeen}

@@ -24,7 +24,7 @@ use Rattle.point_ladder.specs.Alone.{IsAliveAlone, AreAliveAlone}
 use Rattle.mir_report.specs.Possible.{ArePossibleSets}
 use Rattle.mir_report.specs.Steps.{HasPossible, AreCandidates}
 use Rattle.mir_report.proofs.Laws.{possible_is_met, refused_is_impossible, cross_within}
-use Rattle.point_ladder.proofs.ByItself.{at_end}
+use Rattle.point_ladder.proofs.AliveAlone.{at_end}
 
 -- a possible relation keeps the problem alive where the pair is narrowed to it
 alive_candidates : (p : Problem) (count : ℕ) (sets : List RelSet) → count ≤ pair_count p → AreAliveAlone p count sets → AreCandidates p count sets

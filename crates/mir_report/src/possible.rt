@@ -132,7 +132,7 @@ fn settle_rel<L: TreeLog>(
     search_rel(alloc, problem, pair, rel, families, asker, log)
 }
 
-// The same where the pair allows the relation. Else it is not possible, and nothing is claimed.
+// Whether a relation of a pair is possible, asked where the pair allows it. Else it is not, and nothing is claimed.
 fn settle_if_allowed<L: TreeLog>(
     alloc: Global,
     problem: &Problem,

@@ -19,7 +19,7 @@ use Rattle.world_model.proofs.PointOnce.{at_empty}
 use Rattle.point_query.specs.Answers.{IsServedByFew}
 use Rattle.point_query.proofs.Querying.{same_met}
 use Rattle.split_search.specs.Choosing.{IsMetBy}
-use Rattle.pick_search.specs.Picking.{IsClash, IsPicked, IsReady, made_bits}
+use Rattle.pick_search.specs.Picking.{IsClash, IsPicked, ArePicksRuled, made_bits}
 use Rattle.pick_search.specs.declared.picks.Pick.{Pick}
 
 -- picks that make a problem dead clash
@@ -66,6 +66,6 @@ given_stays follow law old new goes bits =
     sym (same_met law bits (state_after old.state goes.added).given new.state.given goes.leads.after.same_given) ∙ ap (meets_all bits) (follow.given_stay old.state goes.added)
 
 -- where no bits make them true, no family meets the problem
-pub refuted : DerivedClausesFollow → LiteralsAreSets → (p : Problem) (pairs : List ℕ) (old new : SolverState) (id : ℕ) → IsReady p pairs old → GoesTo old new → IsRefutation new [] id → IsMet p → ⊥
+pub refuted : DerivedClausesFollow → LiteralsAreSets → (p : Problem) (pairs : List ℕ) (old new : SolverState) (id : ℕ) → ArePicksRuled p pairs old → GoesTo old new → IsRefutation new [] id → IsMet p → ⊥
 refuted follow law p pairs old new id ready goes refutation met =
     refutation.hopeless (made_bits p pairs met.0) (given_stays follow law old new goes (made_bits p pairs met.0) ∙ ready.ruled met.0 met.1) refl

@@ -23,7 +23,7 @@ use Rattle.world_model.specs.Problem.{Problem}
 use Rattle.world_model.proofs.PointAlive.{related}
 use Rattle.world_model.proofs.PointRules.{met_parts}
 use Rattle.point_query.proofs.Querying.{same_met}
-use Rattle.pick_search.specs.Picking.{IsClash, IsReady, IsRule, Makes, ban_clause, made_bits, pick_variable, rel_number, relation_at}
+use Rattle.pick_search.specs.Picking.{IsClash, ArePicksRuled, IsRule, Makes, ban_clause, made_bits, pick_variable, rel_number, relation_at}
 use Rattle.pick_search.specs.declared.picks.Pick.{Pick}
 
 -- relations have different numbers, below five
@@ -108,8 +108,8 @@ ban_true p pairs picks clash within f met = elim (cases_Bool (clause_true (made_
             none_there picks (or_none (lit_true (made_bits p pairs f) (is_not (pick_variable pick.place pick.rel))) (clause_true (made_bits p pairs f) (ban_clause picks)) fails).1 k d (omega (arith, within))
 
 -- one more given clause
-pub ready_more : LiteralsAreSets → (p : Problem) (pairs : List ℕ) (old new : SolverState) (lits : List ℕ) → IsReady p pairs old → AddsGiven old new lits →
-    ((f : Family) → IsTrue (meets p f) → clause_true (made_bits p pairs f) lits ≡ true) → IsReady p pairs new
+pub ready_more : LiteralsAreSets → (p : Problem) (pairs : List ℕ) (old new : SolverState) (lits : List ℕ) → ArePicksRuled p pairs old → AddsGiven old new lits →
+    ((f : Family) → IsTrue (meets p f) → clause_true (made_bits p pairs f) lits ≡ true) → ArePicksRuled p pairs new
 ready_more law p pairs old new lits ready adds holds = record {
   variables = adds.variables ∙ ready.variables;
   derived = none new.state.derived (subst (λ ds. SameDerived ds new.state.derived) ready.derived adds.given.same_derived);

@@ -13,8 +13,8 @@ use Rattle.rcc5_core.specs.declared.Rel.TheVariants.{Disjoint, Equals, IncludedI
 use Rattle.pick_search.specs.declared.picks.Clash.{Clash}
 use Rattle.pick_search.specs.declared.picks.Pick.{Pick}
 use Rattle.pick_search.specs.declared.known.Known.{Known}
-use Rattle.pick_search.specs.declared.search.Turn.{Turn}
-use Rattle.pick_search.specs.declared.search.Turn.TheVariants.{Done, Lost, On}
+use Rattle.pick_search.specs.declared.search.RoundEnd.{RoundEnd}
+use Rattle.pick_search.specs.declared.search.RoundEnd.TheVariants.{Done, Lost, On}
 use Rattle.split_search.specs.Choosing.{IsChoice}
 use Rattle.world_model.specs.Family.{Family, meets, set_of}
 use Rattle.world_model.specs.Node.{pair_at}
@@ -69,7 +69,7 @@ abbrev pub ban_clause : List Pick → List ℕ
 ban_clause picks = map (λ pick. is_not (pick_variable pick.place pick.rel)) picks
 
 -- clauses that each family makes true which meets a problem have been given to a solver, which has derived none
-pub record IsReady (p : Problem) (pairs : List ℕ) (s : SolverState) : Type 0 where
+pub record ArePicksRuled (p : Problem) (pairs : List ℕ) (s : SolverState) : Type 0 where
   pub variables : s.variables ≡ 5 * length pairs
   pub derived : s.state.derived ≡ []
   pub waiting : s.waiting ≡ []
@@ -91,7 +91,7 @@ pub record IsKnown (p : Problem) (known : Known) : Type 0 where
   pub clashes : AreClashes p known.pairs.items known.clashes.items
 
 -- what a turn is done with is right
-abbrev pub IsTurn : Problem → Turn → Type 0
+abbrev pub IsTurn : Problem → RoundEnd → Type 0
 IsTurn p (Done choice) = IsChoice p choice
 IsTurn p On = Unit {0}
 IsTurn p Lost = Unit {0}

@@ -68,7 +68,7 @@ fn is_dead_with(
     Ok(!alive)
 }
 
-// The same where it may be so; else it is not asked.
+// Whether picks are dead together, where they may be; else it is not asked.
 fn is_dead_if(
     alloc: Global,
     may_be: bool,

@@ -1,7 +1,7 @@
 //! What the solver is given: each pair has a relation that it allows, and no clash is picked.
 ghost use Rattle.cert_model.specs.Clauses.{is_so};
 ghost use Rattle.lits_core.specs.Literals.{literal_of};
-ghost use Rattle.pick_search.specs.Picking.{AreClashes, IsClash, IsReady, IsRule, ban_clause, pick_variable};
+ghost use Rattle.pick_search.specs.Picking.{AreClashes, IsClash, ArePicksRuled, IsRule, ban_clause, pick_variable};
 ghost use Rattle.rcc5_core.specs.RelationSet.{has};
 ghost use Rattle.rcc5_core.specs.declared.Rel.{Rel};
 ghost use Rattle.std.specs.Prelude.{All, Contains, IfNone, IfOk, IfSome, IsTrue, OnOk, [], length, ℕ, ◌*◌, ◌+◌, ◌<◌, ◌≡◌, ◌≤◌, ◌^◌};
@@ -79,8 +79,8 @@ fn give_rule(
     requires few { length pairs.now ≤ MAX_PAIRS }
     requires pairs { All (λ pair. pair < pair_count problem.now) pairs.now }
     requires place { place < length pairs.now }
-    requires ready { IsReady problem.now pairs.now solver.old }
-    ensures { OnOk result (IsReady problem.now pairs.now solver.new) }
+    requires ready { ArePicksRuled problem.now pairs.now solver.old }
+    ensures { OnOk result (ArePicksRuled problem.now pairs.now solver.new) }
 {
     law_literals_are_sets();
     let lits = rule(alloc, place, problem.allowed(pairs[place]))?;
@@ -98,8 +98,8 @@ fn give_ban(
 ) -> Result<(), AllocError>
     requires few { length pairs.now ≤ MAX_PAIRS }
     requires clash { IsClash problem.now pairs.now clash.now.picks.items }
-    requires ready { IsReady problem.now pairs.now solver.old }
-    ensures { OnOk result (IsReady problem.now pairs.now solver.new) }
+    requires ready { ArePicksRuled problem.now pairs.now solver.old }
+    ensures { OnOk result (ArePicksRuled problem.now pairs.now solver.new) }
 {
     law_literals_are_sets();
     let found = ban(alloc, pairs.len(), &clash.picks)?;
@@ -119,8 +119,8 @@ fn give_rules(
 ) -> Result<(), AllocError>
     requires few { length pairs.now ≤ MAX_PAIRS }
     requires pairs { All (λ pair. pair < pair_count problem.now) pairs.now }
-    requires ready { IsReady problem.now pairs.now solver.old }
-    ensures { OnOk result (IsReady problem.now pairs.now solver.new) }
+    requires ready { ArePicksRuled problem.now pairs.now solver.old }
+    ensures { OnOk result (ArePicksRuled problem.now pairs.now solver.new) }
 {
     for place in 0..pairs.len() {
         give_rule(alloc, solver, problem, pairs, place)?;
@@ -138,8 +138,8 @@ fn give_bans(
 ) -> Result<(), AllocError>
     requires few { length pairs.now ≤ MAX_PAIRS }
     requires clashes { AreClashes problem.now pairs.now clashes.now }
-    requires ready { IsReady problem.now pairs.now solver.old }
-    ensures { OnOk result (IsReady problem.now pairs.now solver.new) }
+    requires ready { ArePicksRuled problem.now pairs.now solver.old }
+    ensures { OnOk result (ArePicksRuled problem.now pairs.now solver.new) }
 {
     for clash in clashes {
         give_ban(alloc, solver, problem, pairs, clash)?;

@@ -29,7 +29,7 @@ const TIDY_TURNS: usize = 64;
 
 /// What a turn comes to.
 #[derive(Drop)]
-pub(crate) enum Turn {
+pub(crate) enum RoundEnd {
     /// A family meets the problem, or none does.
     Done(Choice),
     /// Something more clashes.
@@ -82,7 +82,7 @@ fn try_next(
     known: &mut Vec<Clash>,
     own: &mut Vec<Clash>,
     asker: &mut Asker,
-) -> Result<Turn, AllocError>
+) -> Result<RoundEnd, AllocError>
     requires shape { asker.old.shape ≡ shape_of problem.now }
     requires part { IsPartOf problem.now wide.now }
     requires few { length pairs.now ≤ MAX_PAIRS }
@@ -96,18 +96,18 @@ fn try_next(
 {
     let found = next_picks(alloc, problem, pairs, known, own)?;
     let Some(picks) = found else {
-        return Ok(Turn::Done(Choice::Refuted));
+        return Ok(RoundEnd::Done(Choice::Refuted));
     };
     let node = picked(alloc, problem, pairs, &picks)?;
     if !are_whole(&node) {
-        return Ok(Turn::Lost);
+        return Ok(RoundEnd::Lost);
     }
     let met = family_of(alloc, &node, asker)?;
     match met {
-        Some(family) => Ok(Turn::Done(Choice::Met(family))),
+        Some(family) => Ok(RoundEnd::Done(Choice::Met(family))),
         None => {
             note_clash(alloc, wide, problem, pairs, picks, &node, known, own, asker)?;
-            Ok(Turn::On)
+            Ok(RoundEnd::On)
         }
     }
 }
@@ -162,15 +162,15 @@ fn take_turns(
             asker,
         )?;
         match next {
-            Turn::Done(choice) => return Ok(Some(choice)),
-            Turn::On => {}
-            Turn::Lost => return Ok(None),
+            RoundEnd::Done(choice) => return Ok(Some(choice)),
+            RoundEnd::On => {}
+            RoundEnd::Lost => return Ok(None),
         }
     }
     Ok(None)
 }
 
-// The same where all sets are whole: then no pair is picked for.
+// The choice where all sets are whole: then no pair is picked for.
 fn choose_at_once(alloc: Global, problem: &Problem, asker: &mut Asker) -> Result<Choice, AllocError>
     requires shape { asker.old.shape ≡ shape_of problem.now }
     requires whole { IsTrue (all_whole problem.now) }
@@ -185,7 +185,7 @@ fn choose_at_once(alloc: Global, problem: &Problem, asker: &mut Asker) -> Result
     }
 }
 
-// The same by a walk.
+// The choice by a walk.
 fn choose_by_walk(alloc: Global, problem: &Problem, asker: &mut Asker) -> Result<Choice, AllocError>
     requires shape { asker.old.shape ≡ shape_of problem.now }
     ensures shape { asker.new.shape ≡ asker.old.shape }
@@ -197,7 +197,7 @@ fn choose_by_walk(alloc: Global, problem: &Problem, asker: &mut Asker) -> Result
     }
 }
 
-// The same by picks, and where these take too many turns by a walk.
+// The choice by picks, and where these take too many turns by a walk.
 fn decide(
     alloc: Global,
     wide: &Problem,

@@ -37,7 +37,7 @@ abbrev pub IsSought : AskerState → Problem → List Rel → List Need → Soug
 IsSought asker p m needs (Points found places) = AreServed p m needs found.items places.items
 IsSought asker p m needs (Closed need id) = IsStopped asker p m needs need id
 
--- the same for all needs of a prefix
+-- what is sought for all needs of a prefix
 pub record IsSoughtAt (asker : AskerState) (p : Problem) (m : List Rel) (sought : Sought) : Type 0 where
   pub list : List Need
   pub all : map (need_seen p) list ≡ needs (problem_at p m)

@@ -1,2 +1,3 @@
 pub mod Needs
 pub mod Numbers
+pub mod Selectors

@@ -18,9 +18,9 @@ IsInRange p (Region pair part) = (pair < pair_count p) × (part < 3)
 IsInRange p (Concept c) = c < concept_count p
 
 -- its number: three a pair, then the concepts
-abbrev pub number_of : Problem → Need → ℕ
-number_of p (Region pair part) = 3 * pair + part
-number_of p (Concept c) = 3 * pair_count p + c
+abbrev pub need_number : Problem → Need → ℕ
+need_number p (Region pair part) = 3 * pair + part
+need_number p (Concept c) = 3 * pair_count p + c
 
 -- the literals that are there, in order
 abbrev pub lits_there : Option ℕ → Option ℕ → List ℕ

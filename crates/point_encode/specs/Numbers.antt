@@ -1,5 +1,5 @@
 -- The needs of a problem by their numbers, and points that serve them.
-use Rattle.cert_model.specs.Forced.{region_with}
+use Rattle.cert_model.specs.Forced.{need_at, region_with}
 use Rattle.point_encode.specs.declared.numbers.Wanted.{Wanted}
 use Rattle.point_encode.specs.declared.numbers.Wanted.TheVariants.{Concept, Region}
 use Rattle.rcc5_core.specs.Region.{same_word, word_at}
@@ -13,11 +13,6 @@ use Rattle.world_model.specs.Points.{forced_at}
 use Rattle.world_model.specs.Problem.{Problem, concept_count, pair_count}
 use Rattle.rcc5_core.specs.declared.Region as regions
 
--- the need with a number: the regions of the pairs come first, three a pair, then the concepts
-abbrev pub need_at : Problem → ℕ → Need
-need_at p number =
-    if nat_lt number (3 * pair_count p) then InRegion (pair_at p (number / 3)) (region_with (number % 3)) else InConcept (number - 3 * pair_count p)
-
 -- whether the need with a number is one
 abbrev pub is_needed : Problem → ℕ → Bool
 is_needed p number =
@@ -30,10 +25,6 @@ one_need p number = if is_needed p number then need_at p number ∷ [] else []
 abbrev pub needs_below : Problem → ℕ → List Need
 needs_below p n = flat_map (one_need p) (range_with_len 0 n)
 
--- how many needs may be
-abbrev pub need_count : Problem → ℕ
-need_count p = 3 * pair_count p + concept_count p
-
 -- the need that is meant
 abbrev pub wanted_seen : Wanted → Need
 wanted_seen (Region x y part) = InRegion (x, y) (region_with part)
@@ -43,12 +34,6 @@ wanted_seen (Concept c) = InConcept c
 abbrev pub IsBelow : ℕ → Wanted → Type 0
 IsBelow n (Region x y part) = (x < n) × (y < n)
 IsBelow n (Concept c) = c < n
-
--- whether a point lies in a region of a pair, by whether it is in the left concept and in the right one
-abbrev pub lies_by : regions.Region → Bool → Bool → Bool
-lies_by LeftOnly left right = left && not right
-lies_by Both left right = left && right
-lies_by RightOnly left right = not left && right
 
 -- each need has the point beside it
 abbrev pub EachServed : Problem → List Need → List (List Bool) → Type 0

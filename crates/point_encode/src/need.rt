@@ -1,12 +1,12 @@
-//! Needs by number and by literals.
+//! The needs of a prefix, and their literals.
 ghost use Rattle.std.specs.Prelude.{◌≡◌, ◌+◌, ◌*◌, ◌<◌, ◌≤◌, ◌↔◌, ◌++◌, length, map, filter, All, Contains, IfOk, IfSome, IsTrue, OnOk, Some, slice_index_or, None, option_map};
 ghost use Rattle.rcc5_core.specs.declared.Occupancy.TheVariants.{Occupied};
 ghost use Rattle.rcc5_core.specs.Region.{all_regions, word_at, same_word};
 ghost use Rattle.world_model.specs.Problem.{concepts, pair_count};
 ghost use Rattle.world_model.specs.Node.{pair_at};
 ghost use Rattle.world_model.specs.Alive.{InConcept, needs, needs_at, problem_at};
-ghost use Rattle.cert_model.specs.Forced.{need_with, need_lits, region_with};
-ghost use Rattle.point_encode.specs.Needs.{need_seen, number_of, lits_there, IsInRange};
+ghost use Rattle.cert_model.specs.Forced.{need_lits, region_with};
+ghost use Rattle.point_encode.specs.Needs.{need_seen, lits_there, IsInRange};
 
 use crate::select::forced_at;
 use constraint_set::Problem;
@@ -91,36 +91,6 @@ pub fn need_lits(problem: &Problem, need: Need) -> [Option<Lit>; 2]
             let (x, y) = problem.pair_at(pair);
             [Some(Lit::new(x, part == 2)), Some(Lit::new(y, part == 0))]
         }
-    }
-}
-
-/// The number of a need: three a pair, then the concepts.
-pub fn need_number(problem: &Problem, need: Need) -> u64
-    requires { IsInRange problem.now need }
-    ensures number { result ≡ number_of problem.now need }
-    ensures of { need_with problem.now result ≡ Some (need_seen problem.now need) }
-{
-    match need {
-        Need::Region { pair, part } => 3 * u64::from(pair) + u64::from(part),
-        Need::Concept(concept) => 3 * u64::from(problem.pair_count()) + u64::from(concept),
-    }
-}
-
-/// The need with a number. None exactly where there is none.
-pub fn need_of(problem: &Problem, number: u64) -> Option<Need>
-    ensures value { option_map (need_seen problem.now) result ≡ need_with problem.now number }
-    ensures range { IfSome result (IsInRange problem.now) }
-    ensures number { IfSome result (λ need. number_of problem.now need ≡ number) }
-{
-    let regions = 3 * u64::from(problem.pair_count());
-    if number < regions {
-        let pair = (number / 3) as u32;
-        let part = (number % 3) as u8;
-        Some(Need::Region { pair, part })
-    } else if number < regions + u64::from(problem.concept_count()) {
-        Some(Need::Concept((number - regions) as u32))
-    } else {
-        None
     }
 }
 

@@ -1,10 +1,10 @@
 //! The needs of a problem by their numbers, and the regions that they speak of.
-ghost use Rattle.cert_model.specs.Forced.{region_with};
-ghost use Rattle.point_encode.specs.Needs.{IsInRange, need_seen, number_of};
-ghost use Rattle.point_encode.specs.Numbers.{IsBelow, lies_by, need_at, need_count, wanted_seen};
+ghost use Rattle.cert_model.specs.Forced.{need_at, need_count, need_with, region_with};
+ghost use Rattle.point_encode.specs.Needs.{IsInRange, need_number, need_seen};
+ghost use Rattle.point_encode.specs.Numbers.{IsBelow, wanted_seen};
 ghost use Rattle.rcc5_core.specs.Region.{word_at};
-ghost use Rattle.std.specs.Prelude.{length, ◌<◌, ◌≡◌, ◌≤◌};
-ghost use Rattle.world_model.specs.Alive.{is_in_need};
+ghost use Rattle.std.specs.Prelude.{IfSome, Some, length, option_map, ◌<◌, ◌≡◌, ◌≤◌};
+ghost use Rattle.world_model.specs.Alive.{is_in_need, lies_by};
 ghost use Rattle.world_model.specs.Problem.{concept_count, pair_count};
 
 use crate::need::Need;
@@ -101,6 +101,7 @@ pub fn need_at(problem: &Problem, number: u32) -> Need
     requires { number < need_count problem.now }
     ensures value { need_seen problem.now result ≡ need_at problem.now number }
     ensures range { IsInRange problem.now result }
+    ensures number { need_number problem.now result ≡ number }
 {
     let pairs = problem.pair_count();
     let pair = number / 3;
@@ -114,10 +115,23 @@ pub fn need_at(problem: &Problem, number: u32) -> Need
     }
 }
 
-/// The number of a need.
-pub fn number_of(problem: &Problem, need: Need) -> u32
+/// The need with a number. None exactly where there is none.
+pub fn need_of(problem: &Problem, number: u64) -> Option<Need>
+    ensures value { option_map (need_seen problem.now) result ≡ need_with problem.now number }
+    ensures range { IfSome result (IsInRange problem.now) }
+    ensures number { IfSome result (λ need. need_number problem.now need ≡ number) }
+{
+    if number >= u64::from(count_needs(problem)) {
+        return None;
+    }
+    Some(need_at(problem, number as u32))
+}
+
+/// The number of a need: three a pair, then the concepts.
+pub fn need_number(problem: &Problem, need: Need) -> u32
     requires { IsInRange problem.now need }
-    ensures { result ≡ number_of problem.now need }
+    ensures number { result ≡ need_number problem.now need }
+    ensures of { need_with problem.now result ≡ Some (need_seen problem.now need) }
 {
     let pairs = count_pairs(problem);
     match need {

@@ -12,7 +12,8 @@ use Rattle.world_model.proofs.Members.{all_at, all_from}
 use Rattle.world_model.proofs.PointSets.{In-all_regions}
 use Rattle.bit_rows.specs.declared.words.Cells.{Cells}
 use Rattle.bit_rows.specs.Rows.{SomePlace, BitRows, bit_in, in_cells, all_cells, other_cells}
-use Rattle.point_ladder.specs.Ladders.{lies_by, is_left_by, is_occupied, AreWithin, Satisfies, AreMet, left_at, IsNarrowed, cell_of, AreSeen, HasEmpty}
+use Rattle.world_model.specs.Alive.{lies_by, avoids_by}
+use Rattle.point_ladder.specs.Ladders.{is_occupied, AreWithin, Satisfies, AreRegionsMet, left_at, IsNarrowed, cell_of, AreSeen, HasEmpty}
 
 -- a place of one row is one of another
 pub some_alike : (f g : ℕ → Bool) → ((k : ℕ) → f k ≡ true → g k ≡ true) → SomePlace f → SomePlace g
@@ -55,7 +56,7 @@ one_region RightOnly Both true b h e = absurd (false≢true h)
 one_region RightOnly Both false b h e = absurd (false≢true e)
 
 -- what lies in a region that is occupied may be there
-occupied_left : (words : Regions) (region : Region) (a b : Bool) → is_occupied words region ≡ true → lies_by region a b ≡ true → is_left_by words a b ≡ true
+occupied_left : (words : Regions) (region : Region) (a b : Bool) → is_occupied words region ≡ true → lies_by region a b ≡ true → avoids_by words a b ≡ true
 occupied_left words region a b occupied lies =
     all_from (λ other. not (same_word (word_at words other) Empty && lies_by other a b)) all_regions
     (λ other i. out (same_word (word_at words other) Empty) (lies_by other a b) (λ there. full (word_at words other) (ap (is_occupied words) (one_region region other a b lies there) ∙ occupied)))
@@ -79,16 +80,16 @@ others_not cells false false = refl
 
 -- cells are those that words leave
 abbrev pub AreKept : Cells → Regions → Type 0
-AreKept kept words = (a b : Bool) → in_cells kept a b ≡ is_left_by words a b
+AreKept kept words = (a b : Bool) → in_cells kept a b ≡ avoids_by words a b
 
 -- what words say of two sets loses none of some places
 abbrev pub LosesNone : (ℕ → Bool) → (ℕ → Bool) → Regions → (ℕ → Bool) → Type 0
-LosesNone l r words f = (k : ℕ) → f k ≡ true → is_left_by words (l k) (r k) ≡ true
+LosesNone l r words f = (k : ℕ) → f k ≡ true → avoids_by words (l k) (r k) ≡ true
 
 -- whether words lose places of a row, by a test of the cells that it does not leave
 pub none_lost : (l r : ℕ → Bool) (words : Regions) (row f : ℕ → Bool) (kept lost : Cells) (met : Bool) → AreKept kept words → lost ≡ other_cells kept → ((k : ℕ) → row k ≡ f k) →
     (IsTrue met ↔ SomePlace (λ k. row k && row k && in_cells lost (l k) (r k))) → met ≡ false → LosesNone l r words f
-none_lost l r words row f kept lost met are is shows tells missed k h = elim (cases_Bool (is_left_by words (l k) (r k))) [
+none_lost l r words row f kept lost met are is shows tells missed k h = elim (cases_Bool (avoids_by words (l k) (r k))) [
   | inl there ↦ there
   | inr out ↦
       let there : row k ≡ true = shows k ∙ h in
@@ -97,27 +98,27 @@ none_lost l r words row f kept lost met are is shows tells missed k h = elim (ca
 ]
 
 -- places in the occupied regions are left
-pub met_left : (rows : BitRows) (l r : ℕ → Bool) (words : Regions) → AreMet words l r (bit_in rows 0) → AreMet words l r (left_at rows l r words)
+pub met_left : (rows : BitRows) (l r : ℕ → Bool) (words : Regions) → AreRegionsMet words l r (bit_in rows 0) → AreRegionsMet words l r (left_at rows l r words)
 met_left rows l r words met region occupied =
     let some = met region occupied in
     let k = some.place in
     let parts = and_parts (bit_in rows 0 k) (lies_by region (l k) (r k)) some.passes in
     record {
       place = k;
-      passes = and_from (left_at rows l r words k) (lies_by region (l k) (r k)) (and_from (bit_in rows 0 k) (is_left_by words (l k) (r k)) parts.0 (occupied_left words region (l k) (r k) occupied parts.1)) parts.1;
+      passes = and_from (left_at rows l r words k) (lies_by region (l k) (r k)) (and_from (bit_in rows 0 k) (avoids_by words (l k) (r k)) parts.0 (occupied_left words region (l k) (r k) occupied parts.1)) parts.1;
     }
 
-pub met_mask : (words : Regions) (l r f g : ℕ → Bool) → AreWithin f g → AreMet words l r f → AreMet words l r g
+pub met_mask : (words : Regions) (l r f g : ℕ → Bool) → AreWithin f g → AreRegionsMet words l r f → AreRegionsMet words l r g
 met_mask words l r f g within met region occupied =
     some_alike (λ k. f k && lies_by region (l k) (r k)) (λ k. g k && lies_by region (l k) (r k))
     (λ k h. let parts = and_parts (f k) (lies_by region (l k) (r k)) h in and_from (g k) (lies_by region (l k) (r k)) (within k parts.0) parts.1) (met region occupied)
 
 pub left_within : (rows : BitRows) (l r : ℕ → Bool) (words : Regions) → AreWithin (left_at rows l r words) (bit_in rows 0)
-left_within rows l r words k h = (and_parts (bit_in rows 0 k) (is_left_by words (l k) (r k)) h).0
+left_within rows l r words k h = (and_parts (bit_in rows 0 k) (avoids_by words (l k) (r k)) h).0
 
 -- three regions
 pub met_by_three : (words : Regions) (l r f : ℕ → Bool) → (is_occupied words LeftOnly ≡ true → SomePlace (λ k. f k && lies_by LeftOnly (l k) (r k))) → (is_occupied words Both ≡ true → SomePlace (λ k. f k && lies_by Both (l k) (r k))) →
-    (is_occupied words RightOnly ≡ true → SomePlace (λ k. f k && lies_by RightOnly (l k) (r k))) → AreMet words l r f
+    (is_occupied words RightOnly ≡ true → SomePlace (λ k. f k && lies_by RightOnly (l k) (r k))) → AreRegionsMet words l r f
 met_by_three words l r f a b c LeftOnly = a
 met_by_three words l r f a b c Both = b
 met_by_three words l r f a b c RightOnly = c
@@ -134,14 +135,14 @@ satisfies_more rows n f g within s = record {
 pub left_satisfies : (rows : BitRows) (l r : ℕ → Bool) (words : Regions) (kept : Cells) → AreKept kept words → Satisfies rows rows.count (bit_in rows 0) → LosesNone l r words (bit_in rows 1) →
     ((q : ℕ) → 2 ≤ q → q < rows.count → SomePlace (λ k. bit_in rows q k && bit_in rows 0 k && in_cells kept (l k) (r k))) → Satisfies rows rows.count (left_at rows l r words)
 left_satisfies rows l r words kept are s none each = record {
-  must = λ k h. and_from (bit_in rows 0 k) (is_left_by words (l k) (r k)) (s.must k h) (none k h);
+  must = λ k h. and_from (bit_in rows 0 k) (avoids_by words (l k) (r k)) (s.must k h) (none k h);
   open_rows = λ q low small.
       let some = each q low small in
       let k = some.place in
       let parts = three_parts (bit_in rows q k) (bit_in rows 0 k) (in_cells kept (l k) (r k)) some.passes in
       record {
         place = k;
-        passes = and_from (bit_in rows q k) (left_at rows l r words k) parts.0 (and_from (bit_in rows 0 k) (is_left_by words (l k) (r k)) parts.1 (sym (are (l k) (r k)) ∙ parts.2));
+        passes = and_from (bit_in rows q k) (left_at rows l r words k) parts.0 (and_from (bit_in rows 0 k) (avoids_by words (l k) (r k)) parts.1 (sym (are (l k) (r k)) ∙ parts.2));
       };
 }
 
@@ -151,18 +152,17 @@ left_open rows l r words kept are s q low small =
     let some = s.open_rows q low small in
     let k = some.place in
     let parts = and_parts (bit_in rows q k) (left_at rows l r words k) some.passes in
-    let both = and_parts (bit_in rows 0 k) (is_left_by words (l k) (r k)) parts.1 in
+    let both = and_parts (bit_in rows 0 k) (avoids_by words (l k) (r k)) parts.1 in
     record { place = k; passes = three_from (bit_in rows q k) (bit_in rows 0 k) (in_cells kept (l k) (r k)) parts.0 both.0 (are (l k) (r k) ∙ both.1) }
 
 pub must_left : (rows : BitRows) (l r : ℕ → Bool) (words : Regions) → Satisfies rows rows.count (left_at rows l r words) → LosesNone l r words (bit_in rows 1)
-must_left rows l r words s k h = (and_parts (bit_in rows 0 k) (is_left_by words (l k) (r k)) (s.must k h)).1
+must_left rows l r words s k h = (and_parts (bit_in rows 0 k) (avoids_by words (l k) (r k)) (s.must k h)).1
 
 -- where no place is lost and the occupied regions have places that have to stay, the rows are as before
-pub same_narrowed : (rows : BitRows) (l r : ℕ → Bool) (words : Regions) → 2 ≤ rows.count → LosesNone l r words (bit_in rows 0) → AreMet words l r (bit_in rows 1) → IsNarrowed rows rows l r words
-same_narrowed rows l r words two none met = record {
-  rows_two = two;
+pub same_narrowed : (rows : BitRows) (l r : ℕ → Bool) (words : Regions) → LosesNone l r words (bit_in rows 0) → AreRegionsMet words l r (bit_in rows 1) → IsNarrowed rows rows l r words
+same_narrowed rows l r words none met = record {
   width = refl;
-  mask = λ k. kept (bit_in rows 0 k) (is_left_by words (l k) (r k)) (none k);
+  mask = λ k. kept (bit_in rows 0 k) (avoids_by words (l k) (r k)) (none k);
   owes = λ some within. (
     λ s. (s, met_mask words l r (bit_in rows 1) some s.must met),
     λ h. h.0,
@@ -189,11 +189,11 @@ needless_by_other rows last other some low small inside s =
 pub not_met : (met : Bool) → met ≡ false → IsTrue met → ⊥
 not_met met off on = true≢false (sym on ∙ off)
 
-pub met_shown : (words others : Regions) (l r f g : ℕ → Bool) → others ≡ words → AreWithin f g → AreMet others l r f → AreMet words l r g
-met_shown words others l r f g same within met = subst (λ ws. AreMet ws l r g) same (met_mask others l r f g within met)
+pub met_shown : (words others : Regions) (l r f g : ℕ → Bool) → others ≡ words → AreWithin f g → AreRegionsMet others l r f → AreRegionsMet words l r g
+met_shown words others l r f g same within met = subst (λ ws. AreRegionsMet ws l r g) same (met_mask others l r f g within met)
 
 pub left_all : (rows : BitRows) (l r : ℕ → Bool) (words : Regions) → LosesNone l r words (bit_in rows 0) → AreWithin (bit_in rows 0) (left_at rows l r words)
-left_all rows l r words none k h = and_from (bit_in rows 0 k) (is_left_by words (l k) (r k)) h (none k h)
+left_all rows l r words none k h = and_from (bit_in rows 0 k) (avoids_by words (l k) (r k)) h (none k h)
 
 pub in_all : (cells : Cells) (a b : Bool) → cells ≡ all_cells → in_cells cells a b ≡ true
 in_all cells a b is = ap (λ x. in_cells x a b) is ∙ each a b
@@ -220,7 +220,7 @@ open_all rows sides cells is each q low small =
     (λ k h. and_from (bit_in rows q k && bit_in rows 0 k) (in_cells cells (sides k) (sides k)) h (in_all cells (sides k) (sides k) is)) (each q low small)
 
 -- regions that are occupied, by the cells in which places lie
-pub met_by_cells : (words : Regions) (row l r : ℕ → Bool) (cells : Cells) → AreSeen row l r cells → ((region : Region) → is_occupied words region ≡ true → cell_of cells region ≡ true) ↔ AreMet words l r row
+pub met_by_cells : (words : Regions) (row l r : ℕ → Bool) (cells : Cells) → AreSeen row l r cells → ((region : Region) → is_occupied words region ≡ true → cell_of cells region ≡ true) ↔ AreRegionsMet words l r row
 met_by_cells words row l r cells are = (
   λ each region occupied. (are region).0 (each region occupied),
   λ met region occupied. (are region).1 (met region occupied),

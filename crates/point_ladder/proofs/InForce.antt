@@ -1,49 +1,13 @@
 -- Stretches of a path and the frames in force along them, as the path grows and shrinks.
-use Rattle.std.proofs.Common.{◌≡◌, ℕ, ◌+◌, ◌-◌, ◌<◌, ◌≤◌, ◌↔◌, Bool, true, List, [], ◌∷◌, ◌++◌, length, get_or, take, inl, inr, sym, ap, ◌∙◌, subst, arith}
-use Rattle.std.specs.Prelude.{IsTrue}
-use Rattle.std.proofs.lemmas.Bool.{cases_lt, cases_eq}
+use Rattle.std.proofs.Common.{◌≡◌, ℕ, ◌+◌, ◌-◌, ◌<◌, ◌≤◌, Bool, List, [], ◌∷◌, ◌++◌, length, get_or, take, inl, inr, sym, ap, ◌∙◌, subst, arith}
+use Rattle.std.proofs.lemmas.Bool.{cases_lt}
 use Rattle.std.proofs.lemmas.List.{length-append, get_or_append_left, get_or_push, get_or-take, get_or_default}
 use Rattle.rcc5_core.specs.declared.Rel.{Rel}
-use Rattle.rcc5_core.specs.declared.RelSet.{RelSet}
-use Rattle.world_model.specs.Problem.{Problem, concept_count}
-use Rattle.world_model.specs.Alive.{problem_at, IsAlive}
-use Rattle.world_model.specs.Trial.{points_by_trial}
-use Rattle.world_model.proofs.PointOnce.{at_empty}
-use Rattle.world_model.proofs.PointPositions.{prefix_is_alive}
-use Rattle.bit_rows.specs.Rows.{BitRows, bit_in}
-use Rattle.point_table.specs.Table.{AreRowsOf}
+use Rattle.world_model.specs.Problem.{Problem}
+use Rattle.world_model.specs.Alive.{problem_at}
 use Rattle.point_ladder.specs.declared.stretches.Stretch.{Stretch}
-use Rattle.point_ladder.specs.Stretches.{stretch_at, HasFrames, IsCut, IsLadder}
+use Rattle.point_ladder.specs.Stretches.{stretch_at, HasFrames, IsCut}
 use Rattle.point_ladder.specs.Ladders.{IsFrame}
-use Rattle.point_ladder.proofs.Ladders.{side_bits}
-use Rattle.point_ladder.proofs.Serving.{ShowsPair}
-
--- rows of a pair's concepts show the bits of its points
-pub shows_pair : (p : Problem) (rows : BitRows) (l r : ℕ → Bool) (pair other : ℕ × ℕ) → AreRowsOf p rows → pair ≡ other → pair.0 < pair.1 → pair.1 < concept_count p →
-    ((k : ℕ) → l k ≡ bit_in rows pair.0 k) → ((k : ℕ) → r k ≡ bit_in rows pair.1 k) → ShowsPair other (points_by_trial p) l r
-shows_pair p rows l r pair other are is order within left right = record {
-  left = side_bits p rows l pair.0 other.0 are (omega (arith, order, within)) (ap (λ (q : ℕ × ℕ). q.0) is) left;
-  right = side_bits p rows r pair.1 other.1 are within (ap (λ (q : ℕ × ℕ). q.1) is) right;
-}
-
--- an alive path begins at an alive start
-pub alive_start : (p q : Problem) (sets : List RelSet) (rows : BitRows) (line : List Rel) (len : ℕ) (nexts : List ℕ) (stretches : List Stretch) (alive : Bool) →
-    IsLadder p q sets rows line len nexts stretches alive → IsAlive (problem_at q (take len line)) → alive ≡ true
-alive_start p q sets rows line len nexts stretches alive is lives = is.start.1 (subst (λ r. IsAlive r) (at_empty q) (prefix_is_alive q [] (take len line) lives))
-
--- whether the path of a ladder is alive
-pub alive_by_ladder : (p q : Problem) (sets : List RelSet) (rows : BitRows) (line : List Rel) (len : ℕ) (nexts : List ℕ) (stretches : List Stretch) (alive : Bool) →
-    IsLadder p q sets rows line len nexts stretches alive → IsTrue alive ↔ IsAlive (problem_at q (take len line))
-alive_by_ladder p q sets rows line len nexts stretches alive is = (
-  λ h. elim (cases_eq len 0) [
-    | inl none ↦ subst (λ n. IsAlive (problem_at q (take n line))) (sym none) (subst (λ r. IsAlive r) (sym (at_empty q)) (is.start.0 h))
-    | inr some ↦ is.here (more len some)
-  ],
-  alive_start p q sets rows line len nexts stretches alive is,
-)
-  where
-    more : (n : ℕ) → (n ≡ 0 → ⊥) → 0 < n
-    more n h = elim (cases_lt 0 n) [ inl small ↦ small | inr large ↦ absurd (h (omega (arith, large))) ]
 
 -- the frame in force
 pub last_frame : (q : Problem) (points : List (List Bool)) (line : List Rel) (stretches : List Stretch) (len i : ℕ) (stretch : Stretch) → HasFrames q points line stretches len → i + 1 ≡ length stretches →

@@ -1,11 +1,11 @@
 -- The line of relations of a ladder, the pairs that it may go along, and the frames in force along its path.
 use Rattle.std.specs.Prelude.{◌≡◌, ℕ, ◌+◌, ◌-◌, ◌<◌, ◌≤◌, ◌↔◌, Bool, true, List, [], length, take, slice_index_or, IsTrue}
 use Rattle.rcc5_core.specs.declared.Rel.{Rel}
-use Rattle.rcc5_core.specs.declared.Rel.TheVariants.{Equals}
 use Rattle.rcc5_core.specs.declared.RelSet.{RelSet}
 use Rattle.rcc5_core.specs.RelationSet.{only, every_rel}
 use Rattle.world_model.specs.Problem.{Problem, pair_count}
 use Rattle.world_model.specs.Alive.{problem_at, IsAlive}
+use Rattle.world_model.specs.Listing.{rel_at}
 use Rattle.world_model.specs.Trial.{points_by_trial}
 use Rattle.bit_rows.specs.Rows.{BitRows}
 use Rattle.point_table.specs.Points.{AreAllowed}
@@ -39,10 +39,6 @@ pub record IsCut (old new : List Stretch) (len : ℕ) : Type 0 where
   pub begins : new ≡ take (length new) old
   pub low : 0 < length new → (stretch_at new (length new - 1)).from ≤ len
   pub high : length new < length old → len < (stretch_at old (length new)).from
-
--- the relation of a line at a pair
-abbrev pub rel_at : List Rel → ℕ → Rel
-rel_at line k = slice_index_or line k Equals
 
 -- for each set the next one from it on that is not just the line's relation, or the end
 pub record AreNexts (sets : List RelSet) (line : List Rel) (nexts : List ℕ) : Type 0 where

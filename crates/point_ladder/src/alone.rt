@@ -6,6 +6,7 @@ ghost use Rattle.point_ladder.specs.Bounds.{AreBounds};
 ghost use Rattle.point_ladder.specs.Alone.{IsAliveAlone, AreAliveAlone};
 
 use crate::bounds::{Bounds, bound};
+use crate::sides::sides_of;
 use crate::start::begin;
 use bit_rows::Rows;
 use constraint_set::Problem;
@@ -23,9 +24,8 @@ fn alone(problem: &Problem, rows: &Rows, bounds: &Bounds, pair: u32) -> RelSet
     if !bounds.alive {
         return RelSet::none();
     }
-    let (left, right) = problem.pair_at(pair);
-    let (left, right) = (rows.row(left as usize), rows.row(right as usize));
-    bound(&bounds.frame, left, right, bounds.sets[pair as usize])
+    let sides = sides_of(problem, rows, pair);
+    bound(&bounds.frame, &sides, bounds.sets[pair as usize])
 }
 
 /// For each of the first so many pairs the relations with which the problem is alive where just this pair is narrowed to one of them.

@@ -2,14 +2,16 @@
 ghost use Rattle.std.specs.Prelude.{◌≡◌, ◌∷◌, ◌<◌, ◌≤◌, true, length, take, IsTrue, IfOk};
 ghost use Rattle.rcc5_core.specs.RelationSet.{has};
 ghost use Rattle.rcc5_core.specs.Region.{row_of};
-ghost use Rattle.bit_rows.specs.Rows.{bit_in, has_bit};
+ghost use Rattle.bit_rows.specs.Rows.{has_bit};
 ghost use Rattle.point_table.specs.Table.{AreRowsOf};
-ghost use Rattle.point_ladder.specs.Ladders.{Satisfies, LeadsOn};
+ghost use Rattle.point_ladder.specs.Ladders.{IsAliveFrame, LeadsOn};
 ghost use Rattle.point_ladder.specs.Barren.{IsFreeAt, LiesNone, LiesNoneBy, AreNoneBy};
 
 use crate::bounds::bound;
-use crate::frame::{is_same, narrowed};
-use bit_rows::{Rows, first_place, has_bit};
+use crate::builder::narrowed;
+use crate::frame::{FIRST_OPEN, Frame};
+use crate::sides::sides_of;
+use bit_rows::{Rows, Sides, first_place, has_bit};
 use constraint_set::Problem;
 use lits_core::Bits;
 use rcc5_core::{Rel, RelSet};
@@ -62,19 +64,17 @@ fn point_of(ground: &Ground, place: usize) -> Result<Bits, AllocError> {
 }
 
 // Notes points that serve all rows of a frame: those that have to stay, and the first of each row of which one has to.
-fn note_found(ground: &Ground, frame: &Rows, effort: &mut Effort) -> Result<(), AllocError>
-    requires { 2 ≤ frame.now.count }
-{
+fn note_found(ground: &Ground, frame: &Frame, effort: &mut Effort) -> Result<(), AllocError> {
     if !effort.wanted {
         return Ok(());
     }
     let mut points = Vec::new(ground.alloc);
     for place in 0..frame.width().saturating_mul(64) {
-        if has_bit(frame.row(1), place) {
+        if has_bit(frame.must(), place) {
             points.push(point_of(ground, place)?)?;
         }
     }
-    for row in 2..frame.count() {
+    for row in FIRST_OPEN..frame.count() {
         if let Some(place) = first_place(frame.row(row)) {
             points.push(point_of(ground, place)?)?;
         }
@@ -97,8 +97,8 @@ fn note_failure(effort: &mut Effort, pair: u32) -> Result<(), AllocError> {
     Ok(())
 }
 
-/// Puts a pair before the others of an order that has it.
-pub(crate) fn put_first(order: &mut Vec<u32>, pair: u32) {
+/// Moves a pair before the others of an order that has it.
+pub(crate) fn move_to_front(order: &mut Vec<u32>, pair: u32) {
     if !order.contains(&pair) {
         return;
     }
@@ -123,10 +123,10 @@ pub(crate) fn led_by(alloc: Global, pair: u32, order: &[u32]) -> Result<Vec<u32>
     Ok(longer)
 }
 
-/// Puts some pairs before the others of an order, the last one first.
-pub(crate) fn put_all_first(order: &mut Vec<u32>, pairs: &[u32]) {
+/// Moves some pairs before the others of an order, the last one first.
+pub(crate) fn move_all_to_front(order: &mut Vec<u32>, pairs: &[u32]) {
     for pair in pairs {
-        put_first(order, *pair);
+        move_to_front(order, *pair);
     }
 }
 
@@ -145,43 +145,37 @@ fn is_free(ground: &Ground, at: usize, pair: u32) -> bool
 pub(crate) fn is_barren_by(
     ground: &Ground,
     at: usize,
-    frame: &Rows,
-    left: &[u64],
-    right: &[u64],
+    frame: &Frame,
+    sides: &Sides,
     rel: Rel,
     effort: &mut Effort,
 ) -> Result<bool, AllocError>
     requires rows { AreRowsOf ground.now.problem.now ground.now.rows.now }
     requires at { at ≤ length ground.now.order.now }
-    requires some { 0 < frame.now.width }
-    requires two { 2 ≤ frame.now.count }
-    requires leads { LeadsOn frame.now (has_bit left.now) (has_bit right.now) (row_of rel) }
-    ensures { IfOk result (λ none. none ≡ true → LiesNoneBy ground.now.problem.now ground.now.sets.now ground.now.from (take at ground.now.order.now) frame.now (has_bit left.now) (has_bit right.now) rel) }
+    requires leads { LeadsOn frame.now (has_bit sides.now.left.now) (has_bit sides.now.right.now) (row_of rel) }
+    ensures { IfOk result (λ none. none ≡ true → LiesNoneBy ground.now.problem.now ground.now.sets.now ground.now.from (take at ground.now.order.now) frame.now (has_bit sides.now.left.now) (has_bit sides.now.right.now) rel) }
 {
-    if is_same(frame, left, right, rel.row()) {
+    if frame.is_same(sides, rel.row()) {
         return is_barren(ground, at, frame, effort);
     }
-    let next = narrowed(ground.alloc, frame, left, right, rel.row(), FEW_COMPARED)?;
+    let next = narrowed(ground.alloc, frame, sides, rel.row(), FEW_COMPARED)?;
     is_barren(ground, at, &next, effort)
 }
 
-// The same for each relation of a set.
+// Whether no world lies behind a frame in which the pair at the place before has some relation of a set.
 #[cycle(barren)]
 fn are_barren(
     ground: &Ground,
     at: usize,
-    frame: &Rows,
-    left: &[u64],
-    right: &[u64],
+    frame: &Frame,
+    sides: &Sides,
     set: RelSet,
     effort: &mut Effort,
 ) -> Result<bool, AllocError>
     requires rows { AreRowsOf ground.now.problem.now ground.now.rows.now }
     requires at { at ≤ length ground.now.order.now }
-    requires some { 0 < frame.now.width }
-    requires two { 2 ≤ frame.now.count }
-    requires leads { (rel : Rel) → IsTrue (has set rel) → LeadsOn frame.now (has_bit left.now) (has_bit right.now) (row_of rel) }
-    ensures { IfOk result (λ none. none ≡ true → AreNoneBy ground.now.problem.now ground.now.sets.now ground.now.from (take at ground.now.order.now) frame.now (has_bit left.now) (has_bit right.now) set) }
+    requires leads { (rel : Rel) → IsTrue (has set rel) → LeadsOn frame.now (has_bit sides.now.left.now) (has_bit sides.now.right.now) (row_of rel) }
+    ensures { IfOk result (λ none. none ≡ true → AreNoneBy ground.now.problem.now ground.now.sets.now ground.now.from (take at ground.now.order.now) frame.now (has_bit sides.now.left.now) (has_bit sides.now.right.now) set) }
 {
     for rel in [
         Rel::Equals,
@@ -190,7 +184,7 @@ fn are_barren(
         Rel::Overlaps,
         Rel::Disjoint,
     ] {
-        if set.has(rel) && !is_barren_by(ground, at, frame, left, right, rel, effort)? {
+        if set.has(rel) && !is_barren_by(ground, at, frame, sides, rel, effort)? {
             return Ok(false);
         }
     }
@@ -202,14 +196,12 @@ fn are_barren(
 pub(crate) fn is_barren(
     ground: &Ground,
     at: usize,
-    frame: &Rows,
+    frame: &Frame,
     effort: &mut Effort,
 ) -> Result<bool, AllocError>
     requires rows { AreRowsOf ground.now.problem.now ground.now.rows.now }
     requires at { at ≤ length ground.now.order.now }
-    requires some { 0 < frame.now.width }
-    requires two { 2 ≤ frame.now.count }
-    requires lives { Satisfies frame.now frame.now.count (bit_in frame.now 0) }
+    requires alive { IsAliveFrame frame.now }
     ensures { IfOk result (λ none. none ≡ true → LiesNone ground.now.problem.now ground.now.sets.now ground.now.from (take at ground.now.order.now) frame.now) }
 {
     if at >= ground.order.len() {
@@ -228,14 +220,10 @@ pub(crate) fn is_barren(
         return Ok(false);
     }
     let old = ground.sets[pair as usize];
-    let (left, right) = ground.problem.pair_at(pair);
-    let (left, right) = (
-        ground.rows.row(left as usize),
-        ground.rows.row(right as usize),
-    );
-    let set = bound(frame, left, right, old);
+    let sides = sides_of(ground.problem, ground.rows, pair);
+    let set = bound(frame, &sides, old);
     if set.is_empty() {
         note_failure(effort, pair)?;
     }
-    are_barren(ground, at + 1, frame, left, right, set, effort)
+    are_barren(ground, at + 1, frame, &sides, set, effort)
 }

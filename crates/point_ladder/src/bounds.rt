@@ -4,15 +4,17 @@ ghost use Rattle.rcc5_core.specs.declared.Rel.{Rel};
 ghost use Rattle.rcc5_core.specs.RelationSet.{has};
 ghost use Rattle.world_model.specs.Problem.{pair_count};
 ghost use Rattle.world_model.specs.Trial.{points_by_trial};
-ghost use Rattle.bit_rows.specs.Rows.{has_bit, bit_in};
+ghost use Rattle.bit_rows.specs.Rows.{has_bit};
 ghost use Rattle.point_table.specs.Points.{AreAllowed};
 ghost use Rattle.point_table.specs.Table.{AreRowsOf};
-ghost use Rattle.point_ladder.specs.Ladders.{Satisfies, IsNarrowed, AreSeen};
+ghost use Rattle.point_ladder.specs.Ladders.{IsAliveFrame, IsNarrowed, IsSeen};
 ghost use Rattle.point_ladder.specs.Bounds.{AreBounds, IsAliveIn};
 
-use crate::frame::{MOST_COMPARED, is_same, leads_by, narrowed, seen};
+use crate::builder::{MOST_COMPARED, narrowed};
+use crate::frame::{Frame, Seen};
+use crate::sides::sides_of;
 use crate::start::{first_frame, is_alive};
-use bit_rows::{Cells, Rows};
+use bit_rows::{Rows, Sides};
 use constraint_set::Problem;
 use rcc5_core::{Regions, Rel, RelSet, forced};
 use std::alloc::{AllocError, Global};
@@ -24,7 +26,7 @@ pub(crate) struct Bounds {
     pub(crate) count: usize,
     pub(crate) alive: bool,
     /// Of use only if the problem is alive then.
-    pub(crate) frame: Rows,
+    pub(crate) frame: Frame,
 }
 
 // Whether two sets have the same relations.
@@ -59,55 +61,40 @@ pub(crate) fn no_bounds(
 }
 
 // Whether a set has a relation that leads on.
-fn has_alive(
-    frame: &Rows,
-    left: &[u64],
-    right: &[u64],
-    all: Cells,
-    must: Cells,
-    set: RelSet,
-    rel: Rel,
-) -> bool
-    requires two { 2 ≤ frame.now.count }
-    requires lives { Satisfies frame.now frame.now.count (bit_in frame.now 0) }
-    requires all { AreSeen (bit_in frame.now 0) (has_bit left.now) (has_bit right.now) all }
-    requires must { AreSeen (bit_in frame.now 1) (has_bit left.now) (has_bit right.now) must }
-    ensures { IsTrue result ↔ IsAliveIn frame.now (has_bit left.now) (has_bit right.now) set rel }
+fn has_alive(frame: &Frame, sides: &Sides, seen: Seen, set: RelSet, rel: Rel) -> bool
+    requires alive { IsAliveFrame frame.now }
+    requires seen { IsSeen frame.now (has_bit sides.now.left.now) (has_bit sides.now.right.now) seen }
+    ensures { IsTrue result ↔ IsAliveIn frame.now (has_bit sides.now.left.now) (has_bit sides.now.right.now) set rel }
 {
-    set.has(rel) && leads_by(frame, left, right, all, must, rel.row())
+    set.has(rel) && frame.leads_by(sides, seen, rel.row())
 }
 
 // The relations of a set that lead on.
-pub(crate) fn bound(frame: &Rows, left: &[u64], right: &[u64], set: RelSet) -> RelSet
-    requires two { 2 ≤ frame.now.count }
-    requires lives { Satisfies frame.now frame.now.count (bit_in frame.now 0) }
-    ensures { (rel : Rel) → IsTrue (has result rel) ↔ IsAliveIn frame.now (has_bit left.now) (has_bit right.now) set rel }
+pub(crate) fn bound(frame: &Frame, sides: &Sides, set: RelSet) -> RelSet
+    requires { IsAliveFrame frame.now }
+    ensures { (rel : Rel) → IsTrue (has result rel) ↔ IsAliveIn frame.now (has_bit sides.now.left.now) (has_bit sides.now.right.now) set rel }
 {
-    let all = seen(frame.row(0), left, right);
-    let must = seen(frame.row(1), left, right);
+    let seen = frame.seen(sides);
     RelSet {
-        equals: has_alive(frame, left, right, all, must, set, Rel::Equals),
-        includes: has_alive(frame, left, right, all, must, set, Rel::Includes),
-        included_in: has_alive(frame, left, right, all, must, set, Rel::IncludedIn),
-        overlaps: has_alive(frame, left, right, all, must, set, Rel::Overlaps),
-        disjoint: has_alive(frame, left, right, all, must, set, Rel::Disjoint),
+        equals: has_alive(frame, sides, seen, set, Rel::Equals),
+        includes: has_alive(frame, sides, seen, set, Rel::Includes),
+        included_in: has_alive(frame, sides, seen, set, Rel::IncludedIn),
+        overlaps: has_alive(frame, sides, seen, set, Rel::Overlaps),
+        disjoint: has_alive(frame, sides, seen, set, Rel::Disjoint),
     }
 }
 
 // Goes on to the frame after words were said of two sets.
 fn narrow_frame(
     alloc: Global,
-    left: &[u64],
-    right: &[u64],
+    sides: &Sides,
     words: Regions,
-    frame: &mut Rows,
+    frame: &mut Frame,
 ) -> Result<(), AllocError>
-    requires some { 0 < frame.old.width }
-    requires two { 2 ≤ frame.old.count }
-    ensures { OnOk result (IsNarrowed frame.old frame.new (has_bit left.now) (has_bit right.now) words) }
+    ensures { OnOk result (IsNarrowed frame.old frame.new (has_bit sides.now.left.now) (has_bit sides.now.right.now) words) }
 {
-    if !is_same(frame, left, right, words) {
-        *frame = narrowed(alloc, frame, left, right, words, MOST_COMPARED)?;
+    if !frame.is_same(sides, words) {
+        *frame = narrowed(alloc, frame, sides, words, MOST_COMPARED)?;
     }
     Ok(())
 }
@@ -128,10 +115,9 @@ fn narrow_pair(
     ensures bounds { OnOk result (AreBounds problem.now bounds.new) }
     ensures next { OnOk result (bounds.new.count ≡ pair + 1) }
 {
-    let (left, right) = problem.pair_at(pair);
-    let (left, right) = (rows.row(left as usize), rows.row(right as usize));
+    let sides = sides_of(problem, rows, pair);
     let old = bounds.sets[pair as usize];
-    let set = bound(&bounds.frame, left, right, old);
+    let set = bound(&bounds.frame, &sides, old);
     bounds.count = pair as usize + 1;
     if are_same(set, old) {
         return Ok(());
@@ -141,7 +127,7 @@ fn narrow_pair(
         bounds.alive = false;
         return Ok(());
     }
-    narrow_frame(alloc, left, right, forced(set), &mut bounds.frame)
+    narrow_frame(alloc, &sides, forced(set), &mut bounds.frame)
 }
 
 // Narrows each pair, unless the problem turns out to be dead.

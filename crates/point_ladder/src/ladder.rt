@@ -13,10 +13,11 @@ ghost use Rattle.point_ladder.specs.declared.Sight.TheVariants.{Nothing};
 
 use crate::Sight;
 use crate::behind::{
-    Effort, Ground, is_barren, is_barren_by, led_by, new_effort, put_all_first, put_first,
+    Effort, Ground, is_barren, is_barren_by, led_by, move_all_to_front, move_to_front, new_effort,
 };
 use crate::bounds::{Bounds, bound, narrow_all};
-use crate::frame::{MOST_COMPARED, first_bare, is_same, leads_on, narrowed};
+use crate::builder::{MOST_COMPARED, narrowed};
+use crate::sides::sides_of;
 use crate::start::{begin, first_line, nexts_of, split_pairs};
 use crate::stretches::{Stretch, cut, in_force};
 use bit_rows::Rows;
@@ -167,10 +168,9 @@ impl Ladder {
         if !self.sets[pair].has(rel) {
             return false;
         }
-        let (left, right) = self.problem.pair_at(pair as u32);
-        let (left, right) = (self.rows.row(left as usize), self.rows.row(right as usize));
+        let sides = sides_of(&self.problem, &self.rows, pair as u32);
         let last = self.stretches.len() - 1;
-        leads_on(&self.stretches[last].frame, left, right, rel.row())
+        self.stretches[last].frame.leads_on(&sides, rel.row())
     }
 
     /// The relations that lead to an alive path.
@@ -181,10 +181,9 @@ impl Ladder {
     {
         self.problem.facts();
         let pair = self.len;
-        let (left, right) = self.problem.pair_at(pair as u32);
-        let (left, right) = (self.rows.row(left as usize), self.rows.row(right as usize));
+        let sides = sides_of(&self.problem, &self.rows, pair as u32);
         let last = self.stretches.len() - 1;
-        bound(&self.stretches[last].frame, left, right, self.sets[pair])
+        bound(&self.stretches[last].frame, &sides, self.sets[pair])
     }
 
     /// The first region of the next pair that a relation needs a point in, and that has none left: a hint, by its number.
@@ -194,9 +193,8 @@ impl Ladder {
             return None;
         }
         let frame = &self.stretches.last()?.frame;
-        let (left, right) = self.problem.pair_at(self.len as u32);
-        let (left, right) = (self.rows.row(left as usize), self.rows.row(right as usize));
-        first_bare(frame, left, right, rel.row())
+        let sides = sides_of(&self.problem, &self.rows, self.len as u32);
+        frame.first_bare(&sides, rel.row())
     }
 
     /// Puts a relation at the end of the path, if that leads to an alive one.
@@ -211,12 +209,11 @@ impl Ladder {
         }
         self.problem.facts();
         let pair = self.len;
-        let (left, right) = self.problem.pair_at(pair as u32);
-        let (left, right) = (self.rows.row(left as usize), self.rows.row(right as usize));
+        let sides = sides_of(&self.problem, &self.rows, pair as u32);
         let last = self.stretches.len() - 1;
         let frame = &self.stretches[last].frame;
-        if !is_same(frame, left, right, rel.row()) {
-            let frame = narrowed(self.alloc, frame, left, right, rel.row(), MOST_COMPARED)?;
+        if !frame.is_same(&sides, rel.row()) {
+            let frame = narrowed(self.alloc, frame, &sides, rel.row(), MOST_COMPARED)?;
             self.stretches.push(Stretch {
                 from: pair + 1,
                 frame,
@@ -269,7 +266,7 @@ impl Ladder {
             effort.left = FEW_STEPS;
         }
         let none = self.lies_none(len, &mut effort)?;
-        put_all_first(&mut self.order, &effort.failed);
+        move_all_to_front(&mut self.order, &effort.failed);
         Ok(none)
     }
 
@@ -281,11 +278,10 @@ impl Ladder {
         ensures { IfOk result (λ none. none ≡ true → IsMet (narrowed self.now.problem (pair_at self.now.problem pair) (only rel)) → ⊥) }
     {
         self.problem.facts();
-        let (left, right) = self.problem.pair_at(pair);
-        let (left, right) = (self.rows.row(left as usize), self.rows.row(right as usize));
+        let sides = sides_of(&self.problem, &self.rows, pair);
         let place = in_force(&self.stretches, 0);
         let frame = &self.stretches[place].frame;
-        let set = bound(frame, left, right, self.sets[pair as usize]);
+        let set = bound(frame, &sides, self.sets[pair as usize]);
         if !set.has(rel) {
             return Ok(true);
         }
@@ -298,7 +294,7 @@ impl Ladder {
             from: 0,
             order: &order,
         };
-        is_barren_by(&ground, 1, frame, left, right, rel, effort)
+        is_barren_by(&ground, 1, frame, &sides, rel, effort)
     }
 
     // Whether a look takes little beside asking for points one by one, which takes the longer the more pairs there are.
@@ -322,7 +318,7 @@ impl Ladder {
         }
         let mut effort = new_effort(self.alloc, true);
         let none = self.has_none_with(pair, rel, &mut effort)?;
-        put_all_first(&mut self.order, &effort.failed);
+        move_all_to_front(&mut self.order, &effort.failed);
         Ok(sight_of(none, effort.found.take()))
     }
 
@@ -330,7 +326,7 @@ impl Ladder {
     pub fn promote(&mut self, pair: u32)
         ensures { self.new ≡ self.old }
     {
-        put_first(&mut self.order, pair);
+        move_to_front(&mut self.order, pair);
     }
 
     /// Takes the path back to its first relations.

@@ -5,10 +5,13 @@
 mod alone;
 mod behind;
 mod bounds;
+mod builder;
 mod frame;
 mod ladder;
+mod sides;
 mod start;
 mod stretches;
+mod words;
 
 pub use alone::alive_alone;
 pub use ladder::Ladder;

@@ -9,11 +9,13 @@ ghost use Rattle.point_table.specs.Points.{AreAllowed};
 ghost use Rattle.point_table.specs.Table.{AreRowsOf};
 ghost use Rattle.point_ladder.specs.Bounds.{AreBounds};
 ghost use Rattle.point_ladder.specs.Stretches.{AreNexts};
-ghost use Rattle.point_ladder.specs.Ladders.{AreWithin, IsOwing, PairsMet, ConceptsMet, IsFrame};
+ghost use Rattle.point_ladder.specs.Ladders.{left_of, IsLaid, AreWithin, IsOwing, PairsMet, ConceptsMet, IsFrame};
 
 use crate::bounds::{Bounds, are_same, no_bounds};
-use crate::frame::{MOST_COMPARED, Sieve, add_need, add_regions, lives, new_sieve};
-use bit_rows::{Cells, Rows};
+use crate::builder::{Builder, MOST_COMPARED};
+use crate::frame::Frame;
+use crate::sides::sides_of;
+use bit_rows::{Cells, Rows, Sides};
 use constraint_set::Problem;
 use point_table::{all_points, allowed_sets, rows_of};
 use rcc5_core::{Rel, RelSet, forced};
@@ -41,62 +43,50 @@ fn add_pairs(
     sets: &[RelSet],
     rows: &Rows,
     full: &Rows,
-    frame: &mut Rows,
-    sieve: &mut Sieve,
+    frame: &mut Builder,
 ) -> Result<(), AllocError>
     requires sets { AreAllowed problem.now sets.now }
     requires rows { AreRowsOf problem.now rows.now }
     requires one { 0 < full.now.count }
-    requires wide { full.now.width ≡ frame.old.width }
-    requires some { 0 < frame.old.width }
-    requires two { 2 ≤ frame.old.count }
-    requires full { AreWithin (bit_in frame.old 0) (bit_in full.now 0) }
-    ensures { OnOk result (IsOwing frame.old frame.new (PairsMet problem.now (points_by_trial problem.now) (pair_count problem.now))) }
+    requires wide { full.now.width ≡ frame.old.rows.width }
+    requires laid { IsLaid frame.old.rows }
+    requires full { AreWithin (left_of frame.old.rows) (bit_in full.now 0) }
+    ensures { OnOk result (IsOwing frame.old.rows frame.new.rows (PairsMet problem.now (points_by_trial problem.now) (pair_count problem.now))) }
 {
     for pair in 0..problem.pair_count() {
-        let (left, right) = problem.pair_at(pair);
-        let (left, right) = (rows.row(left as usize), rows.row(right as usize));
-        let words = forced(sets[pair as usize]);
-        add_regions(full.row(0), left, right, words, frame, sieve)?;
+        let sides = sides_of(problem, rows, pair);
+        frame.add_regions(full.row(0), &sides, forced(sets[pair as usize]))?;
     }
     Ok(())
 }
 
 // Adds each concept.
-fn add_concepts(
-    problem: &Problem,
-    rows: &Rows,
-    frame: &mut Rows,
-    sieve: &mut Sieve,
-) -> Result<(), AllocError>
+fn add_concepts(problem: &Problem, rows: &Rows, frame: &mut Builder) -> Result<(), AllocError>
     requires rows { AreRowsOf problem.now rows.now }
-    requires wide { rows.now.width ≡ frame.old.width }
-    requires some { 0 < frame.old.width }
-    requires two { 2 ≤ frame.old.count }
-    ensures { OnOk result (IsOwing frame.old frame.new (ConceptsMet (points_by_trial problem.now) (concept_count problem.now))) }
+    requires wide { rows.now.width ≡ frame.old.rows.width }
+    requires laid { IsLaid frame.old.rows }
+    ensures { OnOk result (IsOwing frame.old.rows frame.new.rows (ConceptsMet (points_by_trial problem.now) (concept_count problem.now))) }
 {
     for concept in 0..rows.count() {
         let row = rows.row(concept);
-        add_need(row, row, row, row, Cells::all(), frame, sieve)?;
+        let sides = Sides {
+            left: row,
+            right: row,
+        };
+        frame.add_need(row, row, &sides, Cells::all())?;
     }
     Ok(())
 }
 
 // Adds each concept, if none may be empty.
-fn add_nonempty(
-    problem: &Problem,
-    rows: &Rows,
-    frame: &mut Rows,
-    sieve: &mut Sieve,
-) -> Result<(), AllocError>
+fn add_nonempty(problem: &Problem, rows: &Rows, frame: &mut Builder) -> Result<(), AllocError>
     requires rows { AreRowsOf problem.now rows.now }
-    requires wide { rows.now.width ≡ frame.old.width }
-    requires some { 0 < frame.old.width }
-    requires two { 2 ≤ frame.old.count }
-    ensures { OnOk result (IsOwing frame.old frame.new (λ some. problem.now.switches.nonempty ≡ true → ConceptsMet (points_by_trial problem.now) (concept_count problem.now) some)) }
+    requires wide { rows.now.width ≡ frame.old.rows.width }
+    requires laid { IsLaid frame.old.rows }
+    ensures { OnOk result (IsOwing frame.old.rows frame.new.rows (λ some. problem.now.switches.nonempty ≡ true → ConceptsMet (points_by_trial problem.now) (concept_count problem.now) some)) }
 {
     if problem.switches().nonempty {
-        add_concepts(problem, rows, frame, sieve)?;
+        add_concepts(problem, rows, frame)?;
     }
     Ok(())
 }
@@ -108,20 +98,20 @@ pub(crate) fn first_frame(
     sets: &[RelSet],
     rows: &Rows,
     count: usize,
-) -> Result<Rows, AllocError>
+) -> Result<Frame, AllocError>
     requires sets { AreAllowed problem.now sets.now }
     requires rows { AreRowsOf problem.now rows.now }
     requires count { count ≡ length (points_by_trial problem.now) }
     ensures { IfOk result (λ frame. IsFrame problem.now (points_by_trial problem.now) frame) }
 {
     let full = full_row(alloc, rows.width(), count)?;
-    let mut sieve = new_sieve(alloc, MOST_COMPARED)?;
-    let mut frame = Rows::new(alloc, rows.width());
-    frame.push_copy(full.row(0))?;
-    frame.push_empty()?;
-    add_pairs(problem, sets, rows, &full, &mut frame, &mut sieve)?;
-    add_nonempty(problem, rows, &mut frame, &mut sieve)?;
-    Ok(frame)
+    let mut two = Rows::new(alloc, rows.width());
+    two.push_copy(full.row(0))?;
+    two.push_empty()?;
+    let mut frame = Builder::new(alloc, two, MOST_COMPARED)?;
+    add_pairs(problem, sets, rows, &full, &mut frame)?;
+    add_nonempty(problem, rows, &mut frame)?;
+    Ok(Frame::new(frame.rows))
 }
 
 // Whether each pair allows a relation.
@@ -138,7 +128,7 @@ fn all_allow(problem: &Problem, sets: &[RelSet]) -> bool
 }
 
 // Whether a problem is alive, by its frame.
-pub(crate) fn is_alive(problem: &Problem, sets: &[RelSet], frame: &Rows) -> bool
+pub(crate) fn is_alive(problem: &Problem, sets: &[RelSet], frame: &Frame) -> bool
     requires sets { AreAllowed problem.now sets.now }
     requires frame { IsFrame problem.now (points_by_trial problem.now) frame.now }
     ensures { IsTrue result ↔ IsAlive problem.now }
@@ -146,7 +136,7 @@ pub(crate) fn is_alive(problem: &Problem, sets: &[RelSet], frame: &Rows) -> bool
     if !all_allow(problem, sets) {
         return false;
     }
-    lives(frame)
+    frame.is_alive()
 }
 
 // The rows of a problem's points, and its pairs before any is narrowed.

@@ -2,13 +2,13 @@
 ghost use Rattle.std.specs.Prelude.{◌≡◌, ◌<◌, length};
 ghost use Rattle.point_ladder.specs.Stretches.{stretch_at, IsCut, IsInForce};
 
-use bit_rows::Rows;
+use crate::frame::Frame;
 
 /// The length of the path from which on a frame is in force, and the frame.
 #[derive(Drop)]
 pub(crate) struct Stretch {
     pub(crate) from: usize,
-    pub(crate) frame: Rows,
+    pub(crate) frame: Frame,
 }
 
 // Drops those that begin past a length.

@@ -7,11 +7,12 @@ use Rattle.std.proofs.lemmas.List.{length-append, length-set, get_or-set_other, 
 use Rattle.std.proofs.lemmas.List.Elements.{Contains-append_left, Contains-push}
 use Rattle.std.proofs.lemmas.List.Folds.{list_all-append, list_any-append}
 use Rattle.world_model.specs.Problem.{Problem}
-use Rattle.world_model.specs.Alive.{Need, is_point, is_in_need, each_has_one, problem_at}
+use Rattle.world_model.specs.Alive.{Need, is_point, is_in_need, each_has_one, problem_at, point_at}
 use Rattle.world_model.proofs.Members.{In, any_from, in_from_contains}
 use Rattle.point_pool.specs.declared.pool.Pool.{Pool}
-use Rattle.point_encode.specs.Numbers.{AreServing, need_at, is_needed, needs_below, need_count}
-use Rattle.point_pool.specs.Pools.{point_at, IsPool, AreGathered}
+use Rattle.point_encode.specs.Numbers.{AreServing, is_needed, needs_below}
+use Rattle.cert_model.specs.Forced.{need_at, need_count}
+use Rattle.point_pool.specs.Pools.{IsPool, AreGathered}
 use Rattle.point_pool.proofs.Settling.{served_now}
 use Rattle.point_pool.proofs.Numbering.{needs_more}
 use Rattle.point_pool.proofs.Pooling.{served_point}

@@ -10,7 +10,7 @@ use Rattle.rcc5_core.specs.declared.Regions.{Regions}
 use Rattle.lits_core.specs.declared.Bits.{Bits}
 use Rattle.world_model.specs.Problem.{Problem, kept_sums}
 use Rattle.world_model.specs.Node.{pair_at}
-use Rattle.world_model.specs.Alive.{point_sums, meets_structure, is_point, is_in_need, forced_pairs, avoids, problem_at, HasPoint}
+use Rattle.world_model.specs.Alive.{point_sums, meets_structure, is_point, is_in_need, forced_pairs, avoids, problem_at, HasPoint, point_at, meets_trees}
 use Rattle.world_model.specs.Laws.{PositionsNarrow}
 use Rattle.rcc5_core.specs.Region.{row_of}
 use Rattle.constraint_set.specs.Shape.{shape_of}
@@ -18,8 +18,9 @@ use Rattle.point_draft.specs.declared.drafts.Drafts.{Drafts}
 use Rattle.point_pool.specs.declared.pool.Pool.{Pool}
 use Rattle.point_pool.specs.declared.waiting.Numbers.{Numbers}
 use Rattle.point_pool.specs.Cursors.{CursorState, IsOpen}
-use Rattle.point_encode.specs.Numbers.{need_at, is_needed, need_count}
-use Rattle.point_pool.specs.Pools.{IsUnstruck, IsStruckBeyond, IsUndone, point_at, depth_at, served_at, ArePooled, IsFit, IsWitness, HasWitness, IsAdded, IsKept, IsNeeded, meets_trees, IsPool, IsPoolBut, StrikesOut, IsStriking}
+use Rattle.point_encode.specs.Numbers.{is_needed}
+use Rattle.cert_model.specs.Forced.{need_at, need_count}
+use Rattle.point_pool.specs.Pools.{IsUnstruck, IsStruckBeyond, IsUndone, depth_at, served_at, ArePooled, IsFit, IsWitness, HasWitness, IsAdded, IsKept, IsNeeded, IsPool, IsPoolBut, StrikesOut, IsStriking}
 use Rattle.point_pool.specs.Starts.{AreStarted}
 use Rattle.point_pool.proofs.Prefixes.{point_more, point_later, needed_later, needed_before}
 

@@ -152,26 +152,3 @@ selectors_are law p m lits o same = record {
         | inr sum ↦ In-right (region_selectors n (forced_pairs q)) (kept_in lit sum)
       ]
     ]
-
--- each region is one of the three
-one_of_three : (region : Region) → In region all_regions
-one_of_three LeftOnly = here refl
-one_of_three Both = there (here refl)
-one_of_three RightOnly = there (there (here refl))
-
--- the selector of a region that is forced empty is one of the prefix
-pub empty_is_selector : (p : Problem) (m : List Rel) (k : ℕ) (region : Region) → k < pair_count p → same_word (word_at (forced_at (problem_at p m) k) region) Empty ≡ true →
-    Contains (selectors_of p m) (is_so (concept_count p + 3 * k + region_number region))
-empty_is_selector p m k region h e =
-    let q = problem_at p m in
-    contains_from_in (In-left (sum_selectors p.kept (first_sum_selector p) (sum_places p))
-    (into_regions q (concept_count p) (pairs p) (is_so (concept_count p + 3 * k + region_number region)) k h
-    (In-map (λ r. is_so (concept_count p + 3 * k + region_number r)) (In-filter (λ r. same_word (word_at (forced_at q k) r) Empty) (one_of_three region) e))))
-
--- the selector of a sum that is kept is one of each prefix
-pub kept_is_selector : (p : Problem) (m : List Rel) (sum : ℕ) → sum < length (sum_places p) → get_or p.kept (get_or (sum_places p) sum 0) false ≡ true →
-    Contains (selectors_of p m) (is_so (first_sum_selector p + sum))
-kept_is_selector p m sum h kept =
-    contains_from_in (In-right (region_selectors (concept_count p) (forced_pairs (problem_at p m)))
-    (into_sums p.kept (first_sum_selector p) (sum_places p) (is_so (first_sum_selector p + sum)) sum h
-    (subst (λ b. In (is_so (first_sum_selector p + sum)) (cond b (is_so (first_sum_selector p + sum) ∷ []) [])) (sym kept) (here refl))))

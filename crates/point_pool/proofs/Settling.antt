@@ -6,17 +6,17 @@ use Rattle.std.proofs.lemmas.Bool.{cases_lt, lt-ltb, le-ltb}
 use Rattle.rcc5_core.specs.declared.Rel.{Rel}
 use Rattle.world_model.specs.Problem.{Problem, concept_count, pair_count}
 use Rattle.world_model.specs.Node.{pair_at}
-use Rattle.world_model.specs.Alive.{Need, InRegion, InConcept, all_allow, needs, problem_at, HasPoint, IsAlive}
+use Rattle.world_model.specs.Alive.{Need, InRegion, InConcept, all_allow, needs, problem_at, HasPoint, IsAlive, point_at}
 use Rattle.world_model.proofs.Members.{In, none_in, in_from_contains}
 use Rattle.world_model.proofs.PointAlive as alive
-use Rattle.cert_model.specs.Forced.{region_with, need_with, IsNeed}
+use Rattle.cert_model.specs.Forced.{region_with, need_with, IsNeed, need_at, need_count}
 use Rattle.point_encode.specs.declared.need.Need as code
 use Rattle.point_encode.specs.declared.need.Need.TheVariants.{Region, Concept}
-use Rattle.point_encode.specs.Needs.{need_seen, number_of, IsInRange}
+use Rattle.point_encode.specs.Needs.{need_seen, IsInRange, need_number}
 use Rattle.point_pool.specs.declared.pool.Pool.{Pool}
-use Rattle.point_encode.specs.Numbers.{EachServed, need_at, is_needed, needs_below, need_count}
+use Rattle.point_encode.specs.Numbers.{EachServed, is_needed, needs_below}
 use Rattle.point_pool.specs.Cursors.{CursorState}
-use Rattle.point_pool.specs.Pools.{point_at, IsPool, HasWitness}
+use Rattle.point_pool.specs.Pools.{IsPool, HasWitness}
 use Rattle.point_pool.proofs.Numbering.{needs_numbered, needs_more, from_below, IsNumbered}
 use Rattle.point_pool.proofs.Serving.{each_push}
 use Rattle.point_pool.proofs.Pooling.{served_has, served_point}
@@ -59,7 +59,7 @@ witness_pushed w number list new bits is none within needed by same served =
     subst (λ ns. EachServed q ns new) (sym needs_are) (subst (λ bs. EachServed q (needs_below q number ++ need_at q number ∷ []) bs) (sym (same ∙ ap (λ b. list ++ b ∷ []) by)) pushed)
 
 -- a need as callers have it, by its number
-pub numbered_need : (p : Problem) (need : code.Need) → IsInRange p need → (number_of p need < need_count p) × (need_at p (number_of p need) ≡ need_seen p need)
+pub numbered_need : (p : Problem) (need : code.Need) → IsInRange p need → (need_number p need < need_count p) × (need_at p (need_number p need) ≡ need_seen p need)
 numbered_need p (Region pair part) range =
     let small : 3 * pair + part < 3 * pair_count p = omega (arith, range) in
     let third : (3 * pair + part) / 3 ≡ pair = omega (arith, range) in
@@ -77,21 +77,10 @@ numbered_need p (Concept c) range =
 
 -- numbers name needs
 pub need_named : (p : Problem) (number : ℕ) → number < need_count p → IsNeed p (need_at p number)
-need_named p number within = (number, named (cases_lt number (3 * pair_count p)))
-  where
-    named : (number < 3 * pair_count p) ⊎ (3 * pair_count p ≤ number) → need_with p number ≡ Some (need_at p number)
-    named (inl small) =
-        ap (λ b. cond b (Some (InRegion (pair_at p (number / 3)) (region_with (number % 3)))) (cond (nat_lt number (3 * pair_count p + concept_count p)) (Some (InConcept (number - 3 * pair_count p))) None))
-        (lt-ltb number (3 * pair_count p) small) ∙
-        ap (λ b. Some (cond b (InRegion (pair_at p (number / 3)) (region_with (number % 3))) (InConcept (number - 3 * pair_count p)))) (sym (lt-ltb number (3 * pair_count p) small))
-    named (inr past) =
-        ap (λ b. cond b (Some (InRegion (pair_at p (number / 3)) (region_with (number % 3)))) (cond (nat_lt number (3 * pair_count p + concept_count p)) (Some (InConcept (number - 3 * pair_count p))) None))
-        (le-ltb number (3 * pair_count p) past) ∙
-        ap (λ b. cond b (Some (InConcept (number - 3 * pair_count p))) None) (lt-ltb number (3 * pair_count p + concept_count p) within) ∙
-        ap (λ b. Some (cond b (InRegion (pair_at p (number / 3)) (region_with (number % 3))) (InConcept (number - 3 * pair_count p)))) (sym (le-ltb number (3 * pair_count p) past))
+need_named p number within = (number, ap (λ b. cond b (Some (need_at p number)) None) (lt-ltb number (need_count p) within))
 
 pub seen_named : (p : Problem) (need : code.Need) → IsInRange p need → IsNeed p (need_seen p need)
-seen_named p need range = subst (λ x. IsNeed p x) (numbered_need p need range).1 (need_named p (number_of p need) (numbered_need p need range).0)
+seen_named p need range = subst (λ x. IsNeed p x) (numbered_need p need range).1 (need_named p (need_number p need) (numbered_need p need range).0)
 
 -- the parts of a cursor
 pub cursor_from : (s : CursorState) (p : Problem) (m : List Rel) → s.problem ≡ p → s.path ≡ m → s ≡ record { problem = p; path = m }

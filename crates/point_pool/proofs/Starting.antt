@@ -7,10 +7,10 @@ use Rattle.std.proofs.lemmas.List.{take_more, length-append, length-take-le, get
 use Rattle.rcc5_core.specs.declared.Regions.{Regions}
 use Rattle.world_model.specs.Problem.{Problem, pairs, kept_sums}
 use Rattle.world_model.specs.Node.{pair_at}
-use Rattle.world_model.specs.Alive.{forced_pairs, bit_of, avoids, point_sums, is_point}
+use Rattle.world_model.specs.Alive.{forced_pairs, bit_of, avoids, point_sums, is_point, point_at, meets_trees, avoids_by}
 use Rattle.constraint_set.proofs.PointTests.{avoids_each, forced_avoids}
 use Rattle.world_model.specs.Points.{forced_at, empty_pairs, avoids_at}
-use Rattle.point_pool.specs.Pools.{IsUnstruck, point_at, depth_at, meets_trees, avoids_by}
+use Rattle.point_pool.specs.Pools.{IsUnstruck, depth_at}
 use Rattle.point_pool.specs.Starts.{AreStarted}
 
 -- so it is a point
@@ -46,13 +46,9 @@ started_more p points depths i bits depth within is so point start =
     of_depth None n point start unstruck = point
     of_depth (Some d) n point start unstruck = absurd (omega (arith, start, unstruck))
 
-not_not : (b : Bool) → not (not b) ≡ b
-not_not true = refl
-not_not false = refl
-
 -- whether a point is in no region of a pair, by its two bits
-pub avoided_pair : (p : Problem) (bits : List Bool) (k : ℕ) (regions : Regions) (pair : ℕ × ℕ) (left right out : Bool) → out ≡ not (avoids_by regions left right) → regions ≡ forced_at p k →
-    pair ≡ pair_at p k → left ≡ bit_of bits pair.0 → right ≡ bit_of bits pair.1 → not out ≡ avoids_at p bits k
-avoided_pair p bits k regions pair left right out is words at one other =
-    ap not is ∙ not_not (avoids_by regions left right) ∙ ap (λ l. avoids_by regions l right) one ∙ ap (λ r. avoids_by regions (bit_of bits pair.0) r) other ∙
+pub avoided_pair : (p : Problem) (bits : List Bool) (k : ℕ) (regions : Regions) (pair : ℕ × ℕ) (left right result : Bool) → result ≡ avoids_by regions left right → regions ≡ forced_at p k →
+    pair ≡ pair_at p k → left ≡ bit_of bits pair.0 → right ≡ bit_of bits pair.1 → result ≡ avoids_at p bits k
+avoided_pair p bits k regions pair left right result is words at one other =
+    is ∙ ap (λ l. avoids_by regions l right) one ∙ ap (λ r. avoids_by regions (bit_of bits pair.0) r) other ∙
     ap (λ q. avoids bits (q, regions)) at ∙ ap (λ ws. avoids bits (pair_at p k, ws)) words

@@ -1,24 +1,13 @@
 -- Points that were found, at a prefix: which of them are points of it, and which needs they serve.
-use Rattle.point_encode.specs.Numbers.{AreServing, is_needed, lies_by, need_at, need_count, needs_below}
+use Rattle.point_encode.specs.Numbers.{AreServing, is_needed, needs_below}
+use Rattle.cert_model.specs.Forced.{need_at, need_count}
 use Rattle.point_pool.specs.declared.pool.Pool.{Pool}
-use Rattle.rcc5_core.specs.Region.{all_regions, same_word, word_at}
-use Rattle.rcc5_core.specs.declared.Occupancy.TheVariants.{Empty}
 use Rattle.rcc5_core.specs.declared.Regions.{Regions}
 use Rattle.rcc5_core.specs.declared.Rel.{Rel}
-use Rattle.std.specs.List.{list_all}
-use Rattle.std.specs.Prelude.{All, Bool, Contains, IsTrue, List, None, Option, Some, [], false, length, not, set, slice_index_or, take, ℕ, ◌&&◌, ◌++◌, ◌+◌, ◌<◌, ◌==◌, ◌∷◌, ◌≡◌, ◌≢◌, ◌≤◌, ◌⊎◌}
-use Rattle.world_model.specs.Alive.{Need, avoids, is_in_need, is_point, point_apart, point_covered, point_within, problem_at, serves}
-use Rattle.world_model.specs.Family.{implies}
+use Rattle.std.specs.Prelude.{All, Bool, Contains, IsTrue, List, None, Option, Some, [], false, length, not, set, slice_index_or, take, ℕ, ◌++◌, ◌+◌, ◌<◌, ◌∷◌, ◌≡◌, ◌≢◌, ◌≤◌, ◌⊎◌}
+use Rattle.world_model.specs.Alive.{Need, point_at, meets_trees, avoids, is_in_need, is_point, problem_at, serves}
 use Rattle.world_model.specs.Node.{pair_at}
-use Rattle.world_model.specs.Problem.{Problem, concept_count}
-
--- the rules on a point that hold at every problem of a shape
-abbrev pub meets_trees : Problem → List Bool → Bool
-meets_trees p bits =
-    (length bits == concept_count p) &&
-    point_within p bits &&
-    implies p.switches.sibling (point_apart p bits) &&
-    implies p.switches.coverage (point_covered p bits)
+use Rattle.world_model.specs.Problem.{Problem}
 
 -- a point that was struck out at a depth, or never, was not at the depth n
 abbrev pub IsUnstruck : ℕ → Option ℕ → Type 0
@@ -35,14 +24,7 @@ pub record IsUndone (n : ℕ) (old new : Option ℕ) : Type 0 where
   pub earlier : (e : ℕ) → e ≤ n → IsUnstruck e new → IsUnstruck e old
   pub later : (e : ℕ) → n ≤ e → IsUnstruck e old → IsUnstruck n new
 
--- whether the region in which a point lies, by whether it is in the left concept and in the right one, is not forced empty
-abbrev pub avoids_by : Regions → Bool → Bool → Bool
-avoids_by regions left right = list_all (λ region. not (same_word (word_at regions region) Empty && lies_by region left right)) all_regions
-
--- the point at a place, the depth at which it was struck out, and the numbers of the needs that it serves
-abbrev pub point_at : List (List Bool) → ℕ → List Bool
-point_at points place = slice_index_or points place []
-
+-- the depth at which the point at a place was struck out, and the numbers of the needs that it serves
 abbrev pub depth_at : List (Option ℕ) → ℕ → Option ℕ
 depth_at depths place = slice_index_or depths place None
 

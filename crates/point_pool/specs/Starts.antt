@@ -1,7 +1,7 @@
 -- Which points of other problems of a shape are points of a problem.
-use Rattle.point_pool.specs.Pools.{IsUnstruck, depth_at, point_at}
+use Rattle.point_pool.specs.Pools.{IsUnstruck, depth_at}
 use Rattle.std.specs.Prelude.{Bool, IsTrue, List, Option, length, ℕ, ◌<◌, ◌≡◌}
-use Rattle.world_model.specs.Alive.{is_point}
+use Rattle.world_model.specs.Alive.{is_point, point_at}
 use Rattle.world_model.specs.Problem.{Problem}
 
 -- points that are not struck out from the start are points of the problem

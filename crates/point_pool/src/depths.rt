@@ -1,22 +1,11 @@
 //! The depths at which points were struck out.
-ghost use Rattle.point_pool.specs.Pools.{IsStruckBeyond, IsUndone, IsUnstruck, avoids_by, depth_at};
+ghost use Rattle.point_pool.specs.Pools.{IsStruckBeyond, IsUndone, IsUnstruck, depth_at};
 ghost use Rattle.std.specs.Prelude.{All, IfSome, IsTrue, OnSome, false, length, not, true, ℕ, ◌+◌, ◌<◌, ◌↔◌, ◌≡◌};
 ghost use Rattle.world_model.specs.Alive.{avoids};
 
 use lits_core::Bits;
-use rcc5_core::{Occupancy, Regions};
-
-// Whether a point lies in a region that is forced empty.
-pub(crate) fn is_out(regions: Regions, left: bool, right: bool) -> bool
-    ensures { result ≡ not (avoids_by regions left right) }
-{
-    match (left, right) {
-        (true, false) => regions.left_only == Occupancy::Empty,
-        (true, true) => regions.both == Occupancy::Empty,
-        (false, true) => regions.right_only == Occupancy::Empty,
-        (false, false) => false,
-    }
-}
+use point_table::avoids_by;
+use rcc5_core::Regions;
 
 // Whether a point that was struck out at a depth, or never, was not at the depth of a prefix.
 pub(crate) fn is_unstruck(depth: Option<usize>, count: usize) -> bool
@@ -44,7 +33,7 @@ pub(crate) fn is_to_strike(
     ensures kept { result ≡ false → IsUnstruck count depth → IsUnstruck (count + 1) depth × IsTrue (avoids bits.now ((x, y), regions)) }
 {
     match depth {
-        None => is_out(regions, bits.get(x as usize), bits.get(y as usize)),
+        None => !avoids_by(regions, bits.get(x as usize), bits.get(y as usize)),
         Some(depth) => count < depth,
     }
 }

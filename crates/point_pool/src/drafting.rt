@@ -1,17 +1,16 @@
 //! What is drafted for a need at the prefix.
 ghost use Rattle.point_pool.specs.Drafted.{AvoidsPair, AvoidsPairsOf};
-ghost use Rattle.point_encode.specs.Numbers.{need_at, need_count};
+ghost use Rattle.cert_model.specs.Forced.{need_at, need_count};
 ghost use Rattle.point_pool.specs.Pools.{HasWitness, IsPool, IsPoolBut};
 ghost use Rattle.std.specs.Prelude.{IfOk, IsTrue, OnOk, length, true, ℕ, ◌+◌, ◌<◌, ◌≡◌};
 ghost use Rattle.world_model.specs.Alive.{bit_of, is_in_need, is_point, problem_at};
 ghost use Rattle.world_model.specs.Problem.{concept_count};
 
 use crate::cursor::Cursor;
-use crate::depths::is_out;
 use crate::pool::Pool;
 use point_draft::Draft;
 use point_encode::{by_concepts, is_in, need_at};
-use point_table::{bits_of, meets_structure};
+use point_table::{avoids_by, bits_of, meets_structure};
 use std::alloc::AllocError;
 
 impl Cursor {
@@ -25,10 +24,10 @@ impl Cursor {
         let regions = self.forced_at(self.problem().pair_index(x, y));
         let left = bits[x as usize];
         let right = bits[y as usize];
-        !is_out(regions, left, right)
+        avoids_by(regions, left, right)
     }
 
-    // The same, whichever comes first. A concept makes no pair with itself.
+    // Whether bits are in no such region of two concepts, whichever comes first. A concept makes no pair with itself.
     fn avoids_pair(&self, bits: &[bool], one: u32, other: u32) -> bool
         requires length { length bits.now ≡ concept_count self.now.problem }
         requires one { one < concept_count self.now.problem }
@@ -44,7 +43,7 @@ impl Cursor {
         true
     }
 
-    // The same of all pairs of a concept.
+    // Whether bits are in no such region of any pair of a concept.
     fn avoids_pairs_of(&self, bits: &[bool], concept: u32) -> bool
         requires length { length bits.now ≡ concept_count self.now.problem }
         requires concept { concept < concept_count self.now.problem }
@@ -58,7 +57,7 @@ impl Cursor {
         true
     }
 
-    // The same, unless the concept is without the point.
+    // Whether that is so of a concept, unless it is without the point.
     fn avoids_if_there(&self, bits: &[bool], concept: u32) -> bool
         requires length { length bits.now ≡ concept_count self.now.problem }
         requires concept { concept < concept_count self.now.problem }

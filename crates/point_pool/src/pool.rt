@@ -1,11 +1,12 @@
 //! Points that were found, kept along a prefix.
 ghost use Rattle.constraint_set.specs.Shape.{SameShape};
 ghost use Rattle.point_pool.specs.Cursors.{IsEmptyPair};
-ghost use Rattle.point_encode.specs.Numbers.{is_needed, need_count};
-ghost use Rattle.point_pool.specs.Pools.{IsPool, IsPoolAt, meets_trees};
+ghost use Rattle.point_encode.specs.Numbers.{is_needed};
+ghost use Rattle.cert_model.specs.Forced.{need_count};
+ghost use Rattle.point_pool.specs.Pools.{IsPool, IsPoolAt};
 ghost use Rattle.rcc5_core.specs.RelationSet.{has};
 ghost use Rattle.std.specs.Prelude.{All, Contains, IfNone, IfOk, IsTrue, OnOk, [], length, take, ℕ, ◌++◌, ◌+◌, ◌<◌, ◌∷◌, ◌≡◌, ◌≤◌};
-ghost use Rattle.world_model.specs.Alive.{allowed, problem_at};
+ghost use Rattle.world_model.specs.Alive.{allowed, problem_at, meets_trees};
 ghost use Rattle.world_model.specs.Node.{pair_at};
 ghost use Rattle.world_model.specs.Problem.{pair_count};
 

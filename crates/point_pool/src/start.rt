@@ -1,17 +1,15 @@
 //! Which points of other problems of a shape are points of a problem.
-ghost use Rattle.point_pool.specs.Pools.{meets_trees};
 ghost use Rattle.world_model.specs.Points.{avoids_at, empty_pairs, has_empty, sum_holds, sums_from};
 ghost use Rattle.point_pool.specs.Starts.{AreStarted};
 ghost use Rattle.std.specs.List.{list_all, list_any};
 ghost use Rattle.std.specs.Prelude.{All, IfNone, IfOk, IfSome, IsTrue, OnOk, [], if◌then◌else◌, length, true, ◌&&◌, ◌++◌, ◌+◌, ◌<◌, ◌∷◌, ◌≡◌};
-ghost use Rattle.world_model.specs.Alive.{bit_of, is_point, point_sums};
+ghost use Rattle.world_model.specs.Alive.{bit_of, is_point, point_sums, meets_trees};
 ghost use Rattle.world_model.specs.Problem.{concept_count, is_articulation, kept_sums, pair_count};
 
 use crate::cursor::Cursor;
-use crate::depths::is_out;
 use constraint_set::{Articulation, Problem};
 use lits_core::Bits;
-use rcc5_core::{Occupancy, Regions};
+use point_table::{add_if_empty, avoids_by};
 use std::alloc::{AllocError, Global};
 
 // For each point, whether it is a point of the problem: if not, it is struck out from the start.
@@ -53,28 +51,9 @@ fn pairs_with_empty(alloc: Global, cursor: &Cursor) -> Result<Vec<u32>, AllocErr
 {
     let mut pairs = Vec::new(alloc);
     for pair in 0..cursor.problem().pair_count() {
-        push_if_empty(&mut pairs, pair, cursor.start_at(pair))?;
+        add_if_empty(&mut pairs, pair, cursor.start_at(pair))?;
     }
     Ok(pairs)
-}
-
-// Adds a pair if it has a region that is forced empty.
-fn push_if_empty(pairs: &mut Vec<u32>, pair: u32, regions: Regions) -> Result<(), AllocError>
-    ensures { OnOk result (pairs.new.items ≡ pairs.old.items ++ (if has_empty regions then pair ∷ [] else [])) }
-{
-    if has_empty(regions) {
-        pairs.push(pair)?;
-    }
-    Ok(())
-}
-
-// Whether a region is forced empty.
-fn has_empty(regions: Regions) -> bool
-    ensures { result ≡ has_empty regions }
-{
-    regions.left_only == Occupancy::Empty
-        || regions.both == Occupancy::Empty
-        || regions.right_only == Occupancy::Empty
 }
 
 // Whether a point is in no region of some pairs that the problem alone forces empty.
@@ -100,7 +79,7 @@ fn avoids_pair(cursor: &Cursor, pair: u32, bits: &Bits) -> bool
     let (x, y) = cursor.problem().pair_at(pair);
     let left = bits.get(x as usize);
     let right = bits.get(y as usize);
-    !is_out(cursor.start_at(pair), left, right)
+    avoids_by(cursor.start_at(pair), left, right)
 }
 
 // Whether each kept sum holds at a point.

@@ -1,5 +1,5 @@
 //! What one more relation strikes out, and the needs that it adds.
-ghost use Rattle.point_encode.specs.Numbers.{need_count};
+ghost use Rattle.cert_model.specs.Forced.{need_count};
 ghost use Rattle.point_pool.specs.Pools.{IsPool, IsPoolBut, IsStriking, StrikesOut};
 ghost use Rattle.std.specs.Prelude.{OnOk, length, ◌*◌, ◌+◌, ◌<◌, ◌≡◌};
 ghost use Rattle.world_model.specs.Problem.{pair_count};

@@ -7,14 +7,14 @@ use Rattle.rcc5_core.specs.declared.Rel.{Rel}
 use Rattle.rcc5_core.specs.declared.Rel.TheVariants.{Equals}
 use Rattle.rcc5_core.specs.Region.{row_of, same_word, word_at}
 use Rattle.rcc5_core.specs.RelationSet.{has}
-use Rattle.cert_model.specs.Forced.{region_with}
+use Rattle.cert_model.specs.Forced.{region_with, need_at}
 use Rattle.world_model.specs.Alive.{HasPoint, IsAlive, allowed, is_point, problem_at}
 use Rattle.world_model.specs.Laws.{PositionsNarrow}
 use Rattle.world_model.specs.Node.{pair_at}
 use Rattle.world_model.specs.Points.{forced_at}
 use Rattle.world_model.specs.Problem.{Problem, pair_count}
 use Rattle.point_pool.specs.Cursors.{IsOpen}
-use Rattle.point_encode.specs.Numbers.{is_needed, need_at}
+use Rattle.point_encode.specs.Numbers.{is_needed}
 use Rattle.point_pool.proofs.Cursors.{forced_inside, open_more}
 use Rattle.point_pool.proofs.Prefixes.{needed_by, point_later}
 use Rattle.point_query.proofs.Deciding.{lost_is_dead}

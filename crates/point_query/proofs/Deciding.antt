@@ -9,7 +9,8 @@ use Rattle.world_model.specs.Node.{pair_at}
 use Rattle.world_model.specs.Alive.{Need, allowed, needs, problem_at, HasPoint, IsAlive}
 use Rattle.world_model.proofs.Members.{here, In-right, contains_from_in, all_at, In-get_or}
 use Rattle.point_query.specs.Asking.{AskerState}
-use Rattle.point_encode.specs.Numbers.{need_at, is_needed, need_count}
+use Rattle.point_encode.specs.Numbers.{is_needed}
+use Rattle.cert_model.specs.Forced.{need_at, need_count}
 use Rattle.point_pool.specs.declared.pool.Pool.{Pool}
 use Rattle.point_pool.specs.Pools.{IsPool, IsPoolBut}
 use Rattle.point_pool.proofs.Numbering.{need_in}

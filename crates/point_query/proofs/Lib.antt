@@ -5,4 +5,3 @@ pub mod Deciding
 pub mod Baring
 pub mod Following
 pub mod Choosing
-pub mod Deriving

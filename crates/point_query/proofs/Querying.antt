@@ -12,7 +12,7 @@ use Rattle.lits_core.specs.declared.Line.TheVariants.{Derive, Forget}
 use Rattle.lits_core.specs.Derivation.{State, first_state, live_clause, line_fault, next_state, state_after, is_valid_derivation, SameLits, SameGiven, SameDerived, SameState, SameLine, DerivedClausesFollow, LiteralsAreSets}
 use Rattle.lits_core.proofs.LiteralSets.{same-self}
 use Rattle.watch_arena.specs.Trails.{AreInRange}
-use Rattle.learn_solver.proofs.Answering.{closed-hopeless}
+use Rattle.learn_solver.proofs.ModelOrRefutation.{closed-hopeless}
 use Rattle.learn_solver.specs.Solving.{SolverState, IsSolver, AddsGiven, FromOne, Leads, GoesTo, AreConsistent, IsModel, IsClosedBy, IsRefutation}
 use Rattle.world_model.specs.Problem.{Problem, concept_count}
 use Rattle.world_model.specs.Alive.{Need, is_point, is_in_need, problem_at}
@@ -220,7 +220,7 @@ none_derived clauses s same = none s.derived same.same_derived
     none [] e = refl
     none (entry ∷ entries) e = absurd e
 
--- the same problem but for flags and narrowings has the same solver
+-- a problem that differs in flags and narrowings alone has the same solver
 pub solver_moves : (p q : Problem) (s : SolverState) → shape_of p ≡ shape_of q → IsSolverOf p s → IsSolverOf q s
 solver_moves p q s same is = record {
   variables = is.variables ∙ ap variable_count same;

@@ -1,7 +1,5 @@
 pub mod Asking
 pub mod Answers
 pub mod Queries
-pub mod Leading
 pub mod Closing
 pub mod Remembered
-pub mod Deriving

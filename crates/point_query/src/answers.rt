@@ -49,7 +49,7 @@ pub enum Alive {
     Closed(Need, u64),
 }
 
-/// The same without the points.
+/// What is answered of a prefix without its points.
 #[derive(Clone, Copy, PartialEq, Eq)]
 pub enum Probe {
     Alive,

@@ -6,11 +6,10 @@ ghost use Rattle.point_encode.specs.Needs.{IsInRange, need_seen};
 ghost use Rattle.point_pool.specs.Pools.{IsPoolAt};
 ghost use Rattle.point_query.specs.Answers.{IsAliveAnswer, IsFound, IsProbeAnswer, IsServedByFew};
 ghost use Rattle.point_query.specs.Asking.{AskerGoes, IsAsker, IsNewAsker};
-ghost use Rattle.point_query.specs.Deriving.{IsDerived, IsShown};
+ghost use Rattle.learn_solver.specs.Hints.{IsDerived, IsShown};
 ghost use Rattle.rcc5_core.specs.RelationSet.{has};
 ghost use Rattle.rcc5_core.specs.declared.Rel.{Rel};
 ghost use Rattle.std.specs.Prelude.{IfNone, IfOk, IfSome, IsTrue, MatchOption, OnErr, OnOk, [], length, nat_lt, ◌++◌, ◌+◌, ◌<◌, ◌↔◌, ◌∷◌, ◌≡◌, ◌≤◌};
-ghost use Rattle.watch_arena.specs.Trails.{AreInRange};
 ghost use Rattle.world_model.specs.Alive.{IsAlive, problem_at};
 ghost use Rattle.world_model.specs.Problem.{pair_count};
 
@@ -224,9 +223,9 @@ impl Asker {
         self.solver.solver.clause(id)
     }
 
-    /// Adds a clause that live clauses show, with its line, and answers its id; none exactly where the hints do not show it.
+    /// Adds a clause that live clauses show, with its line, and answers its id; none exactly where a literal is of no variable of
+    /// the problem, or the hints do not show it.
     pub fn derive(&mut self, lits: &[Lit], hints: &[u64]) -> Result<Option<u64>, AllocError>
-        requires range { AreInRange lits.now self.old.solver.variables }
         ensures kept { AskerGoes self.old self.new }
         ensures derived { IfOk result (λ o. IfSome o (IsDerived self.old.solver self.new.solver lits.now hints.now)) }
         ensures none { IfOk result (λ o. IfNone o (IsShown self.old.solver lits.now hints.now → ⊥)) }

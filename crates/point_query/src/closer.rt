@@ -1,14 +1,12 @@
 //! The solver of an asker, with the clauses that closed needs before.
-ghost use Rattle.cert_model.specs.Forced.{IsClosedAt};
+ghost use Rattle.cert_model.specs.Forced.{IsClosedAt, need_at, need_count};
 ghost use Rattle.learn_solver.specs.Solving.{GoesTo, IsSolver, IsTidied};
 ghost use Rattle.lits_core.specs.Derivation.{live_clause};
 ghost use Rattle.point_encode.specs.Needs.{IsInRange, need_seen};
-ghost use Rattle.point_encode.specs.Numbers.{need_at, need_count};
 ghost use Rattle.point_query.specs.Answers.{IsClosed, IsFound};
-ghost use Rattle.point_query.specs.Deriving.{IsDerived, IsShown};
+ghost use Rattle.learn_solver.specs.Hints.{IsDerived, IsShown};
 ghost use Rattle.point_query.specs.Queries.{IsSolverOf, KeepsSolver, asker_with};
 ghost use Rattle.std.specs.Prelude.{IfNone, IfOk, IfSome, MatchOption, OnErr, OnOk, [], length, nat_lt, ◌<◌, ◌≡◌, ◌≤◌};
-ghost use Rattle.watch_arena.specs.Trails.{AreInRange};
 ghost use Rattle.world_model.specs.Problem.{pair_count};
 
 use crate::answers::Found;
@@ -89,7 +87,7 @@ impl Closer {
         self.asked(cursor, number)
     }
 
-    // The same, by the solver, and the clause is noted.
+    // A point of the prefix in the need with a number, or the clause that shows that there is none, by the solver; the clause is noted.
     fn asked(&mut self, cursor: &Cursor, number: u32) -> Result<Found, AllocError>
         requires within { number < need_count cursor.now.problem }
         requires solver { IsSolverOf cursor.now.problem self.old }
@@ -232,7 +230,6 @@ impl Closer {
 
     // Adds a clause that live clauses show.
     pub(crate) fn derive(&mut self, lits: &[Lit], hints: &[u64]) -> Result<Option<u64>, AllocError>
-        requires range { AreInRange lits.now self.old.variables }
         ensures kept { GoesTo self.old self.new }
         ensures derived { IfOk result (λ o. IfSome o (IsDerived self.old self.new lits.now hints.now)) }
         ensures none { IfOk result (λ o. IfNone o (IsShown self.old lits.now hints.now → ⊥)) }

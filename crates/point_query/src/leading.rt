@@ -1,10 +1,10 @@
 //! Which relations lead on from an alive prefix to an alive one.
 ghost use Rattle.point_pool.specs.Pools.{IsPool};
-ghost use Rattle.point_query.specs.Leading.{BeginsWith};
 ghost use Rattle.point_query.specs.Queries.{IsSolverOf, KeepsSolver};
 ghost use Rattle.rcc5_core.specs.RelationSet.{has};
 ghost use Rattle.rcc5_core.specs.declared.Rel.{Rel};
 ghost use Rattle.std.specs.Prelude.{IfOk, IsTrue, OnOk, [], length, ◌++◌, ◌+◌, ◌<◌, ◌↔◌, ◌∷◌, ◌≡◌};
+ghost use Rattle.world_model.specs.Listing.{Begins};
 ghost use Rattle.world_model.specs.Alive.{IsAlive, all_allow, allowed, problem_at};
 ghost use Rattle.world_model.specs.Node.{pair_at};
 ghost use Rattle.world_model.specs.Problem.{pair_count};
@@ -48,10 +48,10 @@ pub(crate) fn alive_after(
     }
 }
 
-// The same where the pool stands at the prefix or beyond it: tries each relation.
+// Tries each relation, where the pool stands at the prefix or beyond it.
 fn each_tried(pool: &mut Pool, solver: &mut Closer, prefix: &Position) -> Result<RelSet, AllocError>
     requires pool { IsPool pool.old }
-    requires beyond { BeginsWith pool.old.cursor.path prefix.now }
+    requires beyond { Begins prefix.now pool.old.cursor.path }
     requires short { length prefix.now < pair_count pool.old.cursor.problem }
     requires allow { IsTrue (all_allow (problem_at pool.old.cursor.problem prefix.now)) }
     requires solver { IsSolverOf pool.old.cursor.problem solver.old }
@@ -78,14 +78,14 @@ fn leads_on(
     rel: Rel,
 ) -> Result<bool, AllocError>
     requires pool { IsPool pool.old }
-    requires beyond { BeginsWith pool.old.cursor.path prefix.now }
+    requires beyond { Begins prefix.now pool.old.cursor.path }
     requires short { length prefix.now < pair_count pool.old.cursor.problem }
     requires allow { IsTrue (all_allow (problem_at pool.old.cursor.problem prefix.now)) }
     requires solver { IsSolverOf pool.old.cursor.problem solver.old }
     ensures solver { KeepsSolver pool.old.cursor.problem solver.old solver.new }
     ensures pool { OnOk result (IsPool pool.new) }
     ensures problem { OnOk result (pool.new.cursor.problem ≡ pool.old.cursor.problem) }
-    ensures beyond { OnOk result (BeginsWith pool.new.cursor.path prefix.now) }
+    ensures beyond { OnOk result (Begins prefix.now pool.new.cursor.path) }
     ensures alive { IfOk result (λ yes. IsTrue yes ↔ IsAlive (problem_at pool.old.cursor.problem (prefix.now ++ rel ∷ []))) }
 {
     law_literals_are_sets();
@@ -123,7 +123,7 @@ fn lacks_point(pool: &mut Pool, solver: &mut Closer, rel: Rel) -> Result<bool, A
     Ok(false)
 }
 
-// The same of one region, by its number among the three.
+// Whether one region is bare there, by its number among the three.
 fn is_bare(pool: &mut Pool, solver: &mut Closer, rel: Rel, part: u32) -> Result<bool, AllocError>
     requires pool { IsPool pool.old }
     requires within { length pool.old.cursor.path < pair_count pool.old.cursor.problem }

@@ -15,6 +15,5 @@ mod settle;
 
 pub use answers::{Alive, Found, Points, Probe};
 pub use asker::Asker;
-pub use drafted::are_in_range;
 pub use given::solver_of;
 pub use question::query;

@@ -10,7 +10,7 @@ ghost use Rattle.world_model.specs.Problem.{pair_count};
 use crate::answers::{Alive, Found, Points, Probe};
 use crate::closer::Closer;
 use crate::settle::{serve, settle};
-use point_encode::{Need, need_at, number_of};
+use point_encode::{Need, need_at, need_number};
 use point_pool::Pool;
 use rcc5_core::Position;
 use std::alloc::AllocError;
@@ -109,7 +109,7 @@ pub(crate) fn ask(
     }
 }
 
-// The same at the prefix of the pool.
+// A point of the pool's prefix in a need, or the clause that shows that there is none.
 fn ask_here(pool: &mut Pool, solver: &mut Closer, need: Need) -> Result<Found, AllocError>
     requires pool { IsPool pool.old }
     requires range { IsInRange pool.old.cursor.problem need }
@@ -119,7 +119,7 @@ fn ask_here(pool: &mut Pool, solver: &mut Closer, need: Need) -> Result<Found, A
     ensures problem { OnOk result (pool.new.cursor.problem ≡ pool.old.cursor.problem) }
     ensures found { IfOk result (IsFound (asker_with pool.old.cursor.problem solver.new) pool.old.cursor.problem pool.old.cursor.path (need_seen pool.old.cursor.problem need)) }
 {
-    let number = number_of(pool.cursor.problem(), need);
+    let number = need_number(pool.cursor.problem(), need);
     if let Some(id) = serve(pool, solver, number)? {
         pool.waiting.push(number)?;
         return Ok(Found::Closed(id));

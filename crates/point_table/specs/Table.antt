@@ -1,13 +1,9 @@
 -- Points in rows of bits: one row a concept, one place a point.
-use Rattle.std.specs.Prelude.{◌≡◌, ℕ, ◌+◌, ◌/◌, ◌<◌, Bool, List, [], length, slice_index_or}
+use Rattle.std.specs.Prelude.{◌≡◌, ℕ, ◌+◌, ◌/◌, ◌<◌, Bool, List, length}
 use Rattle.world_model.specs.Problem.{Problem, concept_count}
-use Rattle.world_model.specs.Alive.{bit_of}
+use Rattle.world_model.specs.Alive.{bit_of, point_at}
 use Rattle.world_model.specs.Trial.{points_by_trial}
 use Rattle.bit_rows.specs.Rows.{BitRows, bit_in}
-
--- the point at a place, and none of all concepts past the last
-abbrev pub point_at : List (List Bool) → ℕ → List Bool
-point_at points place = slice_index_or points place []
 
 -- rows show the bits of points
 pub record AreShown (points : List (List Bool)) (rows : BitRows) : Type 0 where

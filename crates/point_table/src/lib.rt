@@ -8,5 +8,5 @@ mod rules;
 mod table;
 
 pub use grow::bits_of;
-pub use points::{allowed_sets, meets_structure};
-pub use table::{PointTable, all_points, rows_of};
+pub use points::{add_if_empty, allowed_sets, avoids_by, meets_structure};
+pub use table::{all_points, rows_of};

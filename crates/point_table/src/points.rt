@@ -4,16 +4,13 @@ ghost use Rattle.std.specs.List.{list_all, list_any};
 ghost use Rattle.world_model.specs.Problem.{concept_count, children_of, pair_count, kept_sums};
 ghost use Rattle.world_model.specs.Family.{implies};
 ghost use Rattle.world_model.specs.Node.{pair_at};
-ghost use Rattle.world_model.specs.Alive.{bit_of, lies_in, avoids, point_within, point_apart, point_covered, point_sums, meets_structure, is_point};
+ghost use Rattle.world_model.specs.Alive.{bit_of, avoids, avoids_by, point_within, point_apart, point_covered, point_sums, meets_structure, is_point};
 ghost use Rattle.world_model.specs.Points.{has_empty, empty_pairs, avoids_at, sum_holds, sums_from};
 ghost use Rattle.point_table.specs.Points.{AreAllowed};
 
 use constraint_set::{Articulation, Problem};
-use rcc5_core::{Occupancy, Region, Regions, RelSet, forced};
+use rcc5_core::{Occupancy, Regions, RelSet, forced};
 use std::alloc::{AllocError, Global};
-
-// The regions of a pair, in their order.
-const REGIONS: [Region; 3] = [Region::LeftOnly, Region::Both, Region::RightOnly];
 
 /// What each pair allows, by its number.
 pub fn allowed_sets(alloc: Global, problem: &Problem) -> Result<Vec<RelSet>, AllocError>
@@ -37,13 +34,13 @@ pub(crate) fn pairs_with_empty(
 {
     let mut pairs = Vec::new(alloc);
     for pair in 0..problem.pair_count() {
-        push_if_empty(&mut pairs, pair, forced(sets[pair as usize]))?;
+        add_if_empty(&mut pairs, pair, forced(sets[pair as usize]))?;
     }
     Ok(pairs)
 }
 
-// Adds a pair if it has a region that is forced empty.
-fn push_if_empty(pairs: &mut Vec<u32>, pair: u32, regions: Regions) -> Result<(), AllocError>
+/// Adds a pair if it has a region that is forced empty.
+pub fn add_if_empty(pairs: &mut Vec<u32>, pair: u32, regions: Regions) -> Result<(), AllocError>
     ensures { OnOk result (pairs.new.items ≡ pairs.old.items ++ (if has_empty regions then pair ∷ [] else [])) }
 {
     if has_empty(regions) {
@@ -189,16 +186,15 @@ fn sum_holds(articulation: &Articulation, bits: &[bool]) -> bool
     }
 }
 
-// Whether a point lies in a region of a pair.
-fn lies_in(region: Region, pair: (u32, u32), bits: &[bool]) -> bool
-    ensures { result ≡ lies_in region pair bits.now }
+/// Whether no region of two concepts that is forced empty has a point, by whether it is in the left one and in the right one.
+pub fn avoids_by(regions: Regions, left: bool, right: bool) -> bool
+    ensures { result ≡ avoids_by regions left right }
 {
-    let left = bit(bits, pair.0);
-    let right = bit(bits, pair.1);
-    match region {
-        Region::LeftOnly => left && !right,
-        Region::Both => left && right,
-        Region::RightOnly => !left && right,
+    match (left, right) {
+        (true, false) => regions.left_only != Occupancy::Empty,
+        (true, true) => regions.both != Occupancy::Empty,
+        (false, true) => regions.right_only != Occupancy::Empty,
+        (false, false) => true,
     }
 }
 
@@ -206,9 +202,7 @@ fn lies_in(region: Region, pair: (u32, u32), bits: &[bool]) -> bool
 fn avoids(bits: &[bool], pair: (u32, u32), regions: Regions) -> bool
     ensures { result ≡ avoids bits.now (pair, regions) }
 {
-    REGIONS.iter().all(|region| {
-        !(regions.at(*region) == Occupancy::Empty && lies_in(*region, pair, bits))
-    })
+    avoids_by(regions, bit(bits, pair.0), bit(bits, pair.1))
 }
 
 // Whether a point is in no region of some pairs that is forced empty.

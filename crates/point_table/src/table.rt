@@ -1,21 +1,20 @@
 //! All points of a problem, as a list and as rows of bits.
 ghost use Rattle.std.specs.Prelude.{◌≡◌, ℕ, ◌+◌, ◌*◌, ◌/◌, ◌<◌, false, length, All, IfOk, IfSome};
 ghost use Rattle.world_model.specs.Problem.{concept_count};
-ghost use Rattle.world_model.specs.Alive.{bit_of};
+ghost use Rattle.world_model.specs.Alive.{bit_of, point_at};
 ghost use Rattle.world_model.specs.Trial.{points_by_trial};
 ghost use Rattle.bit_rows.specs.Rows.{word_bit, has_bit};
 ghost use Rattle.point_table.specs.Points.{AreAllowed};
-ghost use Rattle.point_table.specs.Table.{point_at, AreShown};
+ghost use Rattle.point_table.specs.Table.{AreShown};
 
 use crate::build::rules_of;
 use crate::grow::{Terms, grow_all};
-use crate::points::{allowed_sets, pairs_with_empty};
-use bit_rows::{Cells, Rows, with_bit};
+use crate::points::pairs_with_empty;
+use bit_rows::{Rows, with_bit};
 use constraint_set::Problem;
 use lits_core::Bits;
 use rcc5_core::RelSet;
 use std::alloc::{AllocError, Global};
-use std::marker::Model;
 
 /// All points of a problem, if they are at most so many and are found in so many tries.
 pub fn all_points(
@@ -92,48 +91,7 @@ pub fn rows_of(alloc: Global, points: &[Bits], count: usize) -> Result<Rows, All
     let mut rows = Rows::new(alloc, points.len() / 64 + 1);
     for concept in 0..count {
         let row = row_of(alloc, points, concept)?;
-        rows.push(&row, &row, &row, &row, Cells::all())?;
+        rows.push_copy(&row)?;
     }
     Ok(rows)
-}
-
-/// All points of a problem, each once, in order.
-#[derive(Drop)]
-pub struct PointTable {
-    points: Vec<Bits>,
-}
-
-impl Model for PointTable {
-    ghost use Rattle.std.specs.Prelude.{Bool, List};
-
-    ghost Value = { List (List Bool) };
-
-    ghost view = { λ t. t.points.items };
-}
-
-impl PointTable {
-    /// The points of a problem, if they are at most so many and a search finds them in so many tries.
-    ///
-    /// Both numbers are hints: nothing is said of when there is no table.
-    pub fn of(
-        alloc: Global,
-        problem: &Problem,
-        most: usize,
-        tries: usize,
-    ) -> Result<Option<PointTable>, AllocError>
-        ensures { IfOk result (λ found. IfSome found (λ table. table ≡ points_by_trial problem.now)) }
-    {
-        let sets = allowed_sets(alloc, problem)?;
-        let Some(points) = all_points(alloc, problem, &sets, most, tries)? else {
-            return Ok(None);
-        };
-        Ok(Some(PointTable { points }))
-    }
-
-    /// The points, in order.
-    pub fn points(&self) -> &[Bits]
-        ensures { result.now ≡ self.now }
-    {
-        &self.points
-    }
 }

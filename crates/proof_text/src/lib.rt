@@ -6,6 +6,7 @@ mod laws;
 mod numbers;
 mod printing;
 mod reading;
+mod spelling;
 mod words;
 
 pub use fault::LineTextFault;
@@ -15,4 +16,5 @@ pub use laws::{
 pub use numbers::{print_number, read_number};
 pub use printing::print_line;
 pub use reading::{number_at, read_derive, read_forget, read_line};
+pub use spelling::{print_position, put_letters, switch_word};
 pub use words::Words;

@@ -11,7 +11,6 @@ use Rattle.world_model.specs.Problem.{Problem, is_problem}
 use Rattle.world_model.proofs.TrialLaws.{trial_is_right_law}
 use Rattle.merge_print.specs.Json.{HasUtf8Names}
 use Rattle.merge_print.specs.Laws.{ReadNamesAreUtf8}
-use Rattle.world_watch.specs.Held.{held}
 use Rattle.world_watch.specs.Steps.{Texts}
 use Rattle.run_ends.specs.declared.Status.{Status}
 use Rattle.run_ends.specs.declared.Status.TheVariants as status

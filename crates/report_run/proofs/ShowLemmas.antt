@@ -14,9 +14,9 @@ use Rattle.world_model.proofs.PointPositions.{world_is_full}
 use Rattle.world_model.proofs.TrialLaws.{trial_is_right_law}
 use Rattle.table_walk.specs.Ahead.{IsOnward, Lists}
 use Rattle.table_walk.specs.Tables.{TablesState, IsAtWorld, PassedTold}
-use Rattle.table_walk.proofs.Stepping.{lists_nowhere}
+use Rattle.table_walk.proofs.WentOn.{lists_nowhere}
 use Rattle.world_search.specs.Searching.{SearchState, Passes, Came}
-use Rattle.world_watch.specs.Held.{held}
+use Rattle.world_model.specs.Saturated.{saturated}
 use Rattle.world_watch.specs.Steps.{Texts, AllTook}
 use Rattle.report_run.specs.Steps.{all_worlds, HaveSeen, AreShownAll}
 
@@ -119,7 +119,7 @@ pub record AreShownTo {W : Type 0} (old new : List W) (name : W → List ℕ) (t
   pub passed : List (List Rel)
   pub upto : IsListing p [] at passed
   pub seen : HaveSeen name text p (passed ++ told) old new
-  pub counted : count ≡ held (length (passed ++ told))
+  pub counted : count ≡ saturated (length (passed ++ told))
 
 -- at first none
 pub shown_first : {W : Type 0} (name : W → List ℕ) (text : W → Texts) (p : Problem) (at : Option (List Rel)) (told : List (List Rel)) (ws : List W) → IsListing p [] at [] → told ≡ []
@@ -128,7 +128,7 @@ shown_first name text p at told ws upto none = record {
   passed = [];
   upto = upto;
   seen = subst (λ ts. HaveSeen name text p ts ws ws) (sym none) (seen_none name text p ws);
-  counted = ap (λ (ts : List (List Rel)). held (length ts)) (sym none);
+  counted = ap (λ (ts : List (List Rel)). saturated (length ts)) (sym none);
 }
 
 pub shown_begun : {W : Type 0} (name : W → List ℕ) (text : W → Texts) (p : Problem) (at : Option (List Rel)) (ws : List W) → at ≡ Some [] → AreShownTo ws ws name text p at [] 0
@@ -141,7 +141,7 @@ shown_passed name text p at other told old new count shown lists = record {
   passed = shown.passed ++ told;
   upto = upto_on p at other shown.passed told shown.upto lists;
   seen = subst (λ ts. HaveSeen name text p ts old new) (sym (append-nil (shown.passed ++ told))) shown.seen;
-  counted = shown.counted ∙ ap (λ (ts : List (List Rel)). held (length ts)) (sym (append-nil (shown.passed ++ told)));
+  counted = shown.counted ∙ ap (λ (ts : List (List Rel)). saturated (length ts)) (sym (append-nil (shown.passed ++ told)));
 }
 
 -- one more world is shown
@@ -152,7 +152,7 @@ shown_more name text p at t old mid new count count' shown took more = record {
   upto = shown.upto;
   seen = seen_more name text p shown.passed t old mid new (subst (λ ts. HaveSeen name text p ts old mid) (append-nil shown.passed) shown.seen) took;
   counted =
-      let before : count ≡ held (length shown.passed) = shown.counted ∙ ap (λ (ts : List (List Rel)). held (length ts)) (append-nil shown.passed) in
+      let before : count ≡ saturated (length shown.passed) = shown.counted ∙ ap (λ (ts : List (List Rel)). saturated (length ts)) (append-nil shown.passed) in
       omega (arith, more, before, length-append shown.passed (t ∷ []));
 }
 
@@ -162,7 +162,7 @@ pub shown_all : {W : Type 0} (name : W → List ℕ) (text : W → Texts) (p : P
 shown_all name text p valid old new count shown =
     let same : shown.passed ++ [] ≡ all_worlds p = append-nil shown.passed ∙ one_listing_law.worlds p [] None _ _ shown.upto (trial_is_right_law.worlds p valid [] None) in (
       subst (λ ts. HaveSeen name text p ts old new) same shown.seen,
-      shown.counted ∙ ap (λ (ts : List (List Rel)). held (length ts)) same,
+      shown.counted ∙ ap (λ (ts : List (List Rel)). saturated (length ts)) same,
     )
 
 -- a table's next world is shown

@@ -8,7 +8,7 @@ use Rattle.world_model.specs.Problem.{Problem}
 use Rattle.world_model.specs.Listing.{IsListing}
 use Rattle.cleantax_text.specs.declared.TextKind.{TextKind}
 use Rattle.cleantax_text.specs.Reading.{text_result}
-use Rattle.world_watch.specs.Held.{held}
+use Rattle.world_model.specs.Saturated.{saturated}
 use Rattle.world_watch.specs.Steps.{Texts}
 use Rattle.run_ends.specs.declared.Status.{Status}
 use Rattle.run_ends.specs.declared.Status.TheVariants.{Done, RefusedText, NoWorld}
@@ -42,7 +42,7 @@ report_of p worlds w = line_of (codes "report " ++ w.name) ++ in_lines (w.text p
 
 -- the reports of some watchers, and how many worlds there are
 abbrev pub report_text : Problem → List (List Rel) → List Watched → List ℕ
-report_text p worlds ws = flat_map (report_of p worlds) ws ++ complete_line (held (length worlds))
+report_text p worlds ws = flat_map (report_of p worlds) ws ++ complete_line (saturated (length worlds))
 
 -- a good end: NoWorld where there is no world
 abbrev pub report_status : List (List Rel) → Status

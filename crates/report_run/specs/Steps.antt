@@ -3,7 +3,7 @@ use Rattle.std.specs.Prelude.{◌≡◌, ◌<◌, ℕ, List, [], ◌++◌, lengt
 use Rattle.rcc5_core.specs.declared.Rel.{Rel}
 use Rattle.world_model.specs.Problem.{Problem}
 use Rattle.world_model.specs.Trial.{worlds_between}
-use Rattle.world_watch.specs.Held.{held}
+use Rattle.world_model.specs.Saturated.{saturated}
 use Rattle.world_watch.specs.Steps.{Texts}
 use Rattle.run_ends.specs.declared.Status.{Status}
 use Rattle.run_ends.specs.declared.Status.TheVariants.{Done, NoWorld}
@@ -30,7 +30,7 @@ pub record HaveSeen {W : Type 0} (name : W → List ℕ) (text : W → Texts) (p
 
 -- watchers have seen all worlds of a problem, which are so many
 abbrev pub AreShownAll : {W : Type 0} → (W → List ℕ) → (W → Texts) → Problem → List W → List W → ℕ → Type 0
-AreShownAll name text p old new count = HaveSeen name text p (all_worlds p) old new × (count ≡ held (length (all_worlds p)))
+AreShownAll name text p old new count = HaveSeen name text p (all_worlds p) old new × (count ≡ saturated (length (all_worlds p)))
 
 -- a good end by the number of worlds
 abbrev pub status_at : ℕ → Status

@@ -1,7 +1,7 @@
 //! The lines of reports.
-ghost use Rattle.std.specs.Prelude.{◌≡◌, ◌++◌, [], codes, flat_map, map, string_bytes, IfOk};
+ghost use Rattle.std.specs.Prelude.{◌≡◌, ◌++◌, [], codes, flat_map, map, IfOk};
 ghost use Rattle.merge_print.specs.Json.{HasUtf8Names};
-ghost use Rattle.run_ends.specs.Ends.{line_of, in_lines, complete_line};
+ghost use Rattle.run_ends.specs.Ends.{line_of, in_lines};
 ghost use Rattle.run_ends.specs.Runs.{LeavesPiece};
 ghost use Rattle.report_run.specs.Reporting.{watched, report_of};
 
@@ -42,7 +42,7 @@ fn put_told<W: Sink>(
     put_lines(alloc, out, &report)
 }
 
-// The same under its heading.
+// Puts what a watcher reports, under its heading.
 fn put_report<W: Sink>(
     alloc: Global,
     out: &mut W,
@@ -73,22 +73,4 @@ pub(crate) fn put_reports<W: Sink>(
         put_report(alloc, out, problem, &kinds[place], &watchers[place])?;
     }
     Ok(())
-}
-
-fn complete_line(alloc: Global, count: u64) -> Result<String, AllocError>
-    ensures { IfOk result (λ line. string_bytes line ≡ complete_line count) }
-{
-    format!(in alloc; "complete {count}\n")
-}
-
-/// Puts how many worlds there are.
-pub(crate) fn put_complete<W: Sink>(
-    alloc: Global,
-    out: &mut W,
-    count: u64,
-) -> Result<(), StoreFault>
-    ensures { LeavesPiece result (complete_line count) (W.state out.old) (W.state out.new) }
-{
-    let line = complete_line(alloc, count)?;
-    out.put(line.as_bytes())
 }

@@ -7,13 +7,13 @@ ghost use Rattle.report_run.specs.Reporting.{watched, asked, AreKinds, report_of
 ghost use Rattle.report_run.specs.Steps.{all_worlds, status_at};
 
 use crate::asked::asked_for;
-use crate::putting::{put_complete, put_reports};
+use crate::putting::put_reports;
 use crate::showing::show_all;
 use command_line::Word;
 use constraint_set::Problem;
 use merge_print::read_names_are_utf8;
 use outer_store::{Sink, Store, StoreFault};
-use run_ends::{Status, problem_under, put_end};
+use run_ends::{Status, problem_under, put_complete, put_end};
 use std::alloc::Global;
 use world_model::Switches;
 use world_watch::WorldWatcher;

@@ -104,7 +104,7 @@ fn show_found(
     Ok(count)
 }
 
-// The same by a new search.
+// Shows watchers all worlds that a new search finds, and counts them.
 fn show_searched(
     alloc: Global,
     problem: &Problem,

@@ -5,7 +5,8 @@ use Rattle.rcc5_core.specs.declared.Rel.{Rel}
 use Rattle.rcc5_core.specs.declared.Rel.TheVariants.{Equals, Includes, IncludedIn, Overlaps, Disjoint}
 use Rattle.rcc5_core.specs.Relation.{with_letter, letter_of}
 use Rattle.proof_text.specs.Laws.{has_byte}
-use Rattle.resume_token.specs.Token.{rels_of, position_in, position_word}
+use Rattle.proof_text.specs.Words.{position_word}
+use Rattle.resume_token.specs.Token.{rels_of, position_in}
 
 -- relations before others, if those are some
 abbrev pub onto_rels : List Rel → Option (List Rel) → Option (List Rel)

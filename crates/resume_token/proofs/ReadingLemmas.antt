@@ -9,14 +9,14 @@ use Rattle.std.proofs.Math.Nat.{mul-le-mul}
 use Rattle.rcc5_core.specs.declared.Rel.{Rel}
 use Rattle.world_model.specs.Problem.{Problem, pair_count, concept_count}
 use Rattle.constraint_set.specs.Facts.{IsBuilt}
-use Rattle.proof_text.specs.Words.{words_of}
+use Rattle.proof_text.specs.Words.{words_of, position_word}
 use Rattle.proof_text.specs.Laws.{has_byte}
 use Rattle.proof_text.specs.Numbers.{number_in}
 use Rattle.proof_text.proofs.WordLemmas.{words_of-joined, joined-clean}
 use Rattle.proof_text.proofs.NumberLemmas.{number_in-decimal, decimal-no_byte}
 use Rattle.resume_token.specs.Contents.{Contents, is_digest, is_digest_byte, contents_of_words, contents_of_lines, contents_of}
 use Rattle.resume_token.specs.Printing.{words_behind}
-use Rattle.resume_token.specs.Token.{digest_of, position_word, token_text, contents_result, token_result}
+use Rattle.resume_token.specs.Token.{digest_of, token_text, contents_result, token_result}
 use Rattle.resume_token.proofs.PositionLemmas.{IsShortWord, position_in-word, position_word-short}
 use Rattle.resume_token.proofs.DigestLemmas.{encoded-is_digest, digits-clean}
 

@@ -1,10 +1,11 @@
 -- Tokens: the text of a problem and a position, and the position that a token has for a problem.
-use Rattle.std.specs.Prelude.{◌≡◌, ◌≤◌, ℕ, ◌==◌, nat_le, Bool, true, ◌&&◌, not, if◌then◌else◌, List, [], ◌∷◌, ◌++◌, length, map, codes, decimal, bytes_eq, Option, Some, None, option_map, option_and_then, Result, Ok, Err, ok_or}
+use Rattle.std.specs.Prelude.{◌≡◌, ◌≤◌, ℕ, ◌==◌, nat_le, Bool, true, ◌&&◌, not, if◌then◌else◌, List, [], ◌∷◌, ◌++◌, length, codes, decimal, bytes_eq, Option, Some, None, option_map, option_and_then, Result, Ok, Err, ok_or}
 use Rattle.std.specs.List.{join_with_byte}
 use Rattle.hex.specs.Hex.{encode_lower}
 use Rattle.sha2.specs.Sha256.{sha256}
 use Rattle.rcc5_core.specs.declared.Rel.{Rel}
-use Rattle.rcc5_core.specs.Relation.{letter_of, with_letter}
+use Rattle.rcc5_core.specs.Relation.{with_letter}
+use Rattle.proof_text.specs.Words.{switch_word, position_word}
 use Rattle.world_model.specs.Problem.{Problem, pair_count}
 use Rattle.world_model.specs.declared.Switches.{Switches}
 use Rattle.constraint_set.specs.Facts.{IsBuilt}
@@ -15,10 +16,6 @@ use Rattle.resume_token.specs.declared.TokenFault.{TokenFault}
 use Rattle.resume_token.specs.declared.TokenFault.TheVariants as fault
 use Rattle.resume_token.specs.Contents.{Contents, contents_of}
 
--- a switch as a word
-abbrev pub switch_word : Bool → List ℕ
-switch_word on = if on then codes "on" else codes "off"
-
 -- the line of the switches
 abbrev pub switches_line : Switches → List ℕ
 switches_line s =
@@ -27,11 +24,6 @@ switches_line s =
 -- the digest of a problem, in hexadecimal digits: SHA-256 of its canonical text, followed by the line of its switches
 abbrev pub digest_of : Problem → List ℕ
 digest_of p = encode_lower (sha256 (canonical_text p ++ switches_line p.switches))
-
--- a position as a word: its letters, and a full stop for the empty one
-abbrev pub position_word : List Rel → List ℕ
-position_word [] = codes "."
-position_word (rel ∷ rels) = map letter_of (rel ∷ rels)
 
 -- the words of a token
 abbrev pub token_words : Problem → List Rel → List (List ℕ)

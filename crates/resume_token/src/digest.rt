@@ -1,19 +1,14 @@
 //! The digest of a problem.
 ghost use Rattle.std.specs.Prelude.{◌≡◌, ◌++◌, string_bytes, IfOk, OnOk};
 ghost use Rattle.constraint_set.specs.Facts.{IsAsRead};
-ghost use Rattle.resume_token.specs.Token.{switch_word, switches_line, digest_of};
+ghost use Rattle.resume_token.specs.Token.{switches_line, digest_of};
 
 use cleantax_text::print_problem;
 use constraint_set::Problem;
+use proof_text::switch_word;
 use sha2::{Digest, Sha256};
 use std::alloc::{AllocError, Global};
 use world_model::Switches;
-
-fn switch_word(on: bool) -> &'static [u8]
-    ensures { result.now ≡ switch_word on }
-{
-    if on { b"on" } else { b"off" }
-}
 
 fn put_switches(out: &mut Vec<u8>, switches: Switches) -> Result<(), AllocError>
     ensures { OnOk result (out.new.items ≡ out.old.items ++ switches_line switches) }

@@ -1,30 +1,10 @@
-//! Positions as words.
-ghost use Rattle.std.specs.Prelude.{◌≡◌, ◌++◌, bytes_eq, codes, map, IfOk, OnOk};
-ghost use Rattle.rcc5_core.specs.Relation.{letter_of};
-ghost use Rattle.resume_token.specs.Token.{position_word, rels_of, position_in, position_for};
+//! Positions read from words.
+ghost use Rattle.std.specs.Prelude.{◌≡◌, bytes_eq, codes, IfOk};
+ghost use Rattle.resume_token.specs.Token.{rels_of, position_in, position_for};
 
 use constraint_set::Problem;
 use rcc5_core::{Position, Rel};
 use std::alloc::{AllocError, Global};
-
-/// Puts a position as a word at the end: its letters, and a full stop for the empty one.
-pub(crate) fn put_position(out: &mut Vec<u8>, position: &Position) -> Result<(), AllocError>
-    ensures { OnOk result (out.new.items ≡ out.old.items ++ position_word position.now) }
-{
-    if position.is_empty() {
-        return out.extend_from_slice(b".");
-    }
-    put_letters(out, position.rels())
-}
-
-fn put_letters(out: &mut Vec<u8>, rels: &[Rel]) -> Result<(), AllocError>
-    ensures { OnOk result (out.new.items ≡ out.old.items ++ map letter_of rels.now) }
-{
-    for rel in rels {
-        out.push(rel.letter())?;
-    }
-    Ok(())
-}
 
 // The relations that letters stand for, if each stands for one.
 #[tactic(auto, using(crate::proofs::PositionLemmas::rels_rules))]

@@ -6,10 +6,9 @@ ghost use Rattle.resume_token.specs.Token.{token_text, token_result};
 ghost use Rattle.resume_token.specs.Printing.{words_behind};
 
 use crate::digest::digest_of;
-use crate::position::put_position;
 use crate::printing_reads_back;
 use constraint_set::Problem;
-use proof_text::print_number;
+use proof_text::{print_number, print_position};
 use rcc5_core::Position;
 use std::alloc::{AllocError, Global};
 
@@ -28,7 +27,7 @@ fn put_words(
     out.push(b' ')?;
     out.extend_from_slice(digest)?;
     out.push(b' ')?;
-    put_position(out, position)?;
+    print_position(out, position)?;
     out.push(b'\n')?;
     Ok(())
 }

@@ -2,3 +2,4 @@ pub mod ReadLemmas
 pub mod EndLemmas
 pub mod PieceLemmas
 pub mod TextLemmas
+pub mod OneName

@@ -15,7 +15,7 @@ use command_line::UsageKind;
 pub use help::text_help;
 pub use lines::put_lines;
 pub use names::{cert_name, reject_name, text_name, token_name};
-pub use put::{put_end, put_line};
+pub use put::{put_complete, put_end, put_line};
 use rcc5_core::Position;
 pub use read::{TEXT_LIMIT, read_front};
 use resume_token::TokenKind;

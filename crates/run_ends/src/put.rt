@@ -1,8 +1,8 @@
 //! Lines on a sink.
-ghost use Rattle.std.specs.Prelude.{◌≡◌, ◌≤◌, string_bytes, IfOk, OnOk, OnErr};
+ghost use Rattle.std.specs.Prelude.{◌≡◌, ◌≤◌, ◌++◌, [], ◌∷◌, codes, decimal, string_bytes, IfOk, OnOk, OnErr};
 ghost use Rattle.outer_store.specs.Bytes.{GrownInPart, added};
 ghost use Rattle.outer_store.specs.Faults.{Rose, IfFailed};
-ghost use Rattle.run_ends.specs.Ends.{line_of, refused_words, usage_words, token_words, cert_words, rejected_words, end_line, IsLastPut};
+ghost use Rattle.run_ends.specs.Ends.{line_of, refused_words, usage_words, token_words, cert_words, rejected_words, complete_line, end_line, IsLastPut};
 ghost use Rattle.run_ends.specs.Runs.{LeavesPiece};
 
 use crate::{Status, cert_name, reject_name, text_name, token_name};
@@ -20,6 +20,20 @@ pub fn put_line<W: Sink>(alloc: Global, out: &mut W, words: &[u8]) -> Result<(),
 {
     let line = whole_line(alloc, words)?;
     out.put(&line)
+}
+
+/// Puts the last line of a listing that was not cut: how many worlds there are.
+pub fn put_complete<W: Sink>(alloc: Global, out: &mut W, count: u64) -> Result<(), StoreFault>
+    ensures { LeavesPiece result (complete_line count) (W.state out.old) (W.state out.new) }
+{
+    let words = complete_words(alloc, count)?;
+    put_line(alloc, out, words.as_bytes())
+}
+
+fn complete_words(alloc: Global, count: u64) -> Result<String, AllocError>
+    ensures { IfOk result (λ words. string_bytes words ++ 10 ∷ [] ≡ complete_line count) }
+{
+    format!(in alloc; "complete {count}")
 }
 
 fn whole_line(alloc: Global, words: &[u8]) -> Result<Vec<u8>, AllocError>

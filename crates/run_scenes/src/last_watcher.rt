@@ -1,10 +1,10 @@
 //! A watcher of a caller's own that keeps the last table.
 
-ghost use Rattle.std.specs.Prelude.{◌≡◌, map, IfOk};
-ghost use Rattle.rcc5_core.specs.Relation.{letter_of};
+ghost use Rattle.std.specs.Prelude.{◌≡◌, IfOk};
 ghost use Rattle.run_ends.specs.Ends.{world_line};
 
 use constraint_set::Problem;
+use proof_text::put_letters;
 use rcc5_core::Position;
 use std::alloc::{AllocError, Global};
 use world_watch::WorldWatcher;
@@ -16,16 +16,11 @@ pub struct LastWatcher {
     line: Vec<u8>,
 }
 
-fn letters_of(alloc: Global, table: &Position) -> Result<Vec<u8>, AllocError>
-    ensures { IfOk result (λ letters. letters.items ≡ map letter_of table.now) }
-{
-    table.rels().iter().map(|rel| rel.letter()).collect(alloc)
-}
-
 fn line_of(alloc: Global, table: &Position) -> Result<Vec<u8>, AllocError>
     ensures { IfOk result (λ line. line.items ≡ world_line table.now) }
 {
-    let mut line = letters_of(alloc, table)?;
+    let mut line = Vec::new(alloc);
+    put_letters(&mut line, table.rels())?;
     line.push(b'\n')?;
     Ok(line)
 }

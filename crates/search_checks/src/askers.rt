@@ -43,7 +43,7 @@ fn without_clause(probe: Probe) -> Probe {
     }
 }
 
-/// The same of an answer with points, and how many points there are.
+/// An answer with points as one without them, and how many points there are.
 fn without_points(alive: &Alive) -> (Probe, usize) {
     match alive {
         Alive::Points(points) => (Probe::Alive, points.list().len()),

@@ -94,7 +94,7 @@ fn is_met(
     Ok(found == listed)
 }
 
-/// The same right behind each world.
+/// Whether what is met right behind each world is what the lists say.
 fn is_met_behind(
     alloc: Global,
     problem: &Problem,

@@ -69,7 +69,7 @@ fn is_met(
     Ok(met.unlike == 0 && met.worlds as usize == worlds.len())
 }
 
-/// The same of all problems that keep these articulations: a sign for each.
+/// Whether walks agree on all problems that keep these articulations: a sign for each.
 fn put_kept(
     out: &mut String,
     alloc: Global,

@@ -16,6 +16,11 @@ abbrev pub step_fault : StoreFault → StepFault
 step_fault store.Failed = LogFailed
 step_fault store.NoMemory = NoMemory
 
+-- a fault of a step as one of the store that the log is in
+abbrev pub store_fault : StepFault → StoreFault
+store_fault LogFailed = store.Failed
+store_fault NoMemory = store.NoMemory
+
 -- the told lines are told still, with more behind them
 abbrev pub AddsLines : Told → Told → Type 0
 AddsLines old new = IfSome old (λ lines. (more : List CertLine) × (new ≡ Some (lines ++ more)))

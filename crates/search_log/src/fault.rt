@@ -1,7 +1,7 @@
 //! Why a step of a search is refused.
 ghost use Rattle.std.specs.Prelude.{◌≡◌};
 ghost use Rattle.search_log.specs.declared.fault.StepFault.TheVariants.{NoMemory};
-ghost use Rattle.search_log.specs.Logging.{step_fault};
+ghost use Rattle.search_log.specs.Logging.{step_fault, store_fault};
 
 use outer_store::StoreFault;
 use std::alloc::AllocError;
@@ -32,5 +32,16 @@ impl From<StoreFault> for StepFault {
             StoreFault::Failed => StepFault::LogFailed,
             StoreFault::NoMemory => StepFault::NoMemory,
         }
+    }
+}
+
+/// A fault of a step as one of the store that the log is in.
+pub fn store_fault(fault: StepFault) -> StoreFault
+    ensures value { result ≡ store_fault fault }
+    ensures back { step_fault result ≡ fault }
+{
+    match fault {
+        StepFault::LogFailed => StoreFault::Failed,
+        StepFault::NoMemory => StoreFault::NoMemory,
     }
 }

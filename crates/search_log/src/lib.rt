@@ -2,14 +2,12 @@
 #![tactic(auto)]
 
 mod copies;
-mod derive;
 mod families;
 mod fault;
 mod idle;
 mod put;
 
-pub use derive::derived;
 pub use families::raw_family;
-pub use fault::StepFault;
+pub use fault::{StepFault, store_fault};
 pub use idle::{tidy, tidy_by_turns};
 pub use put::{put_one, put_waiting};

@@ -1,6 +1,6 @@
 -- Lines of nodes, as an asker tells of them. The lemmas are those of a search over all pairs, at the empty prefix of a node's problem.
-use Rattle.std.proofs.Common.{◌≡◌, ℕ, ◌+◌, ◌*◌, ◌-◌, ◌/◌, ◌%◌, ◌<◌, cond, List, [], ◌∷◌, length, Option, Some, None, refl, sym, ap, ◌∙◌, subst, arith}
-use Rattle.std.specs.Prelude.{Contains, nat_lt}
+use Rattle.std.proofs.Common.{◌≡◌, ℕ, cond, List, [], ◌∷◌, length, Option, Some, None, refl, sym, ap, ◌∙◌, subst, arith}
+use Rattle.std.specs.Prelude.{Contains}
 use Rattle.std.proofs.lemmas.Bool.{lt-ltb}
 use Rattle.std.proofs.lemmas.List.Elements.{Contains-append_right}
 use Rattle.rcc5_core.specs.declared.Rel.{Rel}
@@ -9,11 +9,10 @@ use Rattle.world_model.specs.Problem.{Problem, concept_count, pair_count}
 use Rattle.world_model.specs.Alive.{InRegion, InConcept, problem_at, IsAlive}
 use Rattle.world_model.specs.Node.{pair_at}
 use Rattle.world_model.proofs.PointOnce.{at_empty}
-use Rattle.cert_model.specs.Forced.{need_with, region_with}
-use Rattle.cert_model.proofs.NeedLiterals.{concept_numbered}
+use Rattle.cert_model.specs.Forced.{need_at, need_count, need_with}
 use Rattle.point_encode.specs.declared.need.Need.{Need}
-use Rattle.point_encode.specs.declared.need.Need.TheVariants.{Region, Concept}
-use Rattle.point_encode.specs.Needs.{need_seen, number_of, IsInRange}
+use Rattle.point_encode.specs.Needs.{need_seen, IsInRange, need_number}
+use Rattle.point_pool.proofs.Settling.{numbered_need}
 use Rattle.point_query.specs.Asking.{AskerState}
 use Rattle.point_query.specs.Answers.{IsFirstClosed, IsFirstEmpty}
 use Rattle.cert_text.specs.declared.line.CertLine.TheVariants.{NoPoint, NoRelation}
@@ -23,18 +22,13 @@ use Rattle.cert_rules.specs.Writing.{IsClosedNeed}
 use Rattle.cert_rules.proofs.NodeLines.{named}
 
 -- the need with its number
-need_numbered : (p : Problem) (need : Need) → IsInRange p need → need_with p (number_of p need) ≡ Some (need_seen p need)
-need_numbered p (Region pair part) range =
-    let small : 3 * pair + part < 3 * pair_count p = omega (arith, range) in
-    let third : (3 * pair + part) / 3 ≡ pair = omega (arith, range) in
-    let rest : (3 * pair + part) % 3 ≡ part = omega (arith, range) in
-    ap (λ b. cond b (Some (InRegion (pair_at p ((3 * pair + part) / 3)) (region_with ((3 * pair + part) % 3))))
-    (cond (nat_lt (3 * pair + part) (3 * pair_count p + concept_count p)) (Some (InConcept ((3 * pair + part) - 3 * pair_count p))) None)) (lt-ltb (3 * pair + part) (3 * pair_count p) small)
-    ∙ ap (λ k. Some (InRegion (pair_at p k) (region_with ((3 * pair + part) % 3)))) third ∙ ap (λ k. Some (InRegion (pair_at p pair) (region_with k))) rest
-need_numbered p (Concept c) range = concept_numbered p c range
+need_numbered : (p : Problem) (need : Need) → IsInRange p need → need_with p (need_number p need) ≡ Some (need_seen p need)
+need_numbered p need range =
+    let n = numbered_need p need range in
+    ap (λ b. cond b (Some (need_at p (need_number p need))) None) (lt-ltb (need_number p need) (need_count p) n.0) ∙ ap Some n.1
 
 -- a need that has no point, by its number
-pub closed_need : (asker : AskerState) (p : Problem) (m : List Rel) (need : Need) (id number : ℕ) → number ≡ number_of p need → IsInRange p need → IsFirstClosed asker p m (need_seen p need) id →
+pub closed_need : (asker : AskerState) (p : Problem) (m : List Rel) (need : Need) (id number : ℕ) → number ≡ need_number p need → IsInRange p need → IsFirstClosed asker p m (need_seen p need) id →
     IsClosedNeed p asker.solver.state m number id
 closed_need asker p m need id number is range closed = record {
   need = need_seen p need;
@@ -64,7 +58,7 @@ tells_pair tree m node prefix state depth last pair here is_depth is_last first 
     (named m depth last is_depth is_last, (at.within, at.empty))
 
 pub tells_need : (tree : Branching) (m : List Rel) (node : Problem) (prefix : List Rel) (asker : AskerState) (depth : ℕ) (last : Option Rel) (need : Need) (id number : ℕ) → here_is tree m node prefix →
-    depth ≡ length m → last ≡ last_of m → number ≡ number_of node need → IsInRange node need → IsFirstClosed asker node prefix (need_seen node need) id →
+    depth ≡ length m → last ≡ last_of m → number ≡ need_number node need → IsInRange node need → IsFirstClosed asker node prefix (need_seen node need) id →
     TellsWithin tree asker.solver.state m (NoPoint depth last number id)
 tells_need tree m node prefix asker depth last need id number here is_depth is_last is range closed = (
   named m depth last is_depth is_last,

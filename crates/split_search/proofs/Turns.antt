@@ -10,8 +10,8 @@ use Rattle.point_query.specs.Asking.{AskerState, AskerGoes}
 use Rattle.cert_text.specs.Logs.{Told}
 use Rattle.search_log.specs.Logging.{AddsLines}
 use Rattle.split_search.specs.declared.choice.Choice.TheVariants.{Met}
-use Rattle.split_search.specs.declared.visit.Turn.TheVariants as turn
-use Rattle.split_search.specs.declared.walk.Walk.{Walk}
+use Rattle.split_search.specs.declared.visit.VisitEnd.TheVariants as turn
+use Rattle.split_search.specs.declared.walk.NodePath.{NodePath}
 use Rattle.split_search.specs.Walking.{IsWalk, IsTurn, KeepsTree}
 use Rattle.split_search.proofs.Leftover.{left, falls}
 use Rattle.split_search.proofs.Nodes.{pairs_counted}
@@ -41,7 +41,7 @@ pub none_before : (q s : Problem) (m new : List Rel) → IsBuilt q → s ≡ q �
 none_before q s m new built same none past = no_tables_past q m (Some new) built (subst (λ q. IsTurn q m new turn.On) same past) none
 
 -- a walk whose node is within the split pairs of a problem
-within_pairs : (q : Problem) (w : Walk) → IsWalk w → w.subject ≡ q → length w.path ≤ length (split_pairs q)
+within_pairs : (q : Problem) (w : NodePath) → IsWalk w → w.subject ≡ q → length w.path ≤ length (split_pairs q)
 within_pairs q w walk same =
     let counted = pairs_counted w.subject w.pairs.items walk.pairs in
     let all : length (split_pairs w.subject) ≡ length (split_pairs q) = ap (λ q. length (split_pairs q)) same in
@@ -49,7 +49,7 @@ within_pairs q w walk same =
     omega (arith, counted, all, short)
 
 -- fewer positions are left after a turn
-pub falls_on : (q : Problem) (w v : Walk) → IsWalk w → IsWalk v → w.subject ≡ q → v.subject ≡ w.subject → IsTurn w.subject w.path v.path turn.On →
+pub falls_on : (q : Problem) (w v : NodePath) → IsWalk w → IsWalk v → w.subject ≡ q → v.subject ≡ w.subject → IsTurn w.subject w.path v.path turn.On →
     left (length (split_pairs q)) v.path < left (length (split_pairs q)) w.path
 falls_on q w v one other same later past =
     falls (length (split_pairs q)) w.path v.path (within_pairs q w one same) (within_pairs q v other (later ∙ same)) (past_after w.subject w.path v.path past)

@@ -20,7 +20,7 @@ use Rattle.cert_rules.specs.Trees.{node_problem, table_along, sets_of}
 use Rattle.cert_rules.specs.ClaimLists.{split_pairs}
 use Rattle.cert_rules.proofs.Nexts.{next_after, below_nothing}
 use Rattle.cert_rules.proofs.NodeProblems.{children_narrow_law}
-use Rattle.cert_rules.proofs.Sound.{IsTableOf, IsTree, past_leaf, past_branch, dead_below}
+use Rattle.cert_rules.proofs.Sound.{IsTableOf, IsBranchingOf, past_leaf, past_branch, dead_below}
 use Rattle.split_search.specs.declared.visit.Visit.TheVariants.{Past}
 use Rattle.split_search.specs.Walking.{split_tree, next_node, IsVisit, IsPast}
 
@@ -28,7 +28,7 @@ use Rattle.split_search.specs.Walking.{split_tree, next_node, IsVisit, IsPast}
 abbrev is_split : Problem → ℕ × ℕ → Bool
 is_split q pair = not (is_empty_set (allowed q pair) || is_whole_set (allowed q pair))
 
-split_tree_is : (q : Problem) → IsBuilt q → IsTree (split_tree q) (given_clauses q)
+split_tree_is : (q : Problem) → IsBuilt q → IsBranchingOf (split_tree q) (given_clauses q)
 split_tree_is q built = record { built = built; clauses = refl; levels = λ pair i. (from_filter (is_split q) (pairs q) i).0; room = omega arith }
 
 -- no table of a family that meets the problem comes before a node, or there is none at all

@@ -26,7 +26,7 @@ pub choice_err : (Q : StepFault → Type 0) (r : Result Choice StepFault) (q : P
 choice_err Q (Ok choice) q old new one other at h k = absurd h
 choice_err Q (Err fault) q old new one other at h k = λ p subject claims e. (at, k p subject claims e)
 
--- the same, with a node for each list of claims
+-- a choice that fails stands within a tree, with a node for each list of claims
 pub choice_fault : (Q : StepFault → Type 0) (r : Result Choice StepFault) (q : Problem) (old new : Told) (one other : AskerState) → IsErrAnd r Q →
     ((p : Problem) (subject : Subject) (claims : List Claim) → subject_problem p subject ≡ q → KeepsSomewhere p subject claims old new one other) → KeepsChoice q r old new one other
 choice_fault Q (Ok choice) q old new one other h k = absurd h
@@ -41,7 +41,7 @@ choice_then (Met f) q a b c one two three adds first second = λ p subject claim
 choice_then Refuted q a b c one two three adds first second = λ p subject claims e.
     open_joins p subject claims a b c one two three (Some []) None None adds (first p subject claims e) (second None p subject claims e)
 
--- the same where this call, or a later one, fails
+-- so does one behind which a later call fails
 pub choice_then_err : (Q : StepFault → Type 0) (r : Result Choice StepFault) (choice : Choice) (q : Problem) (a b c : Told) (one two three : AskerState) → IsErrAnd r Q → AddsLines a b →
     KeepsChoice q (Ok choice) a b one two → ((at : Option (List Rel)) → KeepsTree q b c two three at at) → KeepsChoice q r a c one three
 choice_then_err Q (Ok other) choice q a b c one two three h adds first second = absurd h

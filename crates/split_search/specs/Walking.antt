@@ -15,11 +15,11 @@ use Rattle.cert_rules.specs.ClaimLists.{subject_problem, split_pairs, Claim}
 use Rattle.cert_rules.specs.ClaimWriting.{TellsWithin}
 use Rattle.search_log.specs.Logging.{next_if}
 use Rattle.search_log.specs.declared.fault.StepFault.{StepFault}
-use Rattle.split_search.specs.declared.walk.Walk.{Walk}
+use Rattle.split_search.specs.declared.walk.NodePath.{NodePath}
 use Rattle.split_search.specs.declared.visit.Visit.{Visit}
 use Rattle.split_search.specs.declared.visit.Visit.TheVariants.{Met, Past}
-use Rattle.split_search.specs.declared.visit.Turn.{Turn}
-use Rattle.split_search.specs.declared.visit.Turn.TheVariants as turn
+use Rattle.split_search.specs.declared.visit.VisitEnd.{VisitEnd}
+use Rattle.split_search.specs.declared.visit.VisitEnd.TheVariants as turn
 use Rattle.split_search.specs.Choosing.{IsMetBy}
 use Rattle.split_search.specs.Claiming.{KeepsOpen}
 
@@ -37,7 +37,7 @@ problems_from tree m [] = node_problem tree m ∷ []
 problems_from tree m (rel ∷ rest) = node_problem tree m ∷ problems_from tree (m ++ rel ∷ []) rest
 
 -- a walk has the split pairs of its problem, by their numbers, and the problems on the way from the root to its node
-pub record IsWalk (walk : Walk) : Type 0 where
+pub record IsWalk (walk : NodePath) : Type 0 where
   pub pairs : map (pair_at walk.subject) walk.pairs.items ≡ split_pairs walk.subject
   pub within : All (λ pair. pair < pair_count walk.subject) walk.pairs.items
   pub short : length walk.path ≤ length walk.pairs.items
@@ -66,13 +66,13 @@ pub record IsPast (q : Problem) (m : List Rel) (next : Option (List Rel)) : Type
   pub next_is : next_node q branches m ≡ next
 
 -- the node that is expected after a turn from one node to another
-abbrev pub turn_next : List Rel → List Rel → Turn → Option (List Rel)
+abbrev pub turn_next : List Rel → List Rel → VisitEnd → Option (List Rel)
 turn_next m new (turn.Met f) = Some m
 turn_next m new turn.On = Some new
 turn_next m new turn.Done = None
 
 -- a turn from a node: a family that meets the problem, or the node is passed
-abbrev pub IsTurn : Problem → List Rel → List Rel → Turn → Type 0
+abbrev pub IsTurn : Problem → List Rel → List Rel → VisitEnd → Type 0
 IsTurn q m new (turn.Met f) = IsMetBy q f
 IsTurn q m new turn.On = IsPast q m (Some new)
 IsTurn q m new turn.Done = IsPast q m None

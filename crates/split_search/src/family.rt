@@ -8,7 +8,7 @@ ghost use Rattle.cert_rules.specs.Trees.{node_problem};
 ghost use Rattle.split_search.specs.Choosing.{IsMetBy};
 ghost use Rattle.split_search.specs.Walking.{IsWalk, split_tree};
 
-use crate::walk::Walk;
+use crate::walk::NodePath;
 use point_query::Asker;
 use rcc5_core::Position;
 use set_family::Family;
@@ -18,7 +18,7 @@ use world_model::whole_sets_are_decided;
 /// A family that meets the problem at the node, and so the whole problem: the points that show that the node is alive.
 pub(crate) fn family_at(
     alloc: Global,
-    walk: &Walk,
+    walk: &NodePath,
     asker: &mut Asker,
 ) -> Result<Option<Family>, AllocError>
     requires shape { asker.old.shape ≡ shape_of walk.now.subject }

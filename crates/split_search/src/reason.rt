@@ -9,9 +9,9 @@ ghost use Rattle.cert_rules.specs.ClaimWriting.{TellsWithin};
 ghost use Rattle.search_log.specs.Leading.{derivation_of};
 ghost use Rattle.split_search.specs.Walking.{IsWalk, split_tree};
 
-use crate::walk::Walk;
+use crate::walk::NodePath;
 use cert_text::CertLine;
-use point_encode::number_of;
+use point_encode::need_number;
 use point_query::{Asker, Probe};
 use rcc5_core::Position;
 use std::alloc::{AllocError, Global};
@@ -19,7 +19,7 @@ use std::alloc::{AllocError, Global};
 /// The line of a dead node, with what the asker says of it.
 pub(crate) fn reason_line(
     alloc: Global,
-    walk: &Walk,
+    walk: &NodePath,
     asker: &mut Asker,
 ) -> Result<CertLine, AllocError>
     requires shape { asker.old.shape ≡ shape_of walk.now.subject }
@@ -41,7 +41,7 @@ pub(crate) fn reason_line(
         Probe::Closed(need, clause) => Ok(CertLine::NoPoint {
             depth,
             last,
-            need: u64::from(number_of(node, need)),
+            need: u64::from(need_number(node, need)),
             clause,
         }),
         Probe::Alive => unreachable!(),

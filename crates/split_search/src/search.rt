@@ -10,8 +10,8 @@ ghost use Rattle.split_search.specs.Choosing.{IsChoice, IsTidy};
 ghost use Rattle.split_search.specs.Claiming.{KeepsWithin};
 
 use crate::choice::Choice;
-use crate::visit::{Turn, take_turn};
-use crate::walk::Walk;
+use crate::visit::{VisitEnd, take_turn};
+use crate::walk::NodePath;
 use cert_text::TreeLog;
 use constraint_set::Problem;
 use point_query::Asker;
@@ -34,14 +34,14 @@ fn search<L: TreeLog>(
     ensures log { LogGoes L.drops L.lines L.faults L.steady L.quiet result log.old log.new }
 {
     problem.facts();
-    let mut walk = Walk::new(alloc, problem)?;
+    let mut walk = NodePath::new(alloc, problem)?;
     let mut turns = 0;
     'nodes: loop {
         turns = tidy_by_turns(asker, turns)?;
         match take_turn(alloc, &mut walk, asker, log)? {
-            Turn::Met(family) => return Ok(Choice::Met(family)),
-            Turn::Done => return Ok(Choice::Refuted),
-            Turn::On => {}
+            VisitEnd::Met(family) => return Ok(Choice::Met(family)),
+            VisitEnd::Done => return Ok(Choice::Refuted),
+            VisitEnd::On => {}
         }
     }
 }

@@ -12,7 +12,7 @@ ghost use Rattle.search_log.specs.Logging.{LogGoes};
 ghost use Rattle.split_search.specs.Walking.{IsWalk, split_tree, TellsAlive, KeepsPast};
 
 use crate::reason::reason_line;
-use crate::walk::Walk;
+use crate::walk::NodePath;
 use cert_text::{CertLine, TreeLog};
 use point_query::Asker;
 use search_log::{StepFault, put_one, put_waiting};
@@ -40,7 +40,7 @@ fn put_node<L: TreeLog>(
 /// Tells of an alive node that it branches.
 pub(crate) fn tell_branch<L: TreeLog>(
     alloc: Global,
-    walk: &Walk,
+    walk: &NodePath,
     asker: &mut Asker,
     log: &mut L,
 ) -> Result<(), StepFault>
@@ -62,7 +62,7 @@ pub(crate) fn tell_branch<L: TreeLog>(
 /// Tells of a node why it is dead. Where nobody will read it, nothing is asked.
 pub(crate) fn tell_dead<L: TreeLog>(
     alloc: Global,
-    walk: &Walk,
+    walk: &NodePath,
     asker: &mut Asker,
     log: &mut L,
 ) -> Result<(), StepFault>

@@ -9,7 +9,7 @@ ghost use Rattle.split_search.specs.declared.visit.Visit.TheVariants.{Past};
 
 use crate::family::family_at;
 use crate::tell::{tell_branch, tell_dead};
-use crate::walk::Walk;
+use crate::walk::NodePath;
 use cert_text::TreeLog;
 use point_query::Asker;
 use rcc5_core::Position;
@@ -28,7 +28,7 @@ pub(crate) enum Visit {
 
 /// What a turn comes to.
 #[derive(Drop)]
-pub(crate) enum Turn {
+pub(crate) enum VisitEnd {
     /// A family meets the problem.
     Met(Family),
     /// The walk stands at the next node.
@@ -40,7 +40,7 @@ pub(crate) enum Turn {
 // Visits a node where all split pairs are narrowed to a relation.
 fn visit_full<L: TreeLog>(
     alloc: Global,
-    walk: &Walk,
+    walk: &NodePath,
     asker: &mut Asker,
     log: &mut L,
 ) -> Result<Visit, StepFault>
@@ -65,7 +65,7 @@ fn visit_full<L: TreeLog>(
 // Visits a node with a split pair that is left.
 fn visit_inner<L: TreeLog>(
     alloc: Global,
-    walk: &Walk,
+    walk: &NodePath,
     asker: &mut Asker,
     log: &mut L,
 ) -> Result<Visit, StepFault>
@@ -89,7 +89,7 @@ fn visit_inner<L: TreeLog>(
 // Visits the node at which a walk stands.
 fn visit_node<L: TreeLog>(
     alloc: Global,
-    walk: &Walk,
+    walk: &NodePath,
     asker: &mut Asker,
     log: &mut L,
 ) -> Result<Visit, StepFault>
@@ -108,7 +108,7 @@ fn visit_node<L: TreeLog>(
 }
 
 // Goes on from a node that is told of.
-fn go_on(alloc: Global, walk: &mut Walk, branches: bool) -> Result<Turn, AllocError>
+fn go_on(alloc: Global, walk: &mut NodePath, branches: bool) -> Result<VisitEnd, AllocError>
     requires walk { IsWalk walk.old }
     requires seen { IsVisit walk.old.subject walk.old.path (Past branches) }
     ensures walk { OnOk result (IsWalk walk.new) }
@@ -117,18 +117,18 @@ fn go_on(alloc: Global, walk: &mut Walk, branches: bool) -> Result<Turn, AllocEr
     ensures next { IfOk result (λ turn. next_node walk.old.subject branches walk.old.path ≡ turn_next walk.old.path walk.new.path turn) }
 {
     if walk.advance(alloc, branches)? {
-        return Ok(Turn::On);
+        return Ok(VisitEnd::On);
     }
-    Ok(Turn::Done)
+    Ok(VisitEnd::Done)
 }
 
 /// Visits the node at which a walk stands, and goes on to the next one unless a family is found.
 pub(crate) fn take_turn<L: TreeLog>(
     alloc: Global,
-    walk: &mut Walk,
+    walk: &mut NodePath,
     asker: &mut Asker,
     log: &mut L,
-) -> Result<Turn, StepFault>
+) -> Result<VisitEnd, StepFault>
     requires shape { asker.old.shape ≡ shape_of walk.old.subject }
     requires walk { IsWalk walk.old }
     ensures walk { OnOk result (IsWalk walk.new) }
@@ -141,7 +141,7 @@ pub(crate) fn take_turn<L: TreeLog>(
     ensures log { LogGoes L.drops L.lines L.faults L.steady L.quiet result log.old log.new }
 {
     match visit_node(alloc, walk, asker, log)? {
-        Visit::Met(family) => Ok(Turn::Met(family)),
+        Visit::Met(family) => Ok(VisitEnd::Met(family)),
         Visit::Past(branches) => Ok(go_on(alloc, walk, branches)?),
     }
 }

@@ -13,16 +13,16 @@ use std::alloc::{AllocError, Global};
 /// A node of the tree: the relations on the way to it, and the problems at each node on this way, each that of the one before
 /// with a split pair narrowed to a relation.
 #[derive(Drop)]
-pub(crate) struct Walk {
+pub(crate) struct NodePath {
     pub subject: Problem,
     pub pairs: Vec<u32>,
     pub path: Position,
     pub problems: Vec<Problem>,
 }
 
-impl Walk {
+impl NodePath {
     /// At the root.
-    pub(crate) fn new(alloc: Global, problem: &Problem) -> Result<Walk, AllocError>
+    pub(crate) fn new(alloc: Global, problem: &Problem) -> Result<NodePath, AllocError>
         ensures walk { IfOk result IsWalk }
         ensures subject { IfOk result (λ walk. walk.subject ≡ problem.now) }
         ensures root { IfOk result (λ walk. walk.path ≡ []) }
@@ -31,7 +31,7 @@ impl Walk {
         let subject = problem.copy()?;
         let mut problems = Vec::new(alloc);
         problems.push(problem.copy()?)?;
-        Ok(Walk {
+        Ok(NodePath {
             subject,
             pairs,
             path: Position::new(alloc),

@@ -8,17 +8,17 @@ use Rattle.rcc5_core.specs.Relation.{rank_of}
 use Rattle.rcc5_core.specs.RelationSet.{has, first_of, next_of}
 use Rattle.world_model.specs.Problem.{Problem, pair_count}
 use Rattle.world_model.specs.Family.{IsPossibleWorld}
-use Rattle.world_model.specs.Listing.{is_below, is_before_end, IsListing}
+use Rattle.world_model.specs.Listing.{is_below, is_before_end, IsListing, Begins}
 use Rattle.world_model.specs.Alive.{problem_at, IsAlive}
 use Rattle.world_model.proofs.Members.{In, here, there}
 use Rattle.world_model.proofs.OrderPositions.{below_itself, below_apart, below_branch}
 use Rattle.world_model.proofs.OrderLists.{IsExactly, Between, members_from, between_parts, between_from}
 use Rattle.world_model.proofs.PointPositions.{world_is_full, world_is_alive, prefix_is_alive}
 use Rattle.table_walk.specs.declared.Level.{Level}
-use Rattle.table_walk.specs.Ahead.{IsOnward, ListsBetween, Begins, IsPast, Branches, AreLevels, IsAhead}
+use Rattle.table_walk.specs.Ahead.{IsOnward, ListsBetween, IsPast, Branches, AreLevels, IsAhead}
 use Rattle.table_walk.proofs.Paths.{upto_prefix, upto_longer}
 use Rattle.world_model.proofs.Relations.{same_rank, first_is_least, next_is_in, next_is_least, none_is_next, some_has_first_of}
-use Rattle.table_walk.proofs.Going.{branch_longer, branch_below, levels_longer}
+use Rattle.table_walk.proofs.Ahead.{branch_longer, branch_below, levels_longer}
 
 -- a list that is exactly the worlds between two places
 pub listing_of : (p : Problem) (one : List Rel) (other : Option (List Rel)) (ws : List (List Rel)) → IsExactly (Between (IsPossibleWorld p) one other) ws → IsListing p one other ws

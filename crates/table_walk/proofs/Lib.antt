@@ -1,8 +1,8 @@
-pub mod Alike
+pub mod BeginAlike
 pub mod Paths
-pub mod Going
+pub mod Ahead
 pub mod Between
 pub mod Room
-pub mod Stepping
-pub mod Retreating
-pub mod Starting
+pub mod WentOn
+pub mod Barren
+pub mod HasBegun

@@ -7,9 +7,8 @@ use Rattle.std.proofs.Math.Seq.{get_or-append_seam}
 use Rattle.rcc5_core.specs.declared.Rel.{Rel}
 use Rattle.rcc5_core.specs.declared.Rel.TheVariants.{Equals}
 use Rattle.rcc5_core.specs.Relation.{rank_of}
-use Rattle.world_model.specs.Listing.{is_below}
+use Rattle.world_model.specs.Listing.{is_below, rel_at}
 use Rattle.world_model.proofs.OrderPositions.{below_itself, below_apart, below_longer, below_branch, below_upto}
-use Rattle.table_walk.specs.Ahead.{rel_at}
 
 -- a path is its part above a depth, the relation there, and the rest
 pub cut_at : (m : List Rel) (k : ℕ) → k < length m → m ≡ take k m ++ rel_at m k ∷ drop (k + 1) m

@@ -1,13 +1,12 @@
 -- What is left of a listing that goes along the prefixes of worlds.
 use Rattle.std.specs.Prelude.{◌≡◌, ℕ, ◌<◌, ◌⊎◌, ◌+◌, ◌-◌, ◌*◌, ◌^◌, zero, suc, not, List, [], ◌∷◌, ◌++◌, length, take, Option, Some, None, IsTrue, slice_index_or}
 use Rattle.rcc5_core.specs.declared.Rel.{Rel}
-use Rattle.rcc5_core.specs.declared.Rel.TheVariants.{Equals}
 use Rattle.rcc5_core.specs.declared.RelSet.{RelSet}
 use Rattle.rcc5_core.specs.Relation.{rank_of}
 use Rattle.rcc5_core.specs.RelationSet.{has, no_rels}
 use Rattle.world_model.specs.Problem.{Problem}
 use Rattle.world_model.specs.Family.{IsPossibleWorld}
-use Rattle.world_model.specs.Listing.{is_below, is_before_end, IsListing}
+use Rattle.world_model.specs.Listing.{Begins, rel_at, is_below, is_before_end, IsListing}
 use Rattle.table_walk.specs.declared.Level.{Level}
 
 -- a place does not lie before another
@@ -25,16 +24,9 @@ abbrev pub Lists : Problem → Option (List Rel) → Option (List Rel) → List 
 Lists p None other worlds = (other ≡ None) × (worlds ≡ [])
 Lists p (Some one) other worlds = ListsBetween p one other worlds
 
--- a level by its number, and the relation of a path at a depth
+-- a level by its number
 abbrev pub level_at : List Level → ℕ → Level
 level_at levels i = slice_index_or levels i (record { depth = 0; set = no_rels })
-
-abbrev pub rel_at : List Rel → ℕ → Rel
-rel_at m k = slice_index_or m k Equals
-
--- a table begins with a path
-abbrev pub Begins : List Rel → List Rel → Type 0
-Begins m t = (rest : List Rel) × (t ≡ m ++ rest)
 
 -- two lists begin with the same relations, so many
 pub record BeginAlike (one other : List Rel) (count : ℕ) : Type 0 where

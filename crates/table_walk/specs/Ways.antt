@@ -18,7 +18,7 @@ problem_of w = w.ladder.problem
 
 -- where a way stands: its path, and the relation that is to be added next
 abbrev pub place : Way → List Rel
-place w = w.ladder.path ++ option_to_list w.turn
+place w = w.ladder.path ++ option_to_list w.waiting
 
 -- the relations at each level lead on to alive prefixes
 abbrev pub LeadOn : Problem → List Rel → List Level → Type 0
@@ -34,7 +34,7 @@ pub record IsUnderWay (w : Way) : Type 0 where
 -- a way that stands at a full table which is told
 pub record IsAtTable (w : Way) : Type 0 where
   pub under_way : IsUnderWay w
-  pub settled : w.turn ≡ None
+  pub ready : w.waiting ≡ None
   pub full : length w.ladder.path ≡ pair_count (problem_of w)
 
 -- what is so of a way at any time, by its stage

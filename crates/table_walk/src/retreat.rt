@@ -2,7 +2,7 @@
 ghost use Rattle.std.specs.Prelude.{◌≡◌, ◌<◌, take, true, false, None, IfOk, IfSome};
 ghost use Rattle.world_model.specs.Alive.{problem_at, IsAlive};
 ghost use Rattle.point_ladder.specs.Ladders.{BeginsNone};
-ghost use Rattle.table_walk.specs.Ahead.{Begins};
+ghost use Rattle.world_model.specs.Listing.{Begins};
 ghost use Rattle.table_walk.specs.Ways.{problem_of, IsWay, left_of, WentOn};
 ghost use Rattle.table_walk.specs.declared.way.Stage.TheVariants.{Standing};
 
@@ -58,10 +58,10 @@ fn barren_len(ladder: &mut Ladder, kept: usize) -> Result<Option<usize>, AllocEr
 fn drop_levels(way: &mut Way, len: usize)
     requires way { IsWay way.old }
     requires standing { way.old.stage ≡ Standing }
-    requires settled { way.old.turn ≡ None }
+    requires ready { way.old.waiting ≡ None }
     requires barren { BeginsNone (problem_of way.old) (take len way.old.ladder.path) }
     ensures ladder { way.new.ladder ≡ way.old.ladder }
-    ensures turn { way.new.turn ≡ way.old.turn }
+    ensures waiting { way.new.waiting ≡ way.old.waiting }
     ensures stage { way.new.stage ≡ way.old.stage }
     ensures way { IsWay way.new }
 {
@@ -79,7 +79,7 @@ fn drop_levels(way: &mut Way, len: usize)
 pub(crate) fn retreat(way: &mut Way, kept: usize) -> Result<bool, AllocError>
     requires way { IsWay way.old }
     requires standing { way.old.stage ≡ Standing }
-    requires settled { way.old.turn ≡ None }
+    requires ready { way.old.waiting ≡ None }
     ensures went { WentOn way.old way.new }
     ensures shorter { Begins way.new.ladder.path way.old.ladder.path }
     ensures less { IfOk result (λ moved. moved ≡ true → left_of way.new < left_of way.old) }

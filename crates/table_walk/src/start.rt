@@ -4,7 +4,7 @@ ghost use Rattle.world_model.specs.Problem.{pair_count, is_problem};
 ghost use Rattle.table_walk.specs.Ways.{problem_of, place, IsWay, told_of, HasBegun, Follows};
 ghost use Rattle.table_walk.specs.declared.way.Stage.TheVariants.{Standing};
 
-use crate::way::{Stage, Way, go_on, settle, turn_off};
+use crate::way::{Stage, Way, add_waiting, go_on, turn_off};
 use point_ladder::Ladder;
 use rcc5_core::{Position, Rel};
 use std::alloc::{AllocError, Global};
@@ -13,7 +13,7 @@ use std::alloc::{AllocError, Global};
 fn follow(way: &mut Way, rel: Rel) -> Result<bool, AllocError>
     requires way { IsWay way.old }
     requires standing { way.old.stage ≡ Standing }
-    requires settled { way.old.turn ≡ None }
+    requires ready { way.old.waiting ≡ None }
     requires short { length way.old.ladder.path < pair_count (problem_of way.old) }
     ensures problem { problem_of way.new ≡ problem_of way.old }
     ensures way { OnOk result (IsWay way.new) }
@@ -41,7 +41,7 @@ fn go_to(way: &mut Way, from: &Position) -> Result<(), AllocError>
     ensures { OnOk result (HasBegun (problem_of way.old) from.now way.new) }
 {
     for rel in from.rels() {
-        settle(way)?;
+        add_waiting(way)?;
         if !follow(way, *rel)? {
             return Ok(());
         }
@@ -59,7 +59,7 @@ pub fn way_from(alloc: Global, ladder: Ladder, from: &Position) -> Result<Way, A
     let alive = ladder.is_alive();
     let mut way = Way {
         ladder,
-        turn: None,
+        waiting: None,
         levels: Vec::new(alloc),
         stage: Stage::Past,
     };

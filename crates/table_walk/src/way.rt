@@ -2,7 +2,8 @@
 ghost use Rattle.std.specs.Prelude.{◌≡◌, ◌<◌, ◌≤◌, [], length, Some, None, IfOk, IfSome, IfNone, OnOk, OnErr, IsTrue};
 ghost use Rattle.world_model.specs.Problem.{pair_count};
 ghost use Rattle.rcc5_core.specs.RelationSet.{has, next_of};
-ghost use Rattle.table_walk.specs.Ahead.{Lists, Begins, BeginAlike, IsPast, IsAhead, level_at, rel_at, room};
+ghost use Rattle.world_model.specs.Listing.{rel_at, Begins};
+ghost use Rattle.table_walk.specs.Ahead.{Lists, BeginAlike, IsPast, IsAhead, level_at, room};
 ghost use Rattle.table_walk.specs.Ways.{problem_of, place, IsUnderWay, IsWay, at_of, told_of, told_table, AreNext, left_by, left_of, WentOn};
 ghost use Rattle.table_walk.specs.declared.way.Stage.TheVariants.{Standing, Told, Past};
 
@@ -28,24 +29,24 @@ pub enum Stage {
 pub struct Way {
     pub ladder: Ladder,
     /// The relation that is to be added to the ladder's path next.
-    pub turn: Option<Rel>,
+    pub waiting: Option<Rel>,
     pub levels: Vec<Level>,
     pub stage: Stage,
 }
 
 /// Adds the relation that waits to the path.
-pub(crate) fn settle(way: &mut Way) -> Result<(), AllocError>
+pub(crate) fn add_waiting(way: &mut Way) -> Result<(), AllocError>
     requires way { IsWay way.old }
     requires standing { way.old.stage ≡ Standing }
     ensures went { WentOn way.old way.new }
     ensures stands { way.new.stage ≡ Standing }
     ensures place { place way.new ≡ place way.old }
-    ensures settled { OnOk result (way.new.turn ≡ None) }
+    ensures ready { OnOk result (way.new.waiting ≡ None) }
     ensures longer { Begins way.old.ladder.path way.new.ladder.path }
 {
-    if let Some(rel) = way.turn {
+    if let Some(rel) = way.waiting {
         way.ladder.push(rel)?;
-        way.turn = None;
+        way.waiting = None;
     }
     Ok(())
 }
@@ -54,10 +55,10 @@ pub(crate) fn settle(way: &mut Way) -> Result<(), AllocError>
 fn go_along(way: &mut Way)
     requires way { IsWay way.old }
     requires standing { way.old.stage ≡ Standing }
-    requires settled { way.old.turn ≡ None }
+    requires ready { way.old.waiting ≡ None }
     ensures went { WentOn way.old way.new }
     ensures stands { way.new.stage ≡ Standing }
-    ensures settled { way.new.turn ≡ None }
+    ensures ready { way.new.waiting ≡ None }
     ensures longer { Begins way.old.ladder.path way.new.ladder.path }
     ensures no_more { left_of way.new ≤ left_of way.old }
 {
@@ -78,7 +79,7 @@ fn next_at(way: &Way, number: usize) -> Option<Rel>
 pub(crate) fn turn_off(way: &mut Way)
     requires way { IsWay way.old }
     requires under_way { IsUnderWay way.old }
-    requires settled { way.old.turn ≡ None }
+    requires ready { way.old.waiting ≡ None }
     ensures problem { problem_of way.new ≡ problem_of way.old }
     ensures way { IsWay way.new }
     ensures past { IsPast (problem_of way.old) (place way.old) (at_of way.new) }
@@ -90,7 +91,7 @@ pub(crate) fn turn_off(way: &mut Way)
         let last = way.levels.len() - 1;
         if let Some(next) = next_at(way, last) {
             way.ladder.back_to(way.levels[last].depth);
-            way.turn = Some(next);
+            way.waiting = Some(next);
             way.stage = Stage::Standing;
             return;
         }
@@ -103,15 +104,15 @@ pub(crate) fn turn_off(way: &mut Way)
 pub(crate) fn go_on(way: &mut Way, set: RelSet, rel: Rel) -> Result<(), AllocError>
     requires way { IsWay way.old }
     requires standing { way.old.stage ≡ Standing }
-    requires settled { way.old.turn ≡ None }
+    requires ready { way.old.waiting ≡ None }
     requires short { length way.old.ladder.path < pair_count (problem_of way.old) }
     requires next { AreNext (problem_of way.old) way.old.ladder.path set }
     requires among { IsTrue (has set rel) }
     ensures ladder { way.new.ladder ≡ way.old.ladder }
     ensures way { IsWay way.new }
     ensures stands { way.new.stage ≡ Standing }
-    ensures turn { OnOk result (way.new.turn ≡ Some rel) }
-    ensures err { OnErr result (way.new.turn ≡ None) }
+    ensures waiting { OnOk result (way.new.waiting ≡ Some rel) }
+    ensures err { OnErr result (way.new.waiting ≡ None) }
 {
     if set.after(rel).is_some() {
         way.levels.push(Level {
@@ -119,7 +120,7 @@ pub(crate) fn go_on(way: &mut Way, set: RelSet, rel: Rel) -> Result<(), AllocErr
             set,
         })?;
     }
-    way.turn = Some(rel);
+    way.waiting = Some(rel);
     Ok(())
 }
 
@@ -127,7 +128,7 @@ pub(crate) fn go_on(way: &mut Way, set: RelSet, rel: Rel) -> Result<(), AllocErr
 fn enter(way: &mut Way) -> Result<(), AllocError>
     requires way { IsWay way.old }
     requires standing { way.old.stage ≡ Standing }
-    requires settled { way.old.turn ≡ None }
+    requires ready { way.old.waiting ≡ None }
     requires short { length way.old.ladder.path < pair_count (problem_of way.old) }
     ensures went { WentOn way.old way.new }
     ensures shorter { Begins way.new.ladder.path way.old.ladder.path }
@@ -148,7 +149,7 @@ fn enter(way: &mut Way) -> Result<(), AllocError>
 fn step(way: &mut Way, kept: usize, patience: &mut Patience) -> Result<(), AllocError>
     requires way { IsWay way.old }
     requires standing { way.old.stage ≡ Standing }
-    requires settled { way.old.turn ≡ None }
+    requires ready { way.old.waiting ≡ None }
     requires short { length way.old.ladder.path < pair_count (problem_of way.old) }
     ensures went { WentOn way.old way.new }
     ensures shorter { Begins way.new.ladder.path way.old.ladder.path }
@@ -199,7 +200,7 @@ pub fn next_world(way: &mut Way, pairs: usize) -> Result<Option<usize>, AllocErr
     let mut kept = leave(way);
     let mut patience = Patience::new();
     while way.stage == Stage::Standing {
-        settle(way)?;
+        add_waiting(way)?;
         go_along(way);
         if way.ladder.path().len() == pairs {
             way.stage = Stage::Told;

@@ -10,13 +10,13 @@ use Rattle.rcc5_core.specs.declared.Rel.{Rel}
 use Rattle.rcc5_core.specs.declared.Rel.TheVariants.{Equals}
 use Rattle.world_model.specs.Problem.{Problem, cross_pairs, all_pairs, is_cross}
 use Rattle.world_model.specs.Family.{IsPossibleWorld}
-use Rattle.world_model.specs.Listing.{IsListing}
+use Rattle.world_model.specs.Listing.{IsListing, rel_at}
 use Rattle.world_model.proofs.PointPositions.{world_is_full}
 use Rattle.world_model.proofs.OrderListings.{one_listing_law}
 use Rattle.constraint_set.proofs.Lists.{range_more}
 use Rattle.trial_make.specs.Made.{made}
-use Rattle.world_watch.specs.Held.{count_of}
-use Rattle.trial_run.specs.Trials.{count_line, rel_at, summary, IsSummary}
+use Rattle.world_model.specs.Saturated.{count_of}
+use Rattle.trial_run.specs.Trials.{count_line, summary, IsSummary}
 use Rattle.trial_run.specs.Steps.{AreFound}
 
 -- one number more is counted, or isn't

@@ -3,7 +3,7 @@ use Rattle.std.specs.Prelude.{◌≡◌, ℕ, List, [], Option}
 use Rattle.rcc5_core.specs.declared.Rel.{Rel}
 use Rattle.world_model.specs.Problem.{Problem}
 use Rattle.world_model.specs.Listing.{IsListing}
-use Rattle.world_watch.specs.Held.{count_of}
+use Rattle.world_model.specs.Saturated.{count_of}
 
 -- so many worlds stand below a place
 pub record AreFound (p : Problem) (at : Option (List Rel)) (count : ℕ) : Type 0 where

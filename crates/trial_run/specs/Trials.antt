@@ -1,22 +1,17 @@
 -- What the command answers that makes a problem, lists its worlds with a certificate, and checks that certificate.
-use Rattle.std.specs.Prelude.{◌≡◌, ℕ, not, Bool, false, List, [], ◌∷◌, ◌++◌, length, count_by, slice_index_or, None, codes, decimal}
+use Rattle.std.specs.Prelude.{◌≡◌, ℕ, not, Bool, false, List, [], ◌∷◌, ◌++◌, length, count_by, None, codes, decimal}
 use Rattle.std.specs.List.{list_any, range_with_len}
 use Rattle.outer_store.specs.Contents.{Contents}
 use Rattle.rcc5_core.specs.declared.Rel.{Rel}
-use Rattle.rcc5_core.specs.declared.Rel.TheVariants.{Equals}
 use Rattle.rcc5_core.specs.Relation.{same_rel}
 use Rattle.world_model.specs.Problem.{Problem, concept_count, pair_count, cross_pairs}
-use Rattle.world_model.specs.Listing.{IsListing}
+use Rattle.world_model.specs.Listing.{IsListing, rel_at}
 use Rattle.trial_make.specs.Made.{made}
-use Rattle.world_watch.specs.Held.{count_of}
+use Rattle.world_model.specs.Saturated.{count_of}
 use Rattle.run_ends.specs.declared.Status.{Status}
 use Rattle.run_ends.specs.declared.Status.TheVariants.{Done}
 use Rattle.run_ends.specs.Ends.{line_of}
 use Rattle.run_ends.specs.Runs.{File, Names}
-
--- the relation that a table has at a place
-abbrev pub rel_at : List Rel → ℕ → Rel
-rel_at table k = slice_index_or table k Equals
 
 -- whether some world has another relation at a place than the first world
 abbrev pub is_varied : List (List Rel) → ℕ → Bool

@@ -3,7 +3,8 @@ ghost use Rattle.std.specs.Prelude.{◌≡◌, ◌≤◌, ◌<◌, ◌++◌, All
 ghost use Rattle.std.specs.List.{list_any};
 ghost use Rattle.rcc5_core.specs.Relation.{same_rel};
 ghost use Rattle.world_model.specs.Problem.{cross_pairs};
-ghost use Rattle.trial_run.specs.Trials.{rel_at, is_varied, varied_count, count_line, problem_lines, world_lines, summary};
+ghost use Rattle.world_model.specs.Listing.{rel_at};
+ghost use Rattle.trial_run.specs.Trials.{is_varied, varied_count, count_line, problem_lines, world_lines, summary};
 
 use constraint_set::Problem;
 use rcc5_core::{Position, Rel};

@@ -15,14 +15,14 @@ use Rattle.watch_arena.specs.declared.places.Place.{Place}
 use Rattle.watch_arena.specs.declared.engine.Engine.{Engine}
 use Rattle.watch_arena.specs.Places.{place_at, no_place, is_assumed, level_of, place_of}
 use Rattle.watch_arena.specs.Trails.{IsReason, Propagates, IsConflict, IsPropagated, SameRecords, IsSameRecord, Adds, AreInRange}
-use Rattle.watch_arena.specs.Engines.{mark_of, IsReasonBelow, CanAssign, IsSound, IsFalse, IsDone, Steps, KeepsPlaces, seen}
-use Rattle.watch_arena.proofs.Watching.{record_at-put, record_at-new}
+use Rattle.watch_arena.specs.Engines.{mark_of, IsReasonBelow, CanAssign, IsSound, IsFalse, IsDone, ImpliesMore, KeepsTrail, trail_state}
+use Rattle.watch_arena.proofs.WatchedPair.{record_at-put, record_at-new}
 use Rattle.watch_arena.specs.Chains.{SameBodies}
-use Rattle.watch_arena.proofs.Moved.{SameRecords-trans}
-use Rattle.watch_arena.proofs.Bare.{SameRecords-bodies}
-use Rattle.watch_arena.proofs.Visiting.{level_of-push, TrueBelow-all}
+use Rattle.watch_arena.proofs.SameRecords.{SameRecords-trans}
+use Rattle.watch_arena.proofs.BareEngine.{SameRecords-bodies}
+use Rattle.watch_arena.proofs.WatchVisit.{level_of-push, TrueBelow-all}
 use Rattle.watch_arena.proofs.ByIndex.{position_is, position_none}
-use Rattle.watch_arena.proofs.Seen.{IsReason-below, IsPropagated-done, IsConflict-false, mark-is_true}
+use Rattle.watch_arena.proofs.TrailView.{IsReason-below, IsPropagated-done, IsConflict-false, mark-is_true}
 
 -- implied places leave the level
 pub level_of-implied : (places : List Place) (n k : ℕ) → n + k ≤ length places → ((p : ℕ) → n ≤ p → p < length places → is_assumed (place_at places p) ≡ false) → level_of (take (n + k) places) ≡ level_of (take n places)
@@ -33,9 +33,9 @@ level_of-implied places n (suc k) le implied =
     ∙ count_by_more_no is_assumed places (n + k) no_place (omega arith) (implied (n + k) (omega arith) (omega arith))
     ∙ level_of-implied places n k (omega arith) implied
 
--- what steps of propagation promise
-pub Propagates-steps : (old new : Engine) → IsSound old → IsSound new → Steps old new → Propagates (seen old) (seen new)
-Propagates-steps old new s t st =
+-- what propagation promises
+pub Propagates-implied : (old new : Engine) → IsSound old → IsSound new → ImpliesMore old new → Propagates (trail_state old) (trail_state new)
+Propagates-implied old new s t st =
     let n : ℕ = length old.places.list in
     let front : length old.places.list ≤ length new.places.list = (let size = ap length st.places in let cut : length (take (length old.places.list) new.places.list) ≡ min (length old.places.list) (length new.places.list) = length-take (length old.places.list) new.places.list in omega arith) in
     let upto : (q : ℕ) → length old.places.list ≤ q → q ≤ length new.places.list → level_of (take q new.places.list) ≡ level_of old.places.list = λ q ge le.
@@ -56,7 +56,7 @@ Propagates-steps old new s t st =
     }
 
 -- what it found
-pub found_seen : (e : Engine) (o : Option ℕ) → IsSound e → MatchOption o (IsDone e) (λ at. IsFalse e at) → MatchOption o (IsPropagated (seen e)) (λ at. IsConflict (seen e) at)
+pub found_seen : (e : Engine) (o : Option ℕ) → IsSound e → MatchOption o (IsDone e) (λ at. IsFalse e at) → MatchOption o (IsPropagated (trail_state e)) (λ at. IsConflict (trail_state e) at)
 found_seen e None s p = IsPropagated-done e s p
 found_seen e (Some at) s p = IsConflict-false e at s p
 
@@ -181,7 +181,7 @@ SameRecords-added records given lits i permuted = record {
 }
 
 -- what adding promises
-pub Adds-from : (old new : Engine) (given lits : List ℕ) (i : ℕ) → KeepsPlaces old new → IsPermutation given lits → SameBodies (old.arena ++ new_record i lits ∷ []) new.arena → Adds (seen old) (seen new) given i
+pub Adds-from : (old new : Engine) (given lits : List ℕ) (i : ℕ) → KeepsTrail old new → IsPermutation given lits → SameBodies (old.arena ++ new_record i lits ∷ []) new.arena → Adds (trail_state old) (trail_state new) given i
 Adds-from old new given lits i kept permuted arena = record {
   records = SameRecords-trans (old.arena ++ new_record i given ∷ []) (old.arena ++ new_record i lits ∷ []) new.arena (SameRecords-added old.arena given lits i permuted) (SameRecords-bodies (old.arena ++ new_record i lits ∷ []) new.arena arena);
   places = kept.places;

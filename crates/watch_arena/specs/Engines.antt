@@ -163,8 +163,8 @@ abbrev pub IsShortMet : Engine → ℕ → Type 0
 IsShortMet e at =
     (record_at e.arena at).live ≡ true → IsShort (record_at e.arena at).lits → (0 < length (record_at e.arena at).lits) × TrueBelow e.marks (length e.places.list) (slice_index (record_at e.arena at).lits 0)
 
--- steps of propagation: the records, the places that were there and the list of short clauses stay, and each new place is implied
-pub record Steps (old new : Engine) : Type 0 where
+-- propagation may have gone on: the records, the places that were there and the list of short clauses stay, and each new place is implied
+pub record ImpliesMore (old new : Engine) : Type 0 where
   pub records : SameRecords old.arena new.arena
   pub places : take (length old.places.list) new.places.list ≡ old.places.list
   pub implied : (p : ℕ) → length old.places.list ≤ p → p < length new.places.list → is_assumed (place_at new.places.list p) ≡ false
@@ -180,7 +180,7 @@ pub record IsFalse (e : Engine) (at : ℕ) : Type 0 where
 -- visits of clauses that watch a literal
 pub record Visits (old new : Engine) (lit : ℕ) : Type 0 where
   pub sound : IsSound new
-  pub steps : Steps old new
+  pub implies : ImpliesMore old new
   pub queue_head : new.queue_head ≡ old.queue_head
   pub first : new.first ≡ old.first
   pub agreed : (at : ℕ) → IsAgreed old lit at → IsAgreed new lit at
@@ -205,7 +205,7 @@ HasNoFresh e at other n =
 -- propagation goes on
 pub record Advances (old new : Engine) : Type 0 where
   pub sound : IsSound new
-  pub steps : Steps old new
+  pub implies : ImpliesMore old new
   pub first : new.first ≡ old.first
 
 -- propagation has come to the end
@@ -217,8 +217,8 @@ pub record IsDone (e : Engine) : Type 0 where
 abbrev pub IsUnseen : List ℕ → ℕ → ℕ → Type 0
 IsUnseen marks n lit = 0 < mark_of marks (negation_of lit) → n < mark_of marks (negation_of lit)
 
--- propagation had come no further than to q, now and before each place
-pub record IsLowered (e : Engine) (q : ℕ) : Type 0 where
+-- propagation went back: it had come no further than to q, now and before each place
+pub record IsRewound (e : Engine) (q : ℕ) : Type 0 where
   pub queue_head : e.queue_head ≤ q
   pub heads : (p : ℕ) → p < length e.places.list → slice_index e.heads p ≤ q
 
@@ -231,7 +231,7 @@ pub record Undoes (old new : Engine) (level : ℕ) : Type 0 where
   pub moves : new.moves ≡ old.moves
 
 -- the places, the number of variables and the room to compact stay
-pub record KeepsPlaces (old new : Engine) : Type 0 where
+pub record KeepsTrail (old new : Engine) : Type 0 where
   pub places : new.places.list ≡ old.places.list
   pub variables : new.variables ≡ old.variables
   pub moves : new.moves ≡ old.moves
@@ -243,6 +243,6 @@ pub record IsEmpty (e : Engine) (variables : ℕ) : Type 0 where
   pub variables_are : e.variables ≡ variables
   pub spare : e.moves.spare ≡ 0
 
--- the public part
-abbrev pub seen : Engine → TrailState
-seen e = record { records = e.arena; places = e.places.list; variables = e.variables; level = level_of e.places.list; spare = e.moves.spare }
+-- the public part, which a trail is seen as
+abbrev pub trail_state : Engine → TrailState
+trail_state e = record { records = e.arena; places = e.places.list; variables = e.variables; level = level_of e.places.list; spare = e.moves.spare }

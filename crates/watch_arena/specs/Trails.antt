@@ -29,13 +29,13 @@ pub record IsTrail (t : TrailState) : Type 0 where
   pub levels : (p : ℕ) → p < length t.places → (place_at t.places p).level ≡ level_of (take (p + 1) t.places)
   pub level : t.level ≡ level_of t.places
 
--- the same record: only the order of its literals and its links may have changed
+-- a record that stayed itself: only the order of its literals and its links may have changed
 pub record IsSameRecord (old new : Record) : Type 0 where
   pub id : new.id ≡ old.id
   pub live : new.live ≡ old.live
   pub lits : IsPermutation old.lits new.lits
 
--- the same records, each under its Ref
+-- records that stayed themselves, each under its Ref
 pub record SameRecords (old new : List Record) : Type 0 where
   pub count : length new ≡ length old
   pub each : (at : ℕ) → IsSameRecord (record_at old at) (record_at new at)

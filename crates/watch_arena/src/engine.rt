@@ -54,7 +54,7 @@ pub(crate) enum Visit {
 }
 
 impl Engine {
-    ghost use Rattle.watch_arena.specs.Engines.{IsSound, IsFresh, HasNoFresh, Visits, IsWalking, StaysAhead, Outcome, CanAssign, AllAgree, IsFalse, IsShort, IsShortMet, IsDone, Steps, Advances, Undoes, IsLowered, KeepsPlaces, IsEmpty, without_last, with_place, with_watch_moved, mark_of};
+    ghost use Rattle.watch_arena.specs.Engines.{IsSound, IsFresh, HasNoFresh, Visits, IsWalking, StaysAhead, Outcome, CanAssign, AllAgree, IsFalse, IsShort, IsShortMet, IsDone, ImpliesMore, Advances, Undoes, IsRewound, KeepsTrail, IsEmpty, without_last, with_place, with_watch_moved, mark_of};
     ghost use Rattle.watch_arena.specs.Chains.{head_of, next_of, linked, records_past, chains_past, IsEntry, SameBodies};
     ghost use Rattle.clause_arena.specs.Records.{record_at, forgotten, new_record};
     ghost use Rattle.watch_arena.specs.Places.{level_of, place_at, place_of};
@@ -105,7 +105,7 @@ impl Engine {
     }
 
     // A literal to watch in place of one that is false.
-    fn find(&self, at: Ref, other: Lit) -> Option<usize>
+    fn fresh_watch(&self, at: Ref, other: Lit) -> Option<usize>
         requires sound { IsSound self.now }
         requires live { (record_at self.now.arena at).live ≡ true }
         ensures found { IfSome result (λ k. IsFresh self.now at other k) }
@@ -160,7 +160,7 @@ impl Engine {
     }
 
     // Visits the watch of a live clause on a literal that has become false.
-    fn settle(&mut self, lit: Lit, prev: &Option<Link>, entry: Link) -> Visit
+    fn visit_live(&mut self, lit: Lit, prev: &Option<Link>, entry: Link) -> Visit
         requires sound { IsSound self.old }
         requires range { lit < 2 * self.old.variables }
         requires walking { IsWalking self.old lit prev.now (Some entry) }
@@ -174,7 +174,7 @@ impl Engine {
         if self.is_true(other) {
             return Visit::Behind(Some(entry));
         }
-        if let Some(k) = self.find(entry.at, other) {
+        if let Some(k) = self.fresh_watch(entry.at, other) {
             self.move_watch(lit, prev, entry, k);
             return Visit::Behind(*prev);
         }
@@ -197,7 +197,7 @@ impl Engine {
         ensures outcome { Outcome self.old self.new lit entry result }
     {
         if self.arena.is_live(entry.at) {
-            self.settle(lit, prev, entry)
+            self.visit_live(lit, prev, entry)
         } else {
             Visit::Behind(Some(entry))
         }
@@ -276,7 +276,7 @@ impl Engine {
     pub(crate) fn propagate(&mut self) -> Option<Ref>
         requires { IsSound self.old }
         ensures sound { IsSound self.new }
-        ensures steps { Steps self.old self.new }
+        ensures implies { ImpliesMore self.old self.new }
         ensures outcome { MatchOption result (IsDone self.new) (λ at. IsFalse self.new at) }
     {
         match self.meet_all() {

@@ -7,7 +7,7 @@ use lits_core::Lit;
 use std::alloc::AllocError;
 
 impl Engine {
-    ghost use Rattle.watch_arena.specs.Engines.{IsSound, IsLowered, KeepsPlaces, IsShort, mark_of};
+    ghost use Rattle.watch_arena.specs.Engines.{IsSound, IsRewound, KeepsTrail, IsShort, mark_of};
     ghost use Rattle.watch_arena.specs.Chains.{SameBodies};
     ghost use Rattle.clause_arena.specs.Records.{new_record};
     ghost use Rattle.lits_core.specs.Literals.{negation_of};
@@ -24,10 +24,10 @@ impl Engine {
     }
 
     // Propagation goes back, so that no place from a number on counts as visited, now or after places are undone.
-    fn lower(&mut self, place: usize)
+    fn rewind(&mut self, place: usize)
         requires { IsSound self.old }
         ensures sound { IsSound self.new }
-        ensures lowered { IsLowered self.new place }
+        ensures rewound { IsRewound self.new place }
         ensures same { self.new ≡ record self.old { heads = self.new.heads; queue_head = self.new.queue_head } }
     {
         self.queue_head = self.queue_head.min(place);
@@ -42,7 +42,7 @@ impl Engine {
         requires two { 2 ≤ length codes.now }
         requires differ { slice_index codes.now 0 ≢ slice_index codes.now 1 }
         ensures sound { IsSound self.new }
-        ensures places { KeepsPlaces self.old self.new }
+        ensures places { KeepsTrail self.old self.new }
         ensures at { IfOk result (λ at. at ≡ length self.old.arena) }
         ensures ok { OnOk result (SameBodies (self.old.arena ++ new_record id codes.now ∷ []) self.new.arena) }
         ensures err { OnErr result (self.new.arena ≡ self.old.arena) }
@@ -50,7 +50,7 @@ impl Engine {
         let first = Lit::from_code(codes[0]);
         let second = Lit::from_code(codes[1]);
         let since = self.false_since(first).min(self.false_since(second));
-        self.lower(since);
+        self.rewind(since);
         let at = self.arena.put(codes, id)?;
         self.attach(first, Link { at, slot: 0 });
         self.attach(second, Link { at, slot: 1 });
@@ -63,7 +63,7 @@ impl Engine {
         requires range { (lit : ℕ) → Contains codes.now lit → lit < 2 * self.old.variables }
         requires short { IsShort codes.now }
         ensures sound { IsSound self.new }
-        ensures places { KeepsPlaces self.old self.new }
+        ensures places { KeepsTrail self.old self.new }
         ensures at { IfOk result (λ at. at ≡ length self.old.arena) }
         ensures ok { OnOk result (self.new.arena ≡ self.old.arena ++ new_record id codes.now ∷ []) }
         ensures err { OnErr result (self.new.arena ≡ self.old.arena) }
@@ -81,7 +81,7 @@ impl Engine {
         requires sound { IsSound self.old }
         requires range { (lit : ℕ) → Contains codes.old lit → lit < 2 * self.old.variables }
         ensures sound { IsSound self.new }
-        ensures places { KeepsPlaces self.old self.new }
+        ensures places { KeepsTrail self.old self.new }
         ensures at { IfOk result (λ at. at ≡ length self.old.arena) }
         ensures permuted { IsPermutation codes.old codes.new }
         ensures ok { OnOk result (SameBodies (self.old.arena ++ new_record id codes.new ∷ []) self.new.arena) }

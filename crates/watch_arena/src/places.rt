@@ -89,7 +89,7 @@ fn renamed(reason: Option<Ref>, moves: &Moves) -> Option<Ref>
     }
 }
 
-// The same for the reason of each place.
+// Each place has the new name of its reason.
 fn rename(places: &mut [Place], moves: &Moves)
     ensures { places.new ≡ places_with (new_ref moves.now.pairs) places.old }
 {

@@ -5,7 +5,7 @@ use crate::engine::Engine;
 use clause_arena::Ref;
 
 impl Engine {
-    ghost use Rattle.watch_arena.specs.Engines.{IsSound, IsFalse, IsShort, IsShortMet, Steps, Advances};
+    ghost use Rattle.watch_arena.specs.Engines.{IsSound, IsFalse, IsShort, IsShortMet, ImpliesMore, Advances};
     ghost use Rattle.clause_arena.specs.Records.{record_at};
 
     // Whether a clause is live; a Ref past the end of the list is of none.
@@ -52,7 +52,7 @@ impl Engine {
         true
     }
 
-    // The same for any entry of the list of the short clauses, where one that is not live or not short is passed over.
+    // Visits an entry of the list of the short clauses; one that is not live or not short is left alone.
     fn meet(&mut self, at: Ref) -> bool
         requires { IsSound self.old }
         ensures advances { Advances self.old self.new }
@@ -76,7 +76,7 @@ impl Engine {
         requires first { self.old.first < length self.old.shorts }
         requires small { self.old.first + 1 < 2 ^ 64 }
         ensures sound { IsSound self.new }
-        ensures steps { Steps self.old self.new }
+        ensures implies { ImpliesMore self.old self.new }
         ensures outcome { MatchOption result (self.new.first ≡ self.old.first + 1) (λ at. IsFalse self.new at) }
     {
         let at = self.shorts.get(self.first);
@@ -92,7 +92,7 @@ impl Engine {
     pub(crate) fn meet_all(&mut self) -> Option<Ref>
         requires { IsSound self.old }
         ensures sound { IsSound self.new }
-        ensures steps { Steps self.old self.new }
+        ensures implies { ImpliesMore self.old self.new }
         ensures outcome { MatchOption result (self.new.first ≡ length self.new.shorts) (λ at. IsFalse self.new at) }
     {
         while self.first < self.shorts.len() {

@@ -36,9 +36,9 @@ impl Model for Trail {
 
     ghost Value = { TrailState };
 
-    ghost use Rattle.watch_arena.specs.Engines.{seen, IsSound};
+    ghost use Rattle.watch_arena.specs.Engines.{trail_state, IsSound};
 
-    ghost view = { λ t. seen t.engine };
+    ghost view = { λ t. trail_state t.engine };
 
     ghost invariant = { λ t. IsSound t.engine };
 }

@@ -10,7 +10,7 @@ use Rattle.rcc5_core.specs.declared.Region.TheVariants.{LeftOnly, Both, RightOnl
 use Rattle.rcc5_core.specs.Relation.{is_in, is_subset, have_common}
 use Rattle.world_model.specs.Problem.{Problem, concept_count, concepts}
 use Rattle.world_model.specs.Family.{Family, set_of}
-use Rattle.world_model.specs.Alive.{bit_of, lies_in, places_with, family_of}
+use Rattle.world_model.specs.Alive.{bit_of, lies_by, lies_in, places_with, family_of}
 use Rattle.world_model.proofs.Members.{In, here, there, all_at, all_from, any_at, any_from, In-get_or}
 use Rattle.world_model.proofs.PointSets.{seen}
 
@@ -51,17 +51,6 @@ subset_fails xs ys h = let f = fails (λ x. is_in x ys) xs h in (f.0, is_from_in
 abbrev pub is_seen : Region → List ℕ → List ℕ → Bool
 is_seen region xs ys = seen region (not (is_subset xs ys)) (have_common xs ys) (not (is_subset ys xs))
 
--- whether an element that is in the one, and in the other, lies in the region
-abbrev pub lies_by : Region → Bool → Bool → Bool
-lies_by LeftOnly a b = a && not b
-lies_by Both a b = a && b
-lies_by RightOnly a b = not a && b
-
-pub lies_is : (region : Region) (pair : ℕ × ℕ) (bits : List Bool) → lies_in region pair bits ≡ lies_by region (bit_of bits pair.0) (bit_of bits pair.1)
-lies_is LeftOnly pair bits = refl
-lies_is Both pair bits = refl
-lies_is RightOnly pair bits = refl
-
 -- a region that has an element has one that lies in it
 pub seen_at : (region : Region) (xs ys : List ℕ) → is_seen region xs ys ≡ true → (x : ℕ) × (lies_by region (is_in x xs) (is_in x ys) ≡ true)
 seen_at LeftOnly xs ys h =
@@ -95,7 +84,7 @@ shown_in s x c h = s.at x c ∙ h
 
 pub lies_shown : {f : Family} {point : ℕ → List Bool} → Shows f point → (region : Region) (pair : ℕ × ℕ) (x : ℕ) →
     lies_in region pair (point x) ≡ lies_by region (is_in x (set_of f pair.0)) (is_in x (set_of f pair.1))
-lies_shown {f} {point} s region pair x = lies_is region pair (point x) ∙ ap (λ b. lies_by region b (bit_of (point x) pair.1)) (sym (s.at x pair.0)) ∙ ap (λ b. lies_by region (is_in x (set_of f pair.0)) b) (sym (s.at x pair.1))
+lies_shown {f} {point} s region pair x = ap (λ b. lies_by region b (bit_of (point x) pair.1)) (sym (s.at x pair.0)) ∙ ap (λ b. lies_by region (is_in x (set_of f pair.0)) b) (sym (s.at x pair.1))
 
 -- the bits of an element
 abbrev pub bits_at : Problem → Family → ℕ → List Bool

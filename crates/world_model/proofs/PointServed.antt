@@ -1,5 +1,5 @@
 -- Points that serve a problem of whole allowed sets, taken as a family, meet it.
-use Rattle.std.proofs.Common.{◌≡◌, ℕ, ◌+◌, ◌<◌, Bool, true, false, not, cond, List, [], ◌∷◌, map, length, get_or, refl, sym, ap, ◌∙◌, subst, arith}
+use Rattle.std.proofs.Common.{◌≡◌, ℕ, ◌+◌, ◌<◌, Bool, true, false, not, cond, List, [], ◌∷◌, map, length, refl, sym, ap, ◌∙◌, subst, arith}
 use Rattle.std.specs.Prelude.{◌==◌, nat_lt}
 use Rattle.std.specs.List.{list_all, list_any}
 use Rattle.std.proofs.lemmas.Bool.{and_parts, and_from, or_right, false_from_ne_true, eqb-true, eq-eqb, lt-ltb, both_ways, not-true}
@@ -12,7 +12,7 @@ use Rattle.rcc5_core.specs.Region.{is_whole_set}
 use Rattle.rcc5_core.proofs.Sets.{relation_of-by}
 use Rattle.world_model.specs.Problem.{Problem, concept_count, concepts, pairs, constraints, is_problem}
 use Rattle.world_model.specs.Family.{set_of, fits_concepts, none_empty, holds, meets}
-use Rattle.world_model.specs.Alive.{allowed, bit_of, lies_in, is_point, Need, is_in_need, needs, all_allow, all_whole, HasPoint, IsAlive, places_with, family_of, each_has_one, serves}
+use Rattle.world_model.specs.Alive.{allowed, bit_of, point_at, lies_in, is_point, Need, is_in_need, needs, all_allow, all_whole, HasPoint, IsAlive, places_with, family_of, each_has_one, serves}
 use Rattle.world_model.specs.Alive.Need.{InRegion, InConcept}
 use Rattle.world_model.specs.Questions.{IsMet}
 use Rattle.world_model.proofs.Members.{In, here, there, all_at, all_from, any_at, any_from, from_map, In-get_or, place_of, contains_from_in, Found, IsImage}
@@ -35,10 +35,6 @@ serve_parts p points h =
       each = λ bits i. point_parts p bits (all_at (is_point p) parts.0 i);
       needed = λ need n. any_at (is_in_need need) points (all_at (λ need. list_any (is_in_need need) points) parts.1 (In-needs p need n));
     }
-
--- the point at a place
-abbrev point_at : List (List Bool) → ℕ → List Bool
-point_at points x = get_or points x []
 
 serving_shows : (p : Problem) (points : List (List Bool)) → Serves p points → Shows (family_of p points) (point_at points)
 serving_shows p points s = points_show p points (λ bits i. eqb-true (length bits) (concept_count p) (structure_parts p bits (s.each bits i).structure).full)

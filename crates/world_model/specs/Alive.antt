@@ -38,15 +38,23 @@ forced_of p (pair ∷ rest) = (pair, forced_regions (allowed p pair)) ∷ forced
 abbrev pub forced_pairs : Problem → List ((ℕ × ℕ) × Regions)
 forced_pairs p = forced_of p (pairs p)
 
+-- the point at a place, and none of all concepts past the last
+abbrev pub point_at : List (List Bool) → ℕ → List Bool
+point_at points place = slice_index_or points place []
+
 -- a concept's bit in a list of bits, which says of each concept whether a point is in it
 abbrev pub bit_of : List Bool → ℕ → Bool
 bit_of bits c = slice_index_or bits c false
 
+-- whether what is in the left one of two or not, and in the right one or not, lies in a region of the two
+abbrev pub lies_by : Region → Bool → Bool → Bool
+lies_by LeftOnly left right = left && not right
+lies_by Both left right = left && right
+lies_by RightOnly left right = not left && right
+
 -- whether a point lies in a region of a pair
 abbrev pub lies_in : Region → ℕ × ℕ → List Bool → Bool
-lies_in LeftOnly pair bits = bit_of bits pair.0 && not (bit_of bits pair.1)
-lies_in Both pair bits = bit_of bits pair.0 && bit_of bits pair.1
-lies_in RightOnly pair bits = not (bit_of bits pair.0) && bit_of bits pair.1
+lies_in region pair bits = lies_by region (bit_of bits pair.0) (bit_of bits pair.1)
 
 -- whether the bit of each child implies that of its parent
 abbrev pub point_within : Problem → List Bool → Bool
@@ -70,18 +78,25 @@ same_bool a b = (a && b) || not (a || b)
 abbrev pub point_sums : List Bool → SumRule → Bool
 point_sums bits s = same_bool (bit_of bits s.whole) (list_any (bit_of bits) s.parts)
 
+-- whether what is in the left one of two or not, and in the right one or not, lies in no region that is forced empty
+abbrev pub avoids_by : Regions → Bool → Bool → Bool
+avoids_by regions left right = list_all (λ region. not (same_word (word_at regions region) Empty && lies_by region left right)) all_regions
+
 -- whether no region that is forced empty has the point
 abbrev pub avoids : List Bool → (ℕ × ℕ) × Regions → Bool
-avoids bits entry = list_all (λ region. not (same_word (word_at entry.1 region) Empty && lies_in region entry.0 bits)) all_regions
+avoids bits entry = avoids_by entry.1 (bit_of bits entry.0.0) (bit_of bits entry.0.1)
 
--- the rules on a point that speak of the concepts alone
-abbrev pub meets_structure : Problem → List Bool → Bool
-meets_structure p bits =
+-- the rules on a point that speak of the trees alone
+abbrev pub meets_trees : Problem → List Bool → Bool
+meets_trees p bits =
     (length bits == concept_count p) &&
     point_within p bits &&
     implies p.switches.sibling (point_apart p bits) &&
-    implies p.switches.coverage (point_covered p bits) &&
-    list_all (point_sums bits) (kept_sums p)
+    implies p.switches.coverage (point_covered p bits)
+
+-- the rules on a point that speak of the concepts alone: the trees, and the sums that are kept
+abbrev pub meets_structure : Problem → List Bool → Bool
+meets_structure p bits = meets_trees p bits && list_all (point_sums bits) (kept_sums p)
 
 -- whether bits meet these rules and avoid what is forced empty, where so much is forced
 abbrev pub obeys : Problem → List ((ℕ × ℕ) × Regions) → List Bool → Bool

@@ -8,3 +8,4 @@ pub mod Questions
 pub mod Trial
 pub mod Laws
 pub mod Examples
+pub mod Saturated

@@ -1,11 +1,20 @@
--- The listing of the possible worlds between two positions.
-use Rattle.std.specs.Prelude.{◌↔◌, Bool, true, not, ◌&&◌, List, [], ◌∷◌, Option, Some, None, Contains, IsTrue}
+-- Positions in their order, and the listing of the possible worlds between two of them.
+use Rattle.std.specs.Prelude.{◌≡◌, ◌↔◌, ℕ, Bool, true, not, ◌&&◌, List, [], ◌∷◌, ◌++◌, slice_index_or, Option, Some, None, Contains, IsTrue}
 use Rattle.std.specs.List.{list_all}
 use Rattle.std.specs.Ordering.{is_lt}
 use Rattle.rcc5_core.specs.declared.Rel.{Rel}
+use Rattle.rcc5_core.specs.declared.Rel.TheVariants.{Equals}
 use Rattle.rcc5_core.specs.Order.{position_cmp}
 use Rattle.world_model.specs.Problem.{Problem}
 use Rattle.world_model.specs.Family.{IsPossibleWorld}
+
+-- a position begins with another
+abbrev pub Begins : List Rel → List Rel → Type 0
+Begins m t = (rest : List Rel) × (t ≡ m ++ rest)
+
+-- the relation of a position at a place, and equals past its last
+abbrev pub rel_at : List Rel → ℕ → Rel
+rel_at m k = slice_index_or m k Equals
 
 -- whether one position comes before another
 abbrev pub is_below : List Rel → List Rel → Bool

@@ -149,7 +149,7 @@ keeps_before p from old new one two three at next k goes lines is keeps =
     by None up = tt
     by (Some told) up = keeps_goes p from (Some told) two three next goes told refl up
 
--- the same node is next after an error
+-- after an error the node that was next is still next
 pub keeps_err : {T : Type 0} (Q : StepFault → Type 0) (r : Result T StepFault) (p : Problem) (from : List Rel) (old new : Told) (one other : AskerState) (at next : Option (List Rel)) → IsErrAnd r Q →
     KeepsOn p from old new one other at at → KeepsOn p from old new one other at (next_if r next at)
 keeps_err Q (Ok v) p from old new one other at next h k = absurd h

@@ -38,7 +38,7 @@ way_settled p from to old new g standing stage same known longer way = record {
   guide = guide_further p old.path new.path longer.0 g longer.1 way.guide;
 }
 
--- the same walk, by another guide
+-- a walk stays under way by another guide
 pub way_same : (p : Problem) (from : List Rel) (to : Option (List Rel)) (old new : Walk) (one other : Guide) → new ≡ old → IsUnderWay p from to old one →
     IsGuideOf p new.path other → IsUnderWay p from to new other
 way_same p from to old new one other same way guide = record {

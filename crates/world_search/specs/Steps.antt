@@ -21,7 +21,7 @@ IsTableStep old new before left (Table table) = Came old new before left (table 
 IsTableStep old new before left (SpentAt node) = Came old new before left [] × (left ≡ Some 0) × IsNext new node
 IsTableStep old new before left (EndAt node) = Came old new before left [] × (new.at ≡ last_place new.from new.to) × IsNodeAtEnd new.problem new.from new.to node
 
--- the same, and a world has a family with its table, and the node that is named is the one that comes next in a log
+-- a step where a world has a family with its table, and the node that is named is the one that comes next in a log
 abbrev pub IsStep : SearchState → SearchState → Option ℕ → Option ℕ → Step → Type 0
 IsStep old new before left (World table family) = IsTableStep old new before left (Table table) × IsTrue (meets old.problem family) × (table_of old.problem family ≡ table)
 IsStep old new before left (Spent node) = IsTableStep old new before left (SpentAt node) × (new.expects ≡ Some node)

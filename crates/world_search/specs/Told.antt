@@ -18,7 +18,7 @@ abbrev pub IsKeptIn : Problem → List Rel → Told → Told → AskerState → 
 IsKeptIn p from first now asker at =
     IsHeaded p from first → (lines : List CertLine) × (now ≡ Some lines) × BeginsAndKeepsUp p from asker.solver.waiting asker.solver.state at lines
 
--- the same, and no line waits
+-- they are told so far, and no line waits
 abbrev pub IsToldTo : Problem → List Rel → Told → Option (List Rel) → Told → Type 0
 IsToldTo p from first at now =
     IsHeaded p from first → (lines : List CertLine) × (state : State) × (now ≡ Some lines) × BeginsAndKeepsUp p from [] state at lines

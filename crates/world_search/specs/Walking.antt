@@ -12,8 +12,8 @@ use Rattle.world_model.specs.Trial.{nodes_between}
 use Rattle.world_search.specs.declared.walk.Stage.{Stage}
 use Rattle.world_search.specs.declared.walk.Stage.TheVariants.{Start, Standing, Past}
 use Rattle.world_search.specs.declared.walk.Walk.{Walk}
-use Rattle.world_search.specs.declared.walk.Found.{Found}
-use Rattle.world_search.specs.declared.walk.Found.TheVariants.{World, NoWorld}
+use Rattle.world_search.specs.declared.walk.NodeSight.{NodeSight}
+use Rattle.world_search.specs.declared.walk.NodeSight.TheVariants.{World, NoWorld}
 use Rattle.world_search.specs.Searching.{SearchState, last_place}
 
 -- a position comes behind all that begin with a prefix
@@ -106,7 +106,7 @@ Follows p from w false = LeadsTo p (IsFrom from) w
 abbrev pub AreOpenAfter : Problem → List Rel → RelSet → Type 0
 AreOpenAfter p prefix set = (rel : Rel) → IsTrue (has set rel) ↔ IsAlive (problem_at p (prefix ++ rel ∷ []))
 
--- the same of the prefix of a node, which is the node without its last relation
+-- just these relations lead on from the prefix of a node, which is the node without its last relation
 pub record AreOpenBeside (p : Problem) (m : List Rel) (set : RelSet) : Type 0 where
   pub prefix : List Rel
   pub last : Rel
@@ -123,7 +123,7 @@ IsOpenOrDead p m (Some set) = IsAlive (problem_at p m) × (length m < pair_count
 IsOpenOrDead p m None = IsAlive (problem_at p m) → ⊥
 
 -- what a visit finds at a node
-abbrev pub IsFoundAt : Problem → List Rel → Found → Type 0
+abbrev pub IsFoundAt : Problem → List Rel → NodeSight → Type 0
 IsFoundAt p m World = IsPossibleWorld p m
 IsFoundAt p m (NoWorld set) = IsOpenOrDead p m set × (IsPossibleWorld p m → ⊥)
 

@@ -56,7 +56,7 @@ fn follow(problem: &Problem, guide: &mut Guide, from: &Position, walk: &mut Walk
     }
 }
 
-// The same from any prefix of the start that is a node.
+// Goes along the start from any prefix of it that is a node.
 fn go_along(
     problem: &Problem,
     guide: &mut Guide,

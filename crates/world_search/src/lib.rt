@@ -2,6 +2,7 @@
 #![tactic(auto)]
 
 mod behind;
+mod budget;
 mod first;
 mod guide;
 mod reasons;
@@ -12,6 +13,7 @@ mod tell;
 mod walk;
 
 pub use behind::node_behind;
+pub use budget::{is_spent, one_less};
 pub use search::Search;
-pub use search_log::StepFault;
+pub use search_log::{StepFault, store_fault};
 pub use step::{Nodes, Step, TableStep};

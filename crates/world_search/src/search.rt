@@ -75,7 +75,7 @@ impl Search {
         begin_at(alloc, problem, from, to, guide)
     }
 
-    /// The same, but the asker is asked about each node, also where the problem has a table of its points.
+    /// A search that asks the asker about each node, also where the problem has a table of its points.
     pub fn without_table(
         alloc: Global,
         problem: &Problem,
@@ -123,7 +123,7 @@ impl Search {
         )
     }
 
-    /// The same, without a family for a world, which costs more than to find the world.
+    /// The next step without a family for a world, which costs more than to find the world.
     pub fn next_table(
         &mut self,
         problem: &Problem,

@@ -15,6 +15,7 @@ ghost use Rattle.world_search.specs.Steps.{IsTableStep, IsStepped};
 ghost use Rattle.world_search.specs.Stopping.{IsStop};
 ghost use Rattle.world_search.specs.declared.walk.Stage.TheVariants.{Start, Standing};
 
+use crate::budget::{is_spent, one_less};
 use crate::first::begin;
 use crate::guide::Guide;
 use crate::step::{Nodes, Step, TableStep};
@@ -37,24 +38,6 @@ fn is_before_end(node: &Position, to: &Option<Position>) -> bool
     match to {
         None => true,
         Some(end) => node.compare(end) == Ordering::Less,
-    }
-}
-
-// Whether no node may be visited any more.
-fn is_spent(nodes: &Nodes) -> bool
-    ensures { IsTrue result ↔ (nodes.now.left ≡ Some 0) }
-{
-    matches!(nodes.left, Some(0))
-}
-
-// One node fewer may be visited.
-fn one_less(left: Option<u64>) -> Option<u64>
-    requires { left ≢ Some 0 }
-    ensures { FellBy left result 1 }
-{
-    match left {
-        None => None,
-        Some(left) => Some(left - 1),
     }
 }
 
@@ -86,7 +69,7 @@ fn turn<L: TreeLog>(
         let node = walk.path.copy(alloc)?;
         return Ok(Some(TableStep::End(Some(node))));
     }
-    if is_spent(nodes) {
+    if is_spent(nodes.left) {
         let node = walk.path.copy(alloc)?;
         return Ok(Some(TableStep::Spent(node)));
     }
@@ -133,7 +116,7 @@ fn walk_on<L: TreeLog>(
     Ok(TableStep::End(None))
 }
 
-// The same with no log.
+// Walks on with no log.
 fn walk_untold(
     alloc: Global,
     problem: &Problem,

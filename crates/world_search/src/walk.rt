@@ -157,7 +157,7 @@ fn is_here_alive(
 /// What a visit finds at a node: it is a world; or it is none, and these relations lead on from it to an alive one, or it is
 /// dead.
 #[derive(Clone, Copy, PartialEq, Eq)]
-pub(crate) enum Found {
+pub(crate) enum NodeSight {
     World,
     NoWorld(Option<RelSet>),
 }
@@ -169,7 +169,7 @@ fn look(
     asker: &mut Asker,
     guide: &mut Guide,
     walk: &Walk,
-) -> Result<Found, AllocError>
+) -> Result<NodeSight, AllocError>
     requires shape { asker.old.shape ≡ shape_of problem.now }
     requires node { IsNode problem.now walk.now.path }
     requires knows { IfSome walk.now.open (AreOpenBeside problem.now walk.now.path) }
@@ -181,13 +181,13 @@ fn look(
     alive_tables_are_worlds();
     problem.facts();
     if !is_here_alive(problem, asker, guide, walk)? {
-        return Ok(Found::NoWorld(None));
+        return Ok(NodeSight::NoWorld(None));
     }
     if walk.path.len() < problem.pair_count() as usize {
         let set = guide.alive_after(problem, asker, &walk.path)?;
-        return Ok(Found::NoWorld(Some(set)));
+        return Ok(NodeSight::NoWorld(Some(set)));
     }
-    Ok(Found::World)
+    Ok(NodeSight::World)
 }
 
 // Goes on from a node that is no world.
@@ -269,8 +269,8 @@ pub(crate) fn visit<L: TreeLog>(
     ensures log { LogGoes L.drops L.lines L.faults L.steady L.quiet result log.old log.new }
 {
     match look(problem, asker, guide, walk)? {
-        Found::World => Ok(true),
-        Found::NoWorld(set) => {
+        NodeSight::World => Ok(true),
+        NodeSight::NoWorld(set) => {
             move_on(alloc, problem, asker, log, guide, walk, set)?;
             Ok(false)
         }

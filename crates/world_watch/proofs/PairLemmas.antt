@@ -13,7 +13,7 @@ use Rattle.rcc5_core.specs.RelationSet.{has, adding}
 use Rattle.world_model.specs.Problem.{Problem, cross_pairs}
 use Rattle.cleantax_text.specs.Canonical.{spaced}
 use Rattle.merge_print.proofs.ListLemmas.{flat_map_same, range_below}
-use Rattle.world_watch.specs.Held.{held}
+use Rattle.world_model.specs.Saturated.{saturated}
 use Rattle.world_watch.specs.Counts.{count_in, counting, counts_at}
 use Rattle.world_watch.specs.declared.counts.Counts.{Counts}
 use Rattle.world_watch.specs.Kinds.{pair_names, cross_at, or_dot, pair_lines, seen_line, seen_lines, tally_line, tally_lines, set_at, is_seen, times, has_at}
@@ -91,49 +91,49 @@ map_same : {X Y : Type 0} (f g : X → Y) → ((x : X) → f x ≡ g x) → (xs 
 map_same f g same [] = refl
 map_same f g same (x ∷ xs) = ap (λ y. y ∷ map f xs) (same x) ∙ ap (λ ys. g x ∷ ys) (map_same f g same xs)
 
-tally_same : (p : Problem) (f g : ℕ → Rel → ℕ) → ((k : ℕ) → k < length (cross_pairs p) → (rel : Rel) → held (f k rel) ≡ held (g k rel)) → tally_lines p f ≡ tally_lines p g
+tally_same : (p : Problem) (f g : ℕ → Rel → ℕ) → ((k : ℕ) → k < length (cross_pairs p) → (rel : Rel) → saturated (f k rel) ≡ saturated (g k rel)) → tally_lines p f ≡ tally_lines p g
 tally_same p f g agree = lines_same p (λ k. tally_line p (f k) k) (λ k. tally_line p (g k) k)
-    (λ k lt. ap (λ words. pair_names p (cross_at p k) ++ spaced words ++ codes "\n") (map_same (λ rel. decimal (held (f k rel))) (λ rel. decimal (held (g k rel))) (λ rel. ap decimal (agree k lt rel)) all_rels))
+    (λ k lt. ap (λ words. pair_names p (cross_at p k) ++ spaced words ++ codes "\n") (map_same (λ rel. decimal (saturated (f k rel))) (λ rel. decimal (saturated (g k rel))) (λ rel. ap decimal (agree k lt rel)) all_rels))
 
--- a count that was held already
-held_more : (n rest : ℕ) → held (held (n + 1) + rest) ≡ held (n + (1 + rest))
-held_more n rest = omega arith
+-- a count that stayed at its last value already
+saturated_more : (n rest : ℕ) → saturated (saturated (n + 1) + rest) ≡ saturated (n + (1 + rest))
+saturated_more n rest = omega arith
 
-held_same : (n rest : ℕ) → held (n + rest) ≡ held (n + (0 + rest))
-held_same n rest = omega arith
+saturated_same : (n rest : ℕ) → saturated (n + rest) ≡ saturated (n + (0 + rest))
+saturated_same n rest = omega arith
 
-counted_in : (c : Counts) (rel other : Rel) (rest : ℕ) → held (count_in (counting c rel) other + rest) ≡ held (count_in c other + (cond (same_rel rel other) 1 0 + rest))
-counted_in c Equals Equals rest = held_more c.equals rest
-counted_in c Equals Includes rest = held_same c.includes rest
-counted_in c Equals IncludedIn rest = held_same c.included_in rest
-counted_in c Equals Overlaps rest = held_same c.overlaps rest
-counted_in c Equals Disjoint rest = held_same c.disjoint rest
-counted_in c Includes Equals rest = held_same c.equals rest
-counted_in c Includes Includes rest = held_more c.includes rest
-counted_in c Includes IncludedIn rest = held_same c.included_in rest
-counted_in c Includes Overlaps rest = held_same c.overlaps rest
-counted_in c Includes Disjoint rest = held_same c.disjoint rest
-counted_in c IncludedIn Equals rest = held_same c.equals rest
-counted_in c IncludedIn Includes rest = held_same c.includes rest
-counted_in c IncludedIn IncludedIn rest = held_more c.included_in rest
-counted_in c IncludedIn Overlaps rest = held_same c.overlaps rest
-counted_in c IncludedIn Disjoint rest = held_same c.disjoint rest
-counted_in c Overlaps Equals rest = held_same c.equals rest
-counted_in c Overlaps Includes rest = held_same c.includes rest
-counted_in c Overlaps IncludedIn rest = held_same c.included_in rest
-counted_in c Overlaps Overlaps rest = held_more c.overlaps rest
-counted_in c Overlaps Disjoint rest = held_same c.disjoint rest
-counted_in c Disjoint Equals rest = held_same c.equals rest
-counted_in c Disjoint Includes rest = held_same c.includes rest
-counted_in c Disjoint IncludedIn rest = held_same c.included_in rest
-counted_in c Disjoint Overlaps rest = held_same c.overlaps rest
-counted_in c Disjoint Disjoint rest = held_more c.disjoint rest
+counted_in : (c : Counts) (rel other : Rel) (rest : ℕ) → saturated (count_in (counting c rel) other + rest) ≡ saturated (count_in c other + (cond (same_rel rel other) 1 0 + rest))
+counted_in c Equals Equals rest = saturated_more c.equals rest
+counted_in c Equals Includes rest = saturated_same c.includes rest
+counted_in c Equals IncludedIn rest = saturated_same c.included_in rest
+counted_in c Equals Overlaps rest = saturated_same c.overlaps rest
+counted_in c Equals Disjoint rest = saturated_same c.disjoint rest
+counted_in c Includes Equals rest = saturated_same c.equals rest
+counted_in c Includes Includes rest = saturated_more c.includes rest
+counted_in c Includes IncludedIn rest = saturated_same c.included_in rest
+counted_in c Includes Overlaps rest = saturated_same c.overlaps rest
+counted_in c Includes Disjoint rest = saturated_same c.disjoint rest
+counted_in c IncludedIn Equals rest = saturated_same c.equals rest
+counted_in c IncludedIn Includes rest = saturated_same c.includes rest
+counted_in c IncludedIn IncludedIn rest = saturated_more c.included_in rest
+counted_in c IncludedIn Overlaps rest = saturated_same c.overlaps rest
+counted_in c IncludedIn Disjoint rest = saturated_same c.disjoint rest
+counted_in c Overlaps Equals rest = saturated_same c.equals rest
+counted_in c Overlaps Includes rest = saturated_same c.includes rest
+counted_in c Overlaps IncludedIn rest = saturated_same c.included_in rest
+counted_in c Overlaps Overlaps rest = saturated_more c.overlaps rest
+counted_in c Overlaps Disjoint rest = saturated_same c.disjoint rest
+counted_in c Disjoint Equals rest = saturated_same c.equals rest
+counted_in c Disjoint Includes rest = saturated_same c.includes rest
+counted_in c Disjoint IncludedIn rest = saturated_same c.included_in rest
+counted_in c Disjoint Overlaps rest = saturated_same c.overlaps rest
+counted_in c Disjoint Disjoint rest = saturated_more c.disjoint rest
 
 pub tally_more : (p : Problem) (table : List Rel) (old new : List Counts) → ((k : ℕ) → k < length (cross_pairs p) → counts_at new k ≡ counting (counts_at old k) (get_or table k Disjoint))
     → (rest : List (List Rel)) → tally_lines p (λ k rel. count_in (counts_at new k) rel + times rest k rel) ≡ tally_lines p (λ k rel. count_in (counts_at old k) rel + times (table ∷ rest) k rel)
 tally_more p table old new marked rest = tally_same p (λ k rel. count_in (counts_at new k) rel + times rest k rel) (λ k rel. count_in (counts_at old k) rel + times (table ∷ rest) k rel)
-    (λ k lt rel. ap (λ c. held (count_in c rel + times rest k rel)) (marked k lt) ∙ counted_in (counts_at old k) (get_or table k Disjoint) rel (times rest k rel)
-    ∙ ap (λ n. held (count_in (counts_at old k) rel + n)) (sym (sum_by-cons (λ t. cond (has_at k rel t) 1 0) table rest)))
+    (λ k lt rel. ap (λ c. saturated (count_in c rel + times rest k rel)) (marked k lt) ∙ counted_in (counts_at old k) (get_or table k Disjoint) rel (times rest k rel)
+    ∙ ap (λ n. saturated (count_in (counts_at old k) rel + n)) (sym (sum_by-cons (λ t. cond (has_at k rel t) 1 0) table rest)))
 
 -- what is reported in the end, and what a new one would report
 pub tally_end : (p : Problem) (counts : List Counts) → tally_lines p (λ k. count_in (counts_at counts k)) ≡ tally_lines p (λ k rel. count_in (counts_at counts k) rel + times [] k rel)

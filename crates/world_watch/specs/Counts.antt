@@ -2,7 +2,7 @@
 use Rattle.std.specs.Prelude.{ℕ, ◌+◌, List, slice_index_or}
 use Rattle.rcc5_core.specs.declared.Rel.{Rel}
 use Rattle.rcc5_core.specs.declared.Rel.TheVariants.{Equals, Includes, IncludedIn, Overlaps, Disjoint}
-use Rattle.world_watch.specs.Held.{held}
+use Rattle.world_model.specs.Saturated.{saturated}
 use Rattle.world_watch.specs.declared.counts.Counts.{Counts}
 
 -- the count of a relation
@@ -19,11 +19,11 @@ no_counts = record { equals = 0; includes = 0; included_in = 0; overlaps = 0; di
 
 -- counts with one more world that has a relation
 abbrev pub counting : Counts → Rel → Counts
-counting c Equals = record c { equals = held (c.equals + 1) }
-counting c Includes = record c { includes = held (c.includes + 1) }
-counting c IncludedIn = record c { included_in = held (c.included_in + 1) }
-counting c Overlaps = record c { overlaps = held (c.overlaps + 1) }
-counting c Disjoint = record c { disjoint = held (c.disjoint + 1) }
+counting c Equals = record c { equals = saturated (c.equals + 1) }
+counting c Includes = record c { includes = saturated (c.includes + 1) }
+counting c IncludedIn = record c { included_in = saturated (c.included_in + 1) }
+counting c Overlaps = record c { overlaps = saturated (c.overlaps + 1) }
+counting c Disjoint = record c { disjoint = saturated (c.disjoint + 1) }
 
 -- the counts at a place, and those of no world past the end
 abbrev pub counts_at : List Counts → ℕ → Counts

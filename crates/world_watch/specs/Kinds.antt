@@ -11,12 +11,12 @@ use Rattle.cleantax_text.specs.Canonical.{concept_text, spaced}
 use Rattle.merge_print.specs.Merged.{merged_of}
 use Rattle.merge_print.specs.Text.{merged_text}
 use Rattle.merge_print.specs.Json.{merged_json}
-use Rattle.world_watch.specs.Held.{held}
+use Rattle.world_model.specs.Saturated.{saturated}
 use Rattle.world_watch.specs.Steps.{Texts}
 
 -- a count as a line
 abbrev pub count_line : ℕ → List ℕ
-count_line n = decimal (held n) ++ codes "\n"
+count_line n = decimal (saturated n) ++ codes "\n"
 
 -- `count`: how many worlds there are
 abbrev pub count_report : Texts
@@ -44,7 +44,7 @@ pair_lines p line = flat_map line (range_with_len 0 (length (cross_pairs p)))
 
 -- how often the pair with a number has each relation, in relation order
 abbrev pub tally_line : Problem → (Rel → ℕ) → ℕ → List ℕ
-tally_line p counts k = pair_names p (cross_at p k) ++ spaced (map (λ rel. decimal (held (counts rel))) all_rels) ++ codes "\n"
+tally_line p counts k = pair_names p (cross_at p k) ++ spaced (map (λ rel. decimal (saturated (counts rel))) all_rels) ++ codes "\n"
 
 abbrev pub tally_lines : Problem → (ℕ → Rel → ℕ) → List ℕ
 tally_lines p counts = pair_lines p (λ k. tally_line p (counts k) k)

@@ -1,4 +1,3 @@
 pub mod Counts
-pub mod Held
 pub mod Kinds
 pub mod Steps

@@ -11,6 +11,7 @@ ghost use Rattle.world_watch.specs.Steps.{IsNew};
 use crate::watcher::WorldWatcher;
 use constraint_set::Problem;
 use merge_print::{merged, merged_text};
+use proof_text::put_letters;
 use rcc5_core::{Position, Rel};
 use std::alloc::{AllocError, Global};
 
@@ -19,15 +20,6 @@ use std::alloc::{AllocError, Global};
 pub struct MergeWatcher {
     alloc: Global,
     lines: Vec<u8>,
-}
-
-fn put_letters(out: &mut Vec<u8>, rels: &[Rel]) -> Result<(), AllocError>
-    ensures { OnOk result (out.new.items ≡ out.old.items ++ map letter_of rels.now) }
-{
-    for rel in rels {
-        out.push(rel.letter())?;
-    }
-    Ok(())
 }
 
 // The text of a world's merged taxonomy.

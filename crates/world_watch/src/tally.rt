@@ -7,7 +7,7 @@ ghost use Rattle.rcc5_core.specs.Relation.{all_rels};
 ghost use Rattle.world_model.specs.Problem.{cross_pairs};
 ghost use Rattle.cleantax_text.specs.Canonical.{spaced};
 ghost use Rattle.world_watch.specs.Counts.{count_in, counting, counts_at};
-ghost use Rattle.world_watch.specs.Held.{held};
+ghost use Rattle.world_model.specs.Saturated.{saturated};
 ghost use Rattle.world_watch.specs.Kinds.{tally_line, tally_report};
 ghost use Rattle.world_watch.specs.Steps.{IsNew};
 
@@ -58,14 +58,14 @@ fn mark(counts: &mut Vec<Counts>, rels: &[Rel], count: u32)
 }
 
 fn put_count(out: &mut Vec<u8>, count: u64) -> Result<(), AllocError>
-    ensures { OnOk result (out.new.items ≡ out.old.items ++ 32 ∷ decimal (held count)) }
+    ensures { OnOk result (out.new.items ≡ out.old.items ++ 32 ∷ decimal (saturated count)) }
 {
     out.push(b' ')?;
     print_number(out, count)
 }
 
 fn put_counts(out: &mut Vec<u8>, counts: Counts) -> Result<(), AllocError>
-    ensures { OnOk result (out.new.items ≡ out.old.items ++ spaced (map (λ rel. decimal (held (count_in counts rel))) all_rels)) }
+    ensures { OnOk result (out.new.items ≡ out.old.items ++ spaced (map (λ rel. decimal (saturated (count_in counts rel))) all_rels)) }
 {
     put_count(out, counts.equals)?;
     put_count(out, counts.includes)?;

@@ -1,4 +1,5 @@
 use Rattle.cert_check.proofs.ReadLemmas.{few_at_first}
+use Rattle.cert_check.proofs.AnswerLemmas.{top_tells, starved_tells, verdict_so}
 use Rattle.cert_check.proofs.SourceLemmas.{source_memory}
 use Rattle.cert_check.proofs.checking.check.Goals as goal
 
@@ -8,3 +9,15 @@ check_lines-requires-clause-few g c = few_at_first (g.R.Source.left c.args.sourc
 pub returns-in_err-reader-clause-source : goal.returns-in_err-reader-clause-source
 returns-in_err-reader-clause-source g c =
     source_memory c.from_residual.result c.args.source.now (g.met.R.Source.steady_stays c.args.source.now) (g.met.R.Source.quiet_stays c.args.source.now) c.from_residual.ensures.1
+
+pub returns-clause-answer : goal.returns-clause-answer
+returns-clause-answer g c =
+    top_tells c.args.problem.now c.in_ok-reader.reader (g.R.Source.left c.args.source.now) c.check_lines.result c.in_ok-reader.ensures c.check_lines.ensures.answer
+
+pub returns-in_err-reader-clause-answer : goal.returns-in_err-reader-clause-answer
+returns-in_err-reader-clause-answer g c = starved_tells c.args.problem.now (g.R.Source.left c.args.source.now) c.from_residual.result c.from_residual.ensures.1
+
+pub returns-clause-so : goal.returns-clause-so
+returns-clause-so g c =
+    verdict_so c.args.problem.now c.check_lines.result c.facts.ensures.built c.accepted_is_so.ensures
+    (top_tells c.args.problem.now c.in_ok-reader.reader (g.R.Source.left c.args.source.now) c.check_lines.result c.in_ok-reader.ensures c.check_lines.ensures.answer)

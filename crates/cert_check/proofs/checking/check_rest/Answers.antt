@@ -1,19 +1,48 @@
-use Rattle.std.proofs.Common.{◌≡◌, Ok, option_map, sym, subst, ◌∙◌}
-use Rattle.cert_reader.specs.Reader.{to_read}
-use Rattle.cert_check.specs.declared.listing.Turn.{Turn}
-use Rattle.cert_check.specs.Whole.{IsTurn, answer_from, verdict_from, ended_answer}
-use Rattle.cert_check.proofs.ReadLemmas.{tells_across}
-use Rattle.cert_check.proofs.SourceLemmas.{source_joins, source_as, source_then_text}
+use Rattle.std.proofs.Common.{arith, refl}
+use Rattle.cert_reader.proofs.GoesOnLemmas.{goes_stays}
+use Rattle.cert_reader.proofs.ReaderLemmas.{some_read}
+use Rattle.cert_check.proofs.AnswerLemmas.{too_many, answers_on, answers_end, answers_fault}
+use Rattle.cert_check.proofs.SourceLemmas.{source_joins, source_ok_as, source_as, source_then_text}
 use Rattle.cert_check.proofs.checking.check_rest.Goals as goal
+
+pub loop-read-init : goal.loop-read-init
+loop-read-init g c = record {
+  ready = c.requires.ready;
+  fresh = c.requires.fresh;
+  few = c.requires.few;
+  answers = goes_stays _ _ (λ read. refl);
+  source = record { fault = refl; later = omega arith; comes = g.met.R.Source.steady_stays c.args.source.now; still = g.met.R.Source.quiet_stays c.args.source.now };
+}
+
+pub loop-read-preserved : goal.loop-read-preserved
+loop-read-preserved g c =
+    let old = c.args.source.now in
+    let here = c.loop-read.source in
+    let new = c.take_next.new.source in
+    record {
+      ready = c.in-Ok-Further.ensures.ready;
+      fresh = c.in-Ok-Further.ensures.fresh;
+      few = c.in-Ok-Further.ensures.few c.loop-read.invariant.few;
+      answers =
+          answers_on c.args.checker c.loop-read.checker c.loop-read.read c.loop-read.invariant.answers c.take_next.new.checker c.in-Ok-Further.field-0 c.in-Ok-Further.field-0-is
+          c.in-Ok-Further.ensures.turn;
+      source =
+          source_joins _ _ old here new (g.met.R.Source.steady_joins old here new) (g.met.R.Source.quiet_joins old here new) c.loop-read.invariant.source
+          (source_ok_as _ _ here new c.in-Ok-Further.ensures.source);
+    }
 
 pub returns-in-Ok-Ended-clause-answer : goal.returns-in-Ok-Ended-clause-answer
 returns-in-Ok-Ended-clause-answer g c =
-    let now = to_read c.loop-read.reader (g.R.Source.left c.loop-read.source) in
-    let left = to_read c.take_next.new.reader (g.R.Source.left c.take_next.new.source) in
-    let ended : option_map (λ read. answer_from c.loop-read.checker c.loop-read.read read) now ≡ option_map (λ read. ended_answer (verdict_from c.take_next.new.checker c.in-Ok-Ended.to) read.ends) left =
-    subst (λ (turn : Turn). IsTurn c.loop-read.checker c.loop-read.read now c.take_next.new.checker left (Ok turn)) c.in-Ok-Ended.field-0-is c.in-Ok-Ended.ensures.turn in
-    tells_across (λ read. answer_from c.args.checker 1 read) (λ read. ended_answer (verdict_from c.take_next.new.checker c.in-Ok-Ended.to) read.ends)
-    (to_read c.args.reader.now (g.R.Source.left c.args.source.now)) left c.finish.result (sym c.loop-read.invariant.answers ∙ ended) c.finish.ensures.answer
+    answers_end c.args.checker c.loop-read.checker c.loop-read.read c.loop-read.invariant.answers c.take_next.new.checker c.in-Ok-Ended.field-0 c.in-Ok-Ended.to c.finish.result
+    c.in-Ok-Ended.field-0-is c.in-Ok-Ended.ensures.turn c.finish.ensures.answer
+
+pub returns-in-Err-clause-answer : goal.returns-in-Err-clause-answer
+returns-in-Err-clause-answer g c =
+    answers_fault c.args.checker c.loop-read.checker c.loop-read.read c.loop-read.invariant.answers c.take_next.new.checker c.in-Err.fault
+    (some_read c.take_next.new.reader (g.R.Source.left c.take_next.new.source)) c.in-Err.ensures.turn
+
+pub returns-clause-answer : goal.returns-clause-answer
+returns-clause-answer g c = too_many c.loop-read.reader (g.R.Source.left c.loop-read.source) c.loop-read.read (omega arith) c.loop-read.invariant.few
 
 pub returns-in-Ok-Ended-clause-source : goal.returns-in-Ok-Ended-clause-source
 returns-in-Ok-Ended-clause-source g c =

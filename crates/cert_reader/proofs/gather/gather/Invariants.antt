@@ -1,12 +1,12 @@
-use Rattle.std.proofs.Common.{◌≡◌, ◌≤◌, ◌+◌, ◌-◌, ◌^◌, ◌++◌, false, length, option_map}
+use Rattle.std.proofs.Common.{◌≡◌, ◌≤◌, ◌+◌, ◌-◌, ◌^◌, ◌++◌, false, length}
 use Rattle.proof_text.specs.Laws.{has_byte}
-use Rattle.cert_reader.specs.Bytes.{to_come}
+use Rattle.cert_reader.specs.Bytes.{MayCome, GoesOn}
 use Rattle.cert_reader.proofs.gather.gather.Given as goal
 
 -- the line and the bytes to come are what was to come, and no call failed so far
 abbrev pub invariant-loop-line : goal.invariant-loop-line
 invariant-loop-line g l = record {
-  bytes : to_come l.fn.blocks (g.R.Source.left l.fn.source) ≡ option_map (λ rest. l.line.items ++ rest) (to_come l.blocks (g.R.Source.left l.source));
+  bytes : GoesOn (MayCome l.fn.blocks (g.R.Source.left l.fn.source)) (MayCome l.blocks (g.R.Source.left l.source)) (λ old rest. old ≡ l.line.items ++ rest);
   no_lf : has_byte 10 l.line.items ≡ false;
   short : length l.line.items ≤ l.room;
   front : length l.fn.blocks ≤ length l.line.items + length l.blocks;

@@ -1,5 +1,6 @@
 use Rattle.std.proofs.Common.{rules, ◌++◌, codes, flat_map, length}
-use Rattle.cert_text.specs.Lines.{position_word, end_word}
+use Rattle.proof_text.specs.Words.{position_word}
+use Rattle.cert_text.specs.Lines.{end_word}
 use Rattle.run_ends.specs.Ends.{line_of, world_line}
 use Rattle.check_run.specs.Checking.{accepted_line}
 use Rattle.run_ends.proofs.PieceLemmas.{piece_after, part_of_more}

@@ -20,5 +20,5 @@ pub returns-in-Err : goal.returns-in-Err
 returns-in-Err g c =
     settled_over_as g.S.Store.state (Err c.in-Err.fault) (Err c.store_fault.result) c.args.problem.now c.args.asked c.args.name.now
     c.args.store.now c.create.new.self _ c.new-log.result c.tell.new.log _
-    (ap Err c.store_fault.ensures) (search rules) c.new-log.ensures.store (ap (λ n. n.now) c.new-log.ensures.name) c.new-log.ensures.refused
+    (ap Err c.store_fault.ensures.value) (search rules) c.new-log.ensures.store (ap (λ n. n.now) c.new-log.ensures.name) c.new-log.ensures.refused
     c.in_ok-create.ensures.ok c.create.ensures.only_written.others c.in_ok-create.ensures.cause tt tt c.in-Err.ensures.log

@@ -2,7 +2,7 @@ use Rattle.std.proofs.Common.{◌∙◌, ap, sym, arith, subst}
 use Rattle.clause_arena.specs.declared.arena.Head.{Head}
 use Rattle.clause_arena.specs.Layout.{records_of, MovesDown}
 use Rattle.clause_arena.proofs.Ranges.{AreInOrder-within}
-use Rattle.clause_arena.proofs.Packing.{Packing-start, Packing-skip, Packing-keep, Packing-live, Packing-range, Placed-start, Placed-skip, Placed-keep, Packs-from_packing}
+use Rattle.clause_arena.proofs.PackInvariant.{Packing-start, Packing-skip, Packing-keep, Packing-live, Packing-range, Placed-start, Placed-skip, Placed-keep, Packs-from_packing}
 use Rattle.clause_arena.proofs.pack.pack.Goals.{then-live, else-live}
 use Rattle.clause_arena.proofs.pack.pack.Goals as goal
 

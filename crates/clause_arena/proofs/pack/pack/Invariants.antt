@@ -1,5 +1,5 @@
 use Rattle.clause_arena.specs.Layout.{records_of}
-use Rattle.clause_arena.proofs.Packing.{Packing, Placed}
+use Rattle.clause_arena.proofs.PackInvariant.{Packing, Placed}
 use Rattle.clause_arena.proofs.pack.pack.Given as goal
 
 abbrev pub invariant-loop-at : goal.invariant-loop-at

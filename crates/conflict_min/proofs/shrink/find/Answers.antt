@@ -4,7 +4,7 @@ use Rattle.search_log.proofs.Logs.{log_joins, log_ok_as}
 use Rattle.claim_blocks.specs.Blocks.{claimed, settled}
 use Rattle.claim_blocks.proofs.Joins.{keeps_err}
 use Rattle.conflict_min.specs.Conflicts.{all_kept, loss_claims, IsClaimedOf}
-use Rattle.conflict_min.specs.declared.conflict.Found.TheVariants.{Least}
+use Rattle.conflict_min.specs.declared.conflict.Outcome.TheVariants.{Least}
 use Rattle.conflict_min.proofs.Claims.{fails, untouched, made_wider, made_joins, told_joins, shrunk_claimed, conflict_claimed}
 use Rattle.search_log.proofs.Leading.{led_still, led_joins}
 use Rattle.conflict_min.proofs.shrink.find.Goals as goal

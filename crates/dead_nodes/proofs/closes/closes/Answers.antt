@@ -1,7 +1,7 @@
 use Rattle.std.proofs.Common.{◌≡◌, ◌∙◌, get_or, Some, inl, inr, sym, ap, subst, arith}
 use Rattle.std.specs.Prelude.{MatchOption, Contains}
 use Rattle.std.proofs.lemmas.Bool.{cases_lt}
-use Rattle.watch_arena.proofs.Watching.{index_of}
+use Rattle.watch_arena.proofs.WatchedPair.{index_of}
 use Rattle.lits_core.specs.Literals.{negation_of}
 use Rattle.lits_core.specs.Derivation.{live_clause}
 use Rattle.cert_model.specs.Forced.{asked_of, IsClosedAt}

@@ -1,5 +1,6 @@
-use Rattle.std.proofs.Common.{subst}
+use Rattle.std.proofs.Common.{◌∙◌, ap, subst}
 use Rattle.std.specs.Prelude.{IfSome}
+use Rattle.cert_model.specs.Forced.{need_with}
 use Rattle.point_encode.specs.Needs.{need_seen, IsInRange}
 use Rattle.point_query.specs.Answers.{IsFirstClosed, IsProbeAnswer}
 use Rattle.dead_nodes.specs.Why.{Closes}
@@ -20,6 +21,6 @@ returns-in-Closed-clause-why c =
     let answer : IsInRange p c.in-Closed.need × IsFirstClosed c.probe.new.self p m (need_seen p c.in-Closed.need) c.in-Closed.clause =
     subst (IsProbeAnswer c.probe.new.self p m) c.in-Closed.is c.in_ok-probe.ensures.answer in
     let first = answer.1 in (
-      first_closed c.probe.new.self p m (need_seen p c.in-Closed.need) c.need_number.result c.in-Closed.clause c.need_number.ensures.of first,
+      first_closed c.probe.new.self p m (need_seen p c.in-Closed.need) c.from.result c.in-Closed.clause (ap (need_with p) c.from.ensures ∙ c.need_number.ensures.of) first,
       live_from_one c.probe.new.self.solver.state c.in-Closed.clause _ c.facts-2.ensures.solver.from_one first.closed.named,
     )

@@ -1,5 +1,5 @@
 use Rattle.std.proofs.Common.{◌≡◌, ℕ, ◌+◌, ◌-◌, take, drop, refl, subst, arith}
-use Rattle.learn_solver.proofs.Alikeness.{alike_further}
+use Rattle.learn_solver.proofs.CommonPrefix.{alike_further}
 use Rattle.learn_solver.proofs.alike.common_len.Goals as goal
 
 pub many-preserved : goal.many-preserved

@@ -1,7 +1,7 @@
 use Rattle.std.proofs.Common.{◌≡◌, ◌∙◌, ℕ, List, get_or, sym, ap, subst}
 use Rattle.lits_core.specs.Literals.{variable_of, negation_of}
 use Rattle.lits_core.proofs.LiteralLemmas.{variable_of-negation, negation-other}
-use Rattle.watch_arena.proofs.Watching.{index_of}
+use Rattle.watch_arena.proofs.WatchedPair.{index_of}
 use Rattle.learn_solver.specs.Solving.{AreConsistent}
 use Rattle.measure.specs.Solving.{AreByPlace}
 use Rattle.measure.proofs.solving.solve_by.Goals as goal

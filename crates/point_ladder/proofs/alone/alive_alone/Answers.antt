@@ -1,5 +1,5 @@
 use Rattle.std.proofs.Common.{rules}
-use Rattle.point_ladder.proofs.ByItself.{alone_more}
+use Rattle.point_ladder.proofs.AliveAlone.{alone_more}
 use Rattle.point_ladder.proofs.alone.alive_alone.Goals as goal
 
 pub loop-pair-preserved : goal.loop-pair-preserved

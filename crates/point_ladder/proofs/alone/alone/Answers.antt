@@ -3,8 +3,8 @@ use Rattle.bit_rows.specs.Rows.{has_bit}
 use Rattle.world_model.specs.Trial.{points_by_trial}
 use Rattle.world_model.specs.Alive.{IsAlive}
 use Rattle.point_ladder.specs.Bounds.{bound_to}
-use Rattle.point_ladder.proofs.Serving.{alive_here}
-use Rattle.point_ladder.proofs.ByItself.{none_alone, some_alone, unbound}
+use Rattle.point_ladder.proofs.Served.{alive_here}
+use Rattle.point_ladder.proofs.AliveAlone.{none_alone, some_alone, unbound}
 use Rattle.point_ladder.proofs.alone.alone.Goals as goal
 
 pub returns-then-not-bounds : goal.returns-then-not-bounds
@@ -14,8 +14,8 @@ returns-then-not-bounds c =
     none_alone p c.args.pair c.none.result c.requires.within c.none.ensures
     (λ alive. let lives = c.requires.bounds.lives.1 (subst IsAlive (sym (unbound p b c.requires.none)) alive) in let dead = c.if-not-bounds.true in cc)
 
-pub bound-requires-clause-lives : goal.bound-requires-clause-lives
-bound-requires-clause-lives c =
+pub bound-requires : goal.bound-requires
+bound-requires c =
     let p = c.args.problem.now in
     let b = c.args.bounds.now in
     let is = c.if-not-bounds.false in
@@ -28,6 +28,12 @@ returns c =
     let b = c.args.bounds.now in
     let is = c.if-not-bounds.false in
     let lives : b.alive ≡ true = cc in
-    some_alone c.args.problem.now c.args.rows.now b c.args.pair c.pair_at-left.result (has_bit c.row-left.result.now) (has_bit c.row-right.result.now) c.index.result.now c.bound.result
-    c.requires.rows c.requires.bounds c.requires.none lives c.requires.within c.pair_at-left.ensures.value c.pair_at-left.ensures.order c.pair_at-left.ensures.within
-    c.row-left.ensures.bits c.row-right.ensures.bits c.index.ensures c.bound.ensures
+    some_alone c.args.problem.now b c.args.pair (has_bit c.sides_of-sides.result.left.now) (has_bit c.sides_of-sides.result.right.now) c.index.result.now c.bound.result c.requires.none
+    (record {
+      bounds = c.requires.bounds;
+      alive = lives;
+      within = c.requires.within;
+      shows = c.sides_of-sides.ensures;
+      read = c.index.ensures;
+      has_alive = c.bound.ensures;
+    })

@@ -9,10 +9,8 @@ use Rattle.world_model.specs.Node.{pair_at}
 use Rattle.world_model.specs.Trial.{points_by_trial}
 use Rattle.bit_rows.specs.Rows.{BitRows, has_bit}
 use Rattle.point_ladder.specs.Barren.{LiesNone, AreNoneBy}
-use Rattle.point_ladder.specs.Ladders.{IsNarrowed}
-use Rattle.point_ladder.proofs.Serving.{ShowsPair}
-use Rattle.point_ladder.proofs.InForce.{shows_pair}
-use Rattle.point_ladder.proofs.LyingBehind.{none_skipped, none_by_all, narrowed_lives}
+use Rattle.point_ladder.specs.Ladders.{IsNarrowed, ShowsPair}
+use Rattle.point_ladder.proofs.Barren.{none_skipped, none_by_all, narrowed_lives}
 use Rattle.point_ladder.proofs.behind.+barren.Goals as goal
 
 -- what follows from an answer follows from what it says
@@ -33,15 +31,20 @@ is_barren-returns t c =
     let g = c.args.ground.now in
     let pair = get_or g.order.now c.args.at 0 in
     let old = get_or g.sets.now pair no_rels in
-    let l = has_bit c.row-left.result.now in
-    let r = has_bit c.row-right.result.now in
+    let l = has_bit c.sides_of-sides.result.left.now in
+    let r = has_bit c.sides_of-sides.result.right.now in
     let more = take_more g.order.now c.args.at 0 c.if-at-ground.false in
     let free = c.is_free.ensures c.if-not-is_free.false in
-    let shows : ShowsPair (pair_at g.problem.now pair) (points_by_trial g.problem.now) l r =
-    shows_pair g.problem.now g.rows.now l r c.pair_at-left.result (pair_at g.problem.now pair) c.requires.rows c.pair_at-left.ensures.value c.pair_at-left.ensures.order c.pair_at-left.ensures.within
-    c.row-left.ensures.bits c.row-right.ensures.bits in
+    let shows : ShowsPair (pair_at g.problem.now pair) (points_by_trial g.problem.now) l r = c.sides_of-sides.ensures in
     if_ok c.are_barren.result c.are_barren.ensures (λ none ns is.
-    none_by_all g.problem.now g.sets.now g.from (take c.args.at g.order.now) c.args.frame.now ns pair old c.bound-set.result l r is free shows (get_or_default g.sets.now pair no_rels old c.if-pair-ground.false) c.bound-set.ensures
+    none_by_all g.problem.now g.sets.now g.from (take c.args.at g.order.now) c.args.frame.now ns pair l r old c.bound-set.result
+    (record {
+      stand = is;
+      free = free;
+      shows = shows;
+      read = get_or_default g.sets.now pair no_rels old c.if-pair-ground.false;
+      has_alive = c.bound-set.ensures;
+    })
     (subst (λ tried. AreNoneBy g.problem.now g.sets.now g.from tried c.args.frame.now l r c.bound-set.result) more none))
 
 -- what a frame is narrowed by
@@ -50,30 +53,28 @@ by_rel old new l r words rel is narrowed = subst (λ words. IsNarrowed old new l
 
 pub is_barren_by-is_barren-requires : goal.is_barren_by-is_barren-requires
 is_barren_by-is_barren-requires t c =
-    let l = has_bit c.args.left.now in
-    let r = has_bit c.args.right.now in
+    let l = has_bit c.args.sides.now.left.now in
+    let r = has_bit c.args.sides.now.right.now in
     let narrowed = by_rel c.args.frame.now c.args.frame.now l r c.row.result c.args.rel c.row.ensures (c.is_same.ensures c.if-is_same.true) in
-    (omega arith, (c.requires.rows, (c.requires.at, (c.requires.some, (c.requires.two, narrowed_lives c.args.frame.now c.args.frame.now l r (row_of c.args.rel) narrowed c.requires.leads)))))
+    (omega arith, (c.requires.rows, (c.requires.at, narrowed_lives c.args.frame.now c.args.frame.now l r (row_of c.args.rel) narrowed c.requires.leads)))
 
 pub is_barren_by-returns-then-is_same : goal.is_barren_by-returns-then-is_same
 is_barren_by-returns-then-is_same t c =
-    let l = has_bit c.args.left.now in
-    let r = has_bit c.args.right.now in
+    let l = has_bit c.args.sides.now.left.now in
+    let r = has_bit c.args.sides.now.right.now in
     let narrowed = by_rel c.args.frame.now c.args.frame.now l r c.row.result c.args.rel c.row.ensures (c.is_same.ensures c.if-is_same.true) in
     if_ok c.is_barren.result c.is_barren.ensures (λ none. record { next = c.args.frame.now; narrowed = narrowed; none = none })
 
 pub is_barren_by-is_barren-requires-2 : goal.is_barren_by-is_barren-requires-2
 is_barren_by-is_barren-requires-2 t c =
-    let l = has_bit c.args.left.now in
-    let r = has_bit c.args.right.now in
+    let l = has_bit c.args.sides.now.left.now in
+    let r = has_bit c.args.sides.now.right.now in
     let narrowed = by_rel c.args.frame.now c.in_ok-next.next l r c.row-2.result c.args.rel c.row-2.ensures c.in_ok-next.ensures in
-    let some = c.requires.some in
-    let same = narrowed.width in
-    (omega arith, (c.requires.rows, (c.requires.at, (omega (arith, some, same), (narrowed.rows_two, narrowed_lives c.args.frame.now c.in_ok-next.next l r (row_of c.args.rel) narrowed c.requires.leads)))))
+    (omega arith, (c.requires.rows, (c.requires.at, narrowed_lives c.args.frame.now c.in_ok-next.next l r (row_of c.args.rel) narrowed c.requires.leads)))
 
 pub is_barren_by-returns : goal.is_barren_by-returns
 is_barren_by-returns t c =
-    let l = has_bit c.args.left.now in
-    let r = has_bit c.args.right.now in
+    let l = has_bit c.args.sides.now.left.now in
+    let r = has_bit c.args.sides.now.right.now in
     let narrowed = by_rel c.args.frame.now c.in_ok-next.next l r c.row-2.result c.args.rel c.row-2.ensures c.in_ok-next.ensures in
     if_ok c.is_barren-2.result c.is_barren-2.ensures (λ none. record { next = c.in_ok-next.next; narrowed = narrowed; none = none })

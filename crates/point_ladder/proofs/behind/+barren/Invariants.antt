@@ -22,5 +22,5 @@ abbrev pub invariant-are_barren-loop-rel : goal.invariant-are_barren-loop-rel
 invariant-are_barren-loop-rel l = record {
   items : l.rel-items ≡ Equals ∷ Includes ∷ IncludedIn ∷ Overlaps ∷ Disjoint ∷ [];
   none : (rel : Rel) → rank_of rel < l.rel-index → IsTrue (has l.fn.set rel) →
-      LiesNoneBy l.fn.ground.problem.now l.fn.ground.sets.now l.fn.ground.from (take l.fn.at l.fn.ground.order.now) l.fn.frame (has_bit l.fn.left) (has_bit l.fn.right) rel;
+      LiesNoneBy l.fn.ground.problem.now l.fn.ground.sets.now l.fn.ground.from (take l.fn.at l.fn.ground.order.now) l.fn.frame (has_bit l.fn.sides.left.now) (has_bit l.fn.sides.right.now) rel;
 }

@@ -6,15 +6,12 @@ use Rattle.bit_rows.specs.Rows.{has_bit}
 use Rattle.point_ladder.specs.declared.bounds.Bounds.{Bounds}
 use Rattle.point_ladder.specs.Bounds.{bound_to}
 use Rattle.point_ladder.specs.Ladders.{IsNarrowed}
-use Rattle.point_ladder.proofs.Serving.{alive_here}
-use Rattle.point_ladder.proofs.BoundSteps.{IsBounded, bounded_from, bounds_same, bounds_dead, bounds_fewer}
+use Rattle.point_ladder.proofs.Served.{alive_here}
+use Rattle.point_ladder.proofs.Bounded.{IsBounded, bounded_next, bounds_same, bounds_dead, bounds_fewer}
 use Rattle.point_ladder.proofs.bounds.narrow_pair.Goals as goal
 
-pub bound-set-requires-clause-two : goal.bound-set-requires-clause-two
-bound-set-requires-clause-two c = (c.requires.bounds.frame c.requires.alive).rows_two
-
-pub bound-set-requires-clause-lives : goal.bound-set-requires-clause-lives
-bound-set-requires-clause-lives c =
+pub bound-set-requires : goal.bound-set-requires
+bound-set-requires c =
     let p = c.args.problem.now in
     let b = c.args.bounds.now in
     let are = c.requires.bounds in
@@ -25,13 +22,18 @@ pub returns-then-are_same-clause-bounds : goal.returns-then-are_same-clause-boun
 returns-then-are_same-clause-bounds c =
     let p = c.args.problem.now in
     let b = c.args.bounds.now in
-    let l = has_bit c.row-left.result.now in
-    let r = has_bit c.row-right.result.now in
+    let l = has_bit c.sides_of-sides.result.left.now in
+    let r = has_bit c.sides_of-sides.result.right.now in
     let old = c.index-old.result.now in
     let now = c.bound-set.result in
-    let is : IsBounded p b.sets.items b.count b.frame l r old now =
-    bounded_from p c.args.rows.now b c.args.pair c.pair_at-left.result l r old now c.requires.rows c.requires.bounds c.requires.alive c.requires.next c.requires.within c.pair_at-left.ensures.value c.pair_at-left.ensures.order c.pair_at-left.ensures.within
-    c.row-left.ensures.bits c.row-right.ensures.bits c.index-old.ensures c.bound-set.ensures in
+    let is : IsBounded p b l r old now = bounded_next p b c.args.pair l r old now c.requires.next (record {
+      bounds = c.requires.bounds;
+      alive = c.requires.alive;
+      within = c.requires.within;
+      shows = c.sides_of-sides.ensures;
+      read = c.index-old.ensures;
+      has_alive = c.bound-set.ensures;
+    }) in
     bounds_same p b (record { sets = b.sets; count = c.args.pair + 1; alive = b.alive; frame = b.frame }) l r old now c.requires.bounds c.requires.alive is (c.are_same.ensures c.if-are_same.true)
     (ap {B = Bounds} (λ n. record { sets = b.sets; count = n + 1; alive = b.alive; frame = b.frame }) (sym c.requires.next))
 
@@ -39,13 +41,18 @@ pub returns-then-is_empty-clause-bounds : goal.returns-then-is_empty-clause-boun
 returns-then-is_empty-clause-bounds c =
     let p = c.args.problem.now in
     let b = c.args.bounds.now in
-    let l = has_bit c.row-left.result.now in
-    let r = has_bit c.row-right.result.now in
+    let l = has_bit c.sides_of-sides.result.left.now in
+    let r = has_bit c.sides_of-sides.result.right.now in
     let old = c.index-old.result.now in
     let now = c.bound-set.result in
-    let is : IsBounded p b.sets.items b.count b.frame l r old now =
-    bounded_from p c.args.rows.now b c.args.pair c.pair_at-left.result l r old now c.requires.rows c.requires.bounds c.requires.alive c.requires.next c.requires.within c.pair_at-left.ensures.value c.pair_at-left.ensures.order c.pair_at-left.ensures.within
-    c.row-left.ensures.bits c.row-right.ensures.bits c.index-old.ensures c.bound-set.ensures in
+    let is : IsBounded p b l r old now = bounded_next p b c.args.pair l r old now c.requires.next (record {
+      bounds = c.requires.bounds;
+      alive = c.requires.alive;
+      within = c.requires.within;
+      shows = c.sides_of-sides.ensures;
+      read = c.index-old.ensures;
+      has_alive = c.bound-set.ensures;
+    }) in
     bounds_dead p b (record { sets = with_item b.sets c.args.pair now; count = c.args.pair + 1; alive = false; frame = b.frame }) l r old now c.requires.bounds is (sym c.is_empty.ensures ∙ c.if-is_empty.true)
     (ap (λ n. set b.sets.items n now) (sym c.requires.next)) (ap (λ n. n + 1) (sym c.requires.next)) refl
 
@@ -53,13 +60,18 @@ pub returns-clause-bounds : goal.returns-clause-bounds
 returns-clause-bounds c =
     let p = c.args.problem.now in
     let b = c.args.bounds.now in
-    let l = has_bit c.row-left.result.now in
-    let r = has_bit c.row-right.result.now in
+    let l = has_bit c.sides_of-sides.result.left.now in
+    let r = has_bit c.sides_of-sides.result.right.now in
     let old = c.index-old.result.now in
     let now = c.bound-set.result in
-    let is : IsBounded p b.sets.items b.count b.frame l r old now =
-    bounded_from p c.args.rows.now b c.args.pair c.pair_at-left.result l r old now c.requires.rows c.requires.bounds c.requires.alive c.requires.next c.requires.within c.pair_at-left.ensures.value c.pair_at-left.ensures.order c.pair_at-left.ensures.within
-    c.row-left.ensures.bits c.row-right.ensures.bits c.index-old.ensures c.bound-set.ensures in
+    let is : IsBounded p b l r old now = bounded_next p b c.args.pair l r old now c.requires.next (record {
+      bounds = c.requires.bounds;
+      alive = c.requires.alive;
+      within = c.requires.within;
+      shows = c.sides_of-sides.ensures;
+      read = c.index-old.ensures;
+      has_alive = c.bound-set.ensures;
+    }) in
     if_ok c.narrow_frame.result c.narrow_frame.ensures (λ narrowed.
     bounds_fewer p b (record { sets = with_item b.sets c.args.pair now; count = c.args.pair + 1; alive = b.alive; frame = c.narrow_frame.new.frame }) l r old now c.requires.bounds c.requires.alive is (sym c.is_empty.ensures ∙ c.if-is_empty.false)
     (ap (λ n. set b.sets.items n now) (sym c.requires.next)) (ap (λ n. n + 1) (sym c.requires.next)) refl (subst (λ words. IsNarrowed b.frame c.narrow_frame.new.frame l r words) c.forced.ensures narrowed))

@@ -1,5 +1,5 @@
 use Rattle.std.proofs.Common.{refl}
-use Rattle.point_ladder.proofs.BoundSteps.{first_bounds}
+use Rattle.point_ladder.proofs.Bounded.{first_bounds}
 use Rattle.point_ladder.proofs.bounds.no_bounds.Goals as goal
 
 pub returns-clause-bounds : goal.returns-clause-bounds

@@ -1,6 +1,6 @@
 use Rattle.std.proofs.Common.{◌++◌, ◌∷◌, [], length, ap, ◌∙◌, subst}
 use Rattle.point_ladder.specs.Stretches.{AreNexts}
-use Rattle.point_ladder.proofs.Climbing.{keeps_start}
+use Rattle.point_ladder.proofs.Keeps.{keeps_start}
 use Rattle.point_ladder.proofs.ladder.stand.Goals as goal
 
 pub invariant_of-result : goal.invariant_of-result

@@ -3,4 +3,4 @@ use Rattle.point_ladder.specs.Ladders.{IsOwing, ConceptsMet}
 use Rattle.point_ladder.proofs.start.add_concepts.Given as goal
 
 abbrev pub invariant-loop-concept : goal.invariant-loop-concept
-invariant-loop-concept l = IsOwing l.initial.frame l.frame (ConceptsMet (points_by_trial l.problem) l.concept)
+invariant-loop-concept l = IsOwing l.initial.frame.rows l.frame.rows (ConceptsMet (points_by_trial l.problem) l.concept)

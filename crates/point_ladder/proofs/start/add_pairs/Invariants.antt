@@ -3,4 +3,4 @@ use Rattle.point_ladder.specs.Ladders.{IsOwing, PairsMet}
 use Rattle.point_ladder.proofs.start.add_pairs.Given as goal
 
 abbrev pub invariant-loop-pair : goal.invariant-loop-pair
-invariant-loop-pair l = IsOwing l.initial.frame l.frame (PairsMet l.problem (points_by_trial l.problem) l.pair)
+invariant-loop-pair l = IsOwing l.initial.frame.rows l.frame.rows (PairsMet l.problem (points_by_trial l.problem) l.pair)

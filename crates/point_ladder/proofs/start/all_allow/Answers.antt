@@ -1,5 +1,5 @@
 use Rattle.std.proofs.Common.{sym, arith}
-use Rattle.point_ladder.proofs.Ladders.{allow_by_sets}
+use Rattle.point_ladder.proofs.FirstFrame.{allow_by_sets}
 use Rattle.point_ladder.proofs.start.all_allow.Goals as goal
 
 pub returns : goal.returns

@@ -1,7 +1,7 @@
 use Rattle.std.proofs.Common.{◌≡◌, ◌+◌, ◌∙◌, length, refl, sym, ap, subst, arith}
 use Rattle.std.proofs.lemmas.List.{get_or_default}
 use Rattle.rcc5_core.specs.RelationSet.{only, every_rel}
-use Rattle.point_ladder.proofs.Along.{AreWaiting, waits_more, none_waits, nexts_end}
+use Rattle.point_ladder.proofs.Decided.{AreWaiting, waits_more, none_waits, nexts_end}
 use Rattle.point_ladder.proofs.start.nexts_of.Goals as goal
 use Rattle.point_ladder.proofs.start.nexts_of.Goals.{then-not-is_decided+in_ok-resize, else-not-is_decided}
 

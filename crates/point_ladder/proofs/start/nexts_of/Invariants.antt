@@ -1,4 +1,4 @@
-use Rattle.point_ladder.proofs.Along.{AreWaiting}
+use Rattle.point_ladder.proofs.Decided.{AreWaiting}
 use Rattle.point_ladder.proofs.start.nexts_of.Given as goal
 
 abbrev pub invariant-loop-pair : goal.invariant-loop-pair

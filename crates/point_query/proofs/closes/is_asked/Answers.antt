@@ -1,8 +1,7 @@
-use Rattle.std.proofs.Common.{subst}
+use Rattle.std.proofs.Common.{◌∙◌, ap, subst}
 use Rattle.std.specs.Prelude.{Contains}
 use Rattle.std.proofs.lemmas.List.Elements.{Contains-append_left, Contains-append_right}
-use Rattle.cert_model.specs.Forced.{selectors_of, need_lits}
-use Rattle.point_encode.specs.Numbers.{need_at}
+use Rattle.cert_model.specs.Forced.{need_at, need_lits, selectors_of}
 use Rattle.point_query.proofs.closes.is_asked.Goals as goal
 
 pub returns-then-is_selector : goal.returns-then-is_selector
@@ -13,5 +12,6 @@ returns-then-is_selector c = λ yes.
 pub returns : goal.returns
 returns c = λ yes.
     let p = c.args.cursor.now.problem in
-    let there = subst (λ q. Contains (need_lits (need_at q c.args.number)) c.args.lit) c.problem.ensures (c.is_need_lit.ensures yes) in
-    Contains-append_right (selectors_of p c.args.cursor.now.path) (need_lits (need_at p c.args.number)) c.args.lit there
+    let is = c.need_at.ensures.value ∙ ap (λ q. need_at q c.args.number) c.problem-problem.ensures in
+    Contains-append_right (selectors_of p c.args.cursor.now.path) (need_lits (need_at p c.args.number)) c.args.lit
+    (subst (λ need. Contains (need_lits need) c.args.lit) is (c.is_need_lit.ensures yes))

@@ -1,27 +1,22 @@
-use Rattle.std.proofs.Common.{◌≡◌, ◌∙◌, ℕ, ◌+◌, ◌-◌, ◌*◌, false, inl, inr, sym, ap, subst, arith}
-use Rattle.std.specs.Prelude.{Contains, not}
-use Rattle.std.proofs.lemmas.Bool.{true≢false}
-use Rattle.lits_core.specs.Literals.{variable_of, is_negative}
-use Rattle.lits_core.proofs.LiteralLemmas.{variable_of-literal_of, is_negative-literal_of, is_negative-negation, same_variable}
-use Rattle.cert_model.specs.Clauses.{is_so, first_sum_selector}
+use Rattle.std.proofs.Common.{◌≡◌, ◌∙◌, sym, subst}
+use Rattle.std.specs.Prelude.{Contains}
 use Rattle.cert_model.specs.Forced.{selectors_of}
+use Rattle.point_encode.specs.Selectors.{IsSelector, selector_lit}
+use Rattle.point_encode.proofs.Selected.{empty_selected, kept_selected}
 use Rattle.point_query.proofs.closes.is_selector.Goals as goal
 
--- a literal that is not negative says that its variable is so
-positive : (lit : ℕ) → is_negative lit ≡ false → is_so (variable_of lit) ≡ lit
-positive lit off = elim (same_variable lit (is_so (variable_of lit)) (sym (variable_of-literal_of (variable_of lit) false))) [
-  | inl same ↦ sym same
-  | inr other ↦ absurd (true≢false (sym (ap is_negative other ∙ is_negative-negation (is_so (variable_of lit)) ∙ ap not (is_negative-literal_of (variable_of lit) false)) ∙ off))
-]
-
-pub returns : goal.returns
-returns c = λ kept.
-    let p = c.args.cursor.now.problem in
-    let m = c.args.cursor.now.path in
-    let q = c.problem-problem.result.now in
+pub returns-in-Some-Empty : goal.returns-in-Some-Empty
+returns-in-Some-Empty c = λ yes.
+    let found = c.in-Some-Empty.field-0 in
     let same = c.problem-problem.ensures in
-    let sum = c.variable-variable.result - c.concept_count-concepts.result - 3 * c.count_pairs-pairs.result in
-    let number : first_sum_selector q + sum ≡ variable_of c.args.lit = omega (arith, c.count_pairs-pairs.ensures.count, c.concept_count-concepts.ensures, c.variable-variable.ensures.value) in
-    let off : is_negative c.args.lit ≡ false = sym c.is_negative.ensures ∙ c.if-is_negative.false in
-    let there : Contains (selectors_of q m) (is_so (first_sum_selector q + sum)) = c.is_kept_there.ensures kept m in
-    subst (λ l. Contains (selectors_of p m) l) (ap is_so number ∙ positive c.args.lit off) (subst (λ r. Contains (selectors_of r m) (is_so (first_sum_selector q + sum))) same there)
+    empty_selected c.args.cursor.now.problem c.args.cursor.now.path found c.in-Some-Empty.pair c.in-Some-Empty.part c.args.lit c.forced_at.result c.in-Some-Empty.field-0-is
+    (subst (λ p. selector_lit p found ≡ c.args.lit) same c.in-Some-Empty.ensures.lit) (subst (λ p. IsSelector p found) same c.in-Some-Empty.ensures.range)
+    c.forced_at.ensures (sym c.is_empty.ensures ∙ yes)
+
+pub returns-in-Some-Kept : goal.returns-in-Some-Kept
+returns-in-Some-Kept c = λ kept.
+    let found = c.in-Some-Kept.field-0 in
+    let same = c.problem-problem.ensures in
+    subst (λ p. Contains (selectors_of p c.args.cursor.now.path) c.args.lit) same
+    (kept_selected c.problem-problem.result.now c.args.cursor.now.path found c.in-Some-Kept.sum c.args.lit c.in-Some-Kept.field-0-is
+    c.in-Some-Kept.ensures.lit c.in-Some-Kept.ensures.range (sym c.is_sum_kept.ensures ∙ kept))

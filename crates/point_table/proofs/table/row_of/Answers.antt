@@ -1,10 +1,9 @@
 use Rattle.std.proofs.Common.{◌*◌, ◌+◌, ◌≤◌, ◌∷◌, [], ◌∙◌, ℕ, Bool, length, ap, sym, arith, false, inl, inr}
 use Rattle.std.proofs.lemmas.Bool.{cases_lt}
 use Rattle.std.proofs.lemmas.List.{get_or_past, length-append}
-use Rattle.world_model.specs.Alive.{bit_of}
+use Rattle.world_model.specs.Alive.{bit_of, point_at}
 use Rattle.bit_rows.specs.Rows.{has_bit}
 use Rattle.bit_rows.proofs.WordBits.{has_push, has_past}
-use Rattle.point_table.specs.Table.{point_at}
 use Rattle.point_table.proofs.table.row_of.Goals as goal
 
 pub loop-i-preserved : goal.loop-i-preserved

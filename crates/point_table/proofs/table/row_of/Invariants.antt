@@ -1,7 +1,6 @@
 use Rattle.std.proofs.Common.{◌≡◌, ◌*◌, ◌<◌, ℕ, length}
-use Rattle.world_model.specs.Alive.{bit_of}
+use Rattle.world_model.specs.Alive.{bit_of, point_at}
 use Rattle.bit_rows.specs.Rows.{has_bit}
-use Rattle.point_table.specs.Table.{point_at}
 use Rattle.point_table.proofs.table.row_of.Given as goal
 
 abbrev pub invariant-loop-i : goal.invariant-loop-i

@@ -1,7 +1,7 @@
 use Rattle.std.proofs.Common.{◌≡◌, ◌∙◌, ◌<◌, ℕ, zero, suc, false, List, [], ◌∷◌, length, get_or, sym, ap, arith}
 use Rattle.std.specs.Prelude.{not}
 use Rattle.std.proofs.lemmas.Bool.{true≢false}
-use Rattle.watch_arena.proofs.Watching.{index_of}
+use Rattle.watch_arena.proofs.WatchedPair.{index_of}
 use Rattle.lits_core.specs.Literals.{is_negative, negation_of}
 use Rattle.lits_core.proofs.LiteralLemmas.{is_negative-negation}
 use Rattle.learn_solver.specs.Solving.{AreConsistent}

@@ -11,8 +11,8 @@ unreachable-requires c =
     c.requires.dead (alive_here (split_tree c.args.walk.now.subject) c.args.walk.now.path node c.new.result (c.node-node.ensures, c.new.ensures)
     (subst (IsProbeAnswer c.probe-2.new.self node c.new.result) c.in-Alive.is c.in_ok-probe.ensures.answer))
 
-pub number_of-requires : goal.number_of-requires
-number_of-requires c = (subst (IsProbeAnswer c.probe-2.new.self c.node-node.result.now c.new.result) c.in-Closed.is c.in_ok-probe.ensures.answer).0
+pub need_number-requires : goal.need_number-requires
+need_number-requires c = (subst (IsProbeAnswer c.probe-2.new.self c.node-node.result.now c.new.result) c.in-Closed.is c.in_ok-probe.ensures.answer).0
 
 pub returns-in-EmptyPair-clause-tells : goal.returns-in-EmptyPair-clause-tells
 returns-in-EmptyPair-clause-tells c =
@@ -25,7 +25,7 @@ returns-in-Closed-clause-tells c =
     let node = c.node-node.result.now in
     let answer = subst (IsProbeAnswer c.probe-2.new.self node c.new.result) c.in-Closed.is c.in_ok-probe.ensures.answer in
     tells_need (split_tree c.args.walk.now.subject) c.args.walk.now.path node c.new.result c.probe-2.new.self c.depth-depth.result c.last-last.result c.in-Closed.need c.in-Closed.clause c.from.result
-    (c.node-node.ensures, c.new.ensures) c.depth-depth.ensures c.last-last.ensures (c.from.ensures ∙ c.number_of.ensures) answer.0 answer.1
+    (c.node-node.ensures, c.new.ensures) c.depth-depth.ensures c.last-last.ensures (c.from.ensures ∙ c.need_number.ensures.number) answer.0 answer.1
 
 pub returns-in-Closed-clause-ids : goal.returns-in-Closed-clause-ids
 returns-in-Closed-clause-ids c =

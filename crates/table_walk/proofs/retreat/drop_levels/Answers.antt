@@ -4,8 +4,8 @@ use Rattle.rcc5_core.specs.RelationSet.{no_rels}
 use Rattle.table_walk.specs.declared.Level.{Level}
 use Rattle.table_walk.specs.Ahead.{level_at, IsAhead}
 use Rattle.table_walk.specs.Ways.{problem_of, LeadOn}
-use Rattle.table_walk.proofs.Stepping.{leads_dropped}
-use Rattle.table_walk.proofs.Retreating.{drops_barren}
+use Rattle.table_walk.proofs.WentOn.{leads_dropped}
+use Rattle.table_walk.proofs.Barren.{drops_barren}
 use Rattle.table_walk.proofs.retreat.drop_levels.Goals as goal
 
 pub loop-way-preserved : goal.loop-way-preserved
@@ -21,7 +21,7 @@ loop-way-preserved c =
     let rest : c.pop.new.self.items ≡ take k levels = c.pop.ensures.rest ∙ ap (λ n. take n levels) (omega arith) in
     record {
       ladder = kept.ladder;
-      turn = kept.turn;
+      waiting = kept.waiting;
       stage = kept.stage;
       ahead = subst (λ ls. IsAhead p old.ladder.path ls) (sym rest)
           (drops_barren p old.ladder.path levels k c.args.len sized (subst (λ (x : Level). c.args.len ≤ x.depth) level deep) kept.ahead c.requires.barren);

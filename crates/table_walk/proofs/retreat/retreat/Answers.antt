@@ -4,8 +4,8 @@ use Rattle.point_ladder.specs.Ladders.{LadderState, BeginsNone}
 use Rattle.table_walk.specs.declared.way.Stage.TheVariants.{Standing}
 use Rattle.table_walk.specs.declared.way.Way.{Way}
 use Rattle.table_walk.specs.Ways.{IsWay, WentOn}
-use Rattle.table_walk.proofs.Stepping.{with_ladder, stays}
-use Rattle.table_walk.proofs.Retreating.{retreated}
+use Rattle.table_walk.proofs.WentOn.{with_ladder, stays}
+use Rattle.table_walk.proofs.Barren.{retreated}
 use Rattle.table_walk.proofs.retreat.retreat.Goals as goal
 
 -- a way stays where it is, whose ladder is as it was
@@ -31,4 +31,4 @@ returns-clause-went c =
     let here : BeginsNone l.problem (take c.in-Some.len l.path) = subst (λ found. IfSome found (λ len. BeginsNone l.problem (take len l.path))) c.in-Some.is c.in_ok-len.ensures.barren in
     let dropped = c.drop_levels.ensures in
     let turned = c.turn_off.ensures in
-    retreated old c.drop_levels.new.way c.turn_off.new.way c.in-Some.len c.requires.standing c.requires.settled here (dropped.ladder ∙ c.in_ok-len.ensures.same) dropped.turn turned.problem turned.way turned.past turned.untold
+    retreated old c.drop_levels.new.way c.turn_off.new.way c.in-Some.len c.requires.standing c.requires.ready here (dropped.ladder ∙ c.in_ok-len.ensures.same) dropped.waiting turned.problem turned.way turned.past turned.untold

@@ -3,7 +3,7 @@ use Rattle.std.specs.Prelude.{None}
 use Rattle.rcc5_core.specs.RelationSet.{first_of}
 use Rattle.table_walk.specs.Ahead.{IsPast}
 use Rattle.table_walk.specs.Ways.{problem_of, place, at_of}
-use Rattle.table_walk.proofs.Stepping.{with_ladder, entered, turned_none}
+use Rattle.table_walk.proofs.WentOn.{with_ladder, entered, turned_none}
 use Rattle.table_walk.proofs.way.enter.Goals as goal
 
 pub returns-in_default-clause-went : goal.returns-in_default-clause-went
@@ -15,18 +15,18 @@ returns-in_default-clause-went c =
     record {
       problem = c.turn_off.ensures.problem ∙ ap problem_of same;
       way = c.turn_off.ensures.way;
-      passed = turned_none old c.leads_on-set.result (at_of c.turn_off.new.way) c.requires.standing c.requires.settled c.requires.short c.leads_on-set.ensures none past;
+      passed = turned_none old c.leads_on-set.result (at_of c.turn_off.new.way) (record { way = c.requires.way; standing = c.requires.standing; ready = c.requires.ready; short = c.requires.short; next = c.leads_on-set.ensures }) none past;
       untold = c.turn_off.ensures.untold;
     }
 
 pub returns-clause-went : goal.returns-clause-went
 returns-clause-went c =
     let e = c.go_on.ensures in
-    (entered c.go_on.result c.args.way.now c.go_on.new.way c.leads_on-set.result c.in-Some.rel c.requires.way c.requires.standing c.requires.settled c.requires.short c.leads_on-set.ensures
-    (sym c.first.ensures ∙ c.in-Some.is) e.ladder e.stands e.way e.turn e.err).0
+    (entered c.go_on.result c.args.way.now c.go_on.new.way c.leads_on-set.result c.in-Some.rel
+    (record { way = c.requires.way; standing = c.requires.standing; ready = c.requires.ready; short = c.requires.short; next = c.leads_on-set.ensures }) (sym c.first.ensures ∙ c.in-Some.is) e.ladder e.stands e.way e.waiting e.err).0
 
 pub returns-clause-less : goal.returns-clause-less
 returns-clause-less c =
     let e = c.go_on.ensures in
-    (entered c.go_on.result c.args.way.now c.go_on.new.way c.leads_on-set.result c.in-Some.rel c.requires.way c.requires.standing c.requires.settled c.requires.short c.leads_on-set.ensures
-    (sym c.first.ensures ∙ c.in-Some.is) e.ladder e.stands e.way e.turn e.err).1
+    (entered c.go_on.result c.args.way.now c.go_on.new.way c.leads_on-set.result c.in-Some.rel
+    (record { way = c.requires.way; standing = c.requires.standing; ready = c.requires.ready; short = c.requires.short; next = c.leads_on-set.ensures }) (sym c.first.ensures ∙ c.in-Some.is) e.ladder e.stands e.way e.waiting e.err).1

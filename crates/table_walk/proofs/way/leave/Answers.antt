@@ -3,8 +3,8 @@ use Rattle.table_walk.specs.declared.way.Stage.TheVariants.{Standing, Past}
 use Rattle.table_walk.specs.declared.way.Way.{Way}
 use Rattle.table_walk.specs.Ahead.{Lists, BeginAlike}
 use Rattle.table_walk.specs.Ways.{problem_of, place, at_by, told_by, at_of, told_of, told_table}
-use Rattle.table_walk.proofs.Alike.{alike_none}
-use Rattle.table_walk.proofs.Stepping.{at_table, turned_one, lists_nowhere}
+use Rattle.table_walk.proofs.BeginAlike.{alike_none}
+use Rattle.table_walk.proofs.WentOn.{at_table, turned_one, lists_nowhere}
 use Rattle.table_walk.proofs.way.leave.Goals as goal
 
 pub returns-in-Told-clause-passed : goal.returns-in-Told-clause-passed

@@ -6,13 +6,14 @@ use Rattle.point_ladder.specs.Ladders.{LadderState}
 use Rattle.std.specs.Prelude.{Some, None}
 use Rattle.rcc5_core.specs.RelationSet.{no_rels, next_of}
 use Rattle.table_walk.specs.declared.way.Stage.TheVariants.{Standing}
-use Rattle.table_walk.specs.Ahead.{level_at, rel_at, Begins, IsAhead}
+use Rattle.world_model.specs.Listing.{rel_at, Begins}
+use Rattle.table_walk.specs.Ahead.{level_at, IsAhead}
 use Rattle.table_walk.specs.Ways.{problem_of, LeadOn}
-use Rattle.table_walk.proofs.Going.{drops_last}
-use Rattle.table_walk.proofs.Stepping.{Turned, turned_way, past_way, some_room, leads_dropped}
+use Rattle.table_walk.proofs.Ahead.{drops_last}
+use Rattle.table_walk.proofs.WentOn.{Turned, turned_way, past_way, some_room, leads_dropped}
 use Rattle.table_walk.proofs.way.turn_off.Goals as goal
 
-turned_here : (c : goal.After-way-in-Some-1) → Turned c.args.way.now (record { ladder = c.back_to.new.self; turn = Some c.in-Some.next; levels = c.loop-way.way.levels; stage = Standing })
+turned_here : (c : goal.After-way-in-Some-1) → Turned c.args.way.now (record { ladder = c.back_to.new.self; waiting = Some c.in-Some.next; levels = c.loop-way.way.levels; stage = Standing })
 turned_here c =
     let old = c.args.way.now in
     let levels = c.loop-way.way.levels.items in
@@ -21,9 +22,18 @@ turned_here c =
     let level : c.index.result.now ≡ level_at levels k = c.index.ensures ∙ get_or_default levels k c.index.result.now (record { depth = 0; set = no_rels }) (omega arith) in
     let next : next_of (level_at levels k).set (rel_at old.ladder.path (level_at levels k).depth) ≡ Some c.in-Some.next =
     ap (λ l. next_of (level_at levels k).set (rel_at l.path (level_at levels k).depth)) (sym same) ∙ sym c.next_at.ensures ∙ c.in-Some.is in
-    turned_way old (record { ladder = c.back_to.new.self; turn = Some c.in-Some.next; levels = c.loop-way.way.levels; stage = Standing }) levels k c.in-Some.next
-    c.requires.way c.requires.under_way c.requires.settled (omega arith) c.loop-way.invariant.ahead c.loop-way.invariant.leads next
-    (c.back_to.ensures ∙ (λ i. record { problem = (same i).problem; path = take (level i).depth (same i).path })) refl refl refl
+    turned_way old (record { ladder = c.back_to.new.self; waiting = Some c.in-Some.next; levels = c.loop-way.way.levels; stage = Standing }) levels k c.in-Some.next
+    c.requires.way c.requires.under_way c.requires.ready
+    (record {
+      sized = omega arith;
+      ahead = c.loop-way.invariant.ahead;
+      leads = c.loop-way.invariant.leads;
+      next = next;
+      moved = c.back_to.ensures ∙ (λ i. record { problem = (same i).problem; path = take (level i).depth (same i).path });
+      waiting = refl;
+      kept = refl;
+      standing = refl;
+    })
 
 pub returns-in-Some-clause-way : goal.returns-in-Some-clause-way
 returns-in-Some-clause-way c = (turned_here c).way
@@ -56,14 +66,14 @@ loop-way-preserved c =
     let rest : c.pop.new.self.items ≡ take k levels = c.pop.ensures.rest ∙ ap (λ n. take n levels) (omega arith) in
     record {
       ladder = c.loop-way.invariant.ladder;
-      turn = c.loop-way.invariant.turn;
+      waiting = c.loop-way.invariant.waiting;
       stage = c.loop-way.invariant.stage;
       ahead = subst (λ ls. IsAhead p old.ladder.path ls) (sym rest) (drops_last p old.ladder.path levels k sized c.loop-way.invariant.ahead none);
       leads = subst (λ ls. LeadOn p old.ladder.path ls) (sym rest) (leads_dropped p old.ladder.path levels k sized c.loop-way.invariant.leads);
     }
 
 pub returns-clause-past : goal.returns-clause-past
-returns-clause-past c = past_way c.args.way.now c.requires.under_way c.requires.settled c.loop-way.way.levels.items (omega arith) c.loop-way.invariant.ahead
+returns-clause-past c = past_way c.args.way.now c.requires.under_way c.requires.ready c.loop-way.way.levels.items (omega arith) c.loop-way.invariant.ahead
 
 pub returns-clause-less : goal.returns-clause-less
 returns-clause-less c = some_room c.args.way.now c.requires.under_way

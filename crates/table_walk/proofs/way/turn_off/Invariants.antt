@@ -7,7 +7,7 @@ use Rattle.table_walk.proofs.way.turn_off.Given as goal
 abbrev pub invariant-loop-way : goal.invariant-loop-way
 invariant-loop-way l = record {
   ladder : l.way.ladder ≡ l.fn.way.ladder;
-  turn : l.way.turn ≡ l.fn.way.turn;
+  waiting : l.way.waiting ≡ l.fn.way.waiting;
   stage : l.way.stage ≡ l.fn.way.stage;
   ahead : IsAhead (problem_of l.fn.way) l.fn.way.ladder.path l.way.levels.items;
   leads : LeadOn (problem_of l.fn.way) l.fn.way.ladder.path l.way.levels.items;

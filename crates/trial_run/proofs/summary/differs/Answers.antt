@@ -2,7 +2,7 @@ use Rattle.std.proofs.Common.{◌≡◌, ℕ, Bool, true, false, not, ◌||◌, 
 use Rattle.std.proofs.lemmas.List.Folds.{list_any_at, list_any_more}
 use Rattle.rcc5_core.specs.declared.Rel.{Rel}
 use Rattle.rcc5_core.specs.Relation.{same_rel}
-use Rattle.trial_run.specs.Trials.{rel_at}
+use Rattle.world_model.specs.Listing.{rel_at}
 use Rattle.trial_run.proofs.SummaryLemmas.{rel_got}
 use Rattle.trial_run.proofs.summary.differs.Goals as goal
 

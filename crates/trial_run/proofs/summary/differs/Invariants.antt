@@ -1,7 +1,7 @@
 use Rattle.std.proofs.Common.{◌≡◌, false, not, take}
 use Rattle.std.specs.List.{list_any}
 use Rattle.rcc5_core.specs.Relation.{same_rel}
-use Rattle.trial_run.specs.Trials.{rel_at}
+use Rattle.world_model.specs.Listing.{rel_at}
 use Rattle.trial_run.proofs.summary.differs.Given as goal
 
 abbrev pub invariant-loop-world : goal.invariant-loop-world

@@ -1,4 +1,4 @@
-use Rattle.watch_arena.proofs.Compacting.{Renaming}
+use Rattle.watch_arena.proofs.CompactedClauses.{Renaming}
 use Rattle.watch_arena.proofs.chains.rename.Given as goal
 
 abbrev pub invariant-loop-at : goal.invariant-loop-at

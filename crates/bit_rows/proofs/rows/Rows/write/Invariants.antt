@@ -4,4 +4,4 @@ use Rattle.bit_rows.proofs.RowBits.{IsWriting}
 use Rattle.bit_rows.proofs.rows.Rows.write.Given as goal
 
 abbrev pub invariant-loop-i : goal.invariant-loop-i
-invariant-loop-i l = IsWriting (the_view l.initial.self-inside) (the_view l.self-inside) l.row l.i (meets_at l.one l.other l.left l.right l.cells)
+invariant-loop-i l = IsWriting (the_view l.initial.self-inside) (the_view l.self-inside) l.row l.i (meets_at l.one l.other l.sides.left.now l.sides.right.now l.cells)

@@ -4,7 +4,7 @@ use Rattle.clause_arena.specs.Records.{Record, compacted}
 use Rattle.clause_arena.specs.Layout.{records_of, Packs}
 use Rattle.clause_arena.specs.Movings.{Movings, place_after, pairs_from, new_ref, LeadsTo}
 use Rattle.clause_arena.proofs.Pairs.{none-from_no_pairs, new_ref-pairs_from}
-use Rattle.clause_arena.proofs.Packing.{Packs-cut, records_of-cut, LeadsTo-from_places, written_over}
+use Rattle.clause_arena.proofs.PackInvariant.{Packs-cut, records_of-cut, LeadsTo-from_places, written_over}
 use Rattle.clause_arena.proofs.arena.Arena.compact.Goals as goal
 
 pub pack-packed-requires-clause-empty : goal.pack-packed-requires-clause-empty

@@ -1,6 +1,6 @@
 use Rattle.std.proofs.Common.{◌<◌, List, length, sym, subst}
 use Rattle.clause_arena.specs.Records.{Record}
-use Rattle.watch_arena.proofs.Watching.{live_within}
+use Rattle.watch_arena.proofs.WatchedPair.{live_within}
 use Rattle.conflict_clause.proofs.analysis.Analysis.apply.Goals as goal
 
 pub id_of-requires : goal.id_of-requires
@@ -11,17 +11,17 @@ returns-clause-hints c = cc (c.in_ok-push.ensures.items, c.see_all.ensures.hints
 
 -- what is said of the variables and of the literals is said whatever the hints
 
-pub returns-in_err-push-clause-noted : goal.returns-in_err-push-clause-noted
-returns-in_err-push-clause-noted c = let n = c.see_all.ensures.noted in record { size = n.size; listed = n.listed; in_range = n.in_range }
+pub returns-in_err-push-clause-seen_list : goal.returns-in_err-push-clause-seen_list
+returns-in_err-push-clause-seen_list c = let n = c.see_all.ensures.seen_list in record { size = n.size; listed = n.listed; in_range = n.in_range }
 
-pub returns-clause-noted : goal.returns-clause-noted
-returns-clause-noted c = let n = c.see_all.ensures.noted in record { size = n.size; listed = n.listed; in_range = n.in_range }
+pub returns-clause-seen_list : goal.returns-clause-seen_list
+returns-clause-seen_list c = let n = c.see_all.ensures.seen_list in record { size = n.size; listed = n.listed; in_range = n.in_range }
 
 pub returns-clause-looking : goal.returns-clause-looking
 returns-clause-looking c =
-    let n = c.see_all.ensures.noted in
+    let n = c.see_all.ensures.seen_list in
     let l = c.in_ok-see_all.ensures.looking in
-    record { noted = record { size = n.size; listed = n.listed; in_range = n.in_range }; left = l.left; at_level = l.at_level }
+    record { seen_list = record { size = n.size; listed = n.listed; in_range = n.in_range }; left = l.left; at_level = l.at_level }
 
 pub returns-clause-sees : goal.returns-clause-sees
 returns-clause-sees c = let m = c.in_ok-see_all.ensures.sees in record { marks = m.marks; kept = m.kept; added = m.added; lowest = m.lowest }

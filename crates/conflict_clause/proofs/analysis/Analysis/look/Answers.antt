@@ -2,8 +2,8 @@ use Rattle.std.proofs.Common.{◌≡◌, refl, sym, arith, true, false}
 use Rattle.lits_core.specs.Literals.{variable_of}
 use Rattle.watch_arena.specs.Places.{place_at}
 use Rattle.conflict_clause.specs.Search.{is_seen}
-use Rattle.conflict_clause.proofs.Looking.{IsNoted-same, reason-off}
-use Rattle.conflict_clause.proofs.Searching.{IsSearch-resolved, IsSearch-passed, IsSearch-kept, Finds-refl, Finds-seen, Finds-kept}
+use Rattle.conflict_clause.proofs.SeenLits.{IsSeenList-same, reason-off}
+use Rattle.conflict_clause.proofs.SearchInvariant.{IsSearch-resolved, IsSearch-passed, IsSearch-kept, Finds-refl, Finds-seen, Finds-kept}
 use Rattle.conflict_clause.proofs.analysis.Analysis.look.Goals as goal
 
 pub apply-requires-clause-off : goal.apply-requires-clause-off
@@ -27,20 +27,20 @@ returns-in_ok-keep-in-None-clause-finds c =
     let within = c.requires.within in
     Finds-kept c.args.trail.now c.args.level c.args.place c.args.self.now c.keep.new.self (omega arith) (sym c.in-None.ensures) c.keep.ensures.lowest (cc (c.in_ok-keep-in-None.ensures.lits, c.lit_on-lit.ensures))
 
-pub returns-in_ok-apply-in-Some-clause-noted : goal.returns-in_ok-apply-in-Some-clause-noted
-returns-in_ok-apply-in-Some-clause-noted c = c.apply.ensures.noted
+pub returns-in_ok-apply-in-Some-clause-seen_list : goal.returns-in_ok-apply-in-Some-clause-seen_list
+returns-in_ok-apply-in-Some-clause-seen_list c = c.apply.ensures.seen_list
 
 pub returns-in_ok-apply-in-Some-clause-finds : goal.returns-in_ok-apply-in-Some-clause-finds
 returns-in_ok-apply-in-Some-clause-finds c = Finds-seen c.args.trail.now c.args.level c.args.place c.args.self.now c.apply.new.self c.in_ok-apply-in-Some.ensures.sees
 
-pub returns-in_ok-keep-in-None-clause-noted : goal.returns-in_ok-keep-in-None-clause-noted
-returns-in_ok-keep-in-None-clause-noted c = IsNoted-same c.args.self.now _ _ _ c.requires.looking.noted c.keep.ensures.marks c.keep.ensures.seen refl
+pub returns-in_ok-keep-in-None-clause-seen_list : goal.returns-in_ok-keep-in-None-clause-seen_list
+returns-in_ok-keep-in-None-clause-seen_list c = IsSeenList-same c.args.self.now _ _ _ c.requires.looking.seen_list c.keep.ensures.marks c.keep.ensures.seen refl
 
-pub returns-in_err-keep-in-None-clause-noted : goal.returns-in_err-keep-in-None-clause-noted
-returns-in_err-keep-in-None-clause-noted c = IsNoted-same c.args.self.now _ _ _ c.requires.looking.noted c.keep.ensures.marks c.keep.ensures.seen refl
+pub returns-in_err-keep-in-None-clause-seen_list : goal.returns-in_err-keep-in-None-clause-seen_list
+returns-in_err-keep-in-None-clause-seen_list c = IsSeenList-same c.args.self.now _ _ _ c.requires.looking.seen_list c.keep.ensures.marks c.keep.ensures.seen refl
 
-pub returns-in_err-apply-in-Some-clause-noted : goal.returns-in_err-apply-in-Some-clause-noted
-returns-in_err-apply-in-Some-clause-noted c = c.apply.ensures.noted
+pub returns-in_err-apply-in-Some-clause-seen_list : goal.returns-in_err-apply-in-Some-clause-seen_list
+returns-in_err-apply-in-Some-clause-seen_list c = c.apply.ensures.seen_list
 
 pub returns-then-not-get-clause-search : goal.returns-then-not-get-clause-search
 returns-then-not-get-clause-search c =

@@ -1,9 +1,9 @@
 use Rattle.std.proofs.Common.{◌≡◌, ◌∙◌, ◌<◌, ℕ, List, true, length, sym, ap, subst, arith, inl, inr, get_or, below_more, refl}
 use Rattle.lits_core.specs.Literals.{variable_of}
 use Rattle.clause_arena.specs.Records.{Record, record_at}
-use Rattle.watch_arena.proofs.Watching.{contains_at, index_of, live_within}
+use Rattle.watch_arena.proofs.WatchedPair.{contains_at, index_of, live_within}
 use Rattle.conflict_clause.specs.Search.{is_seen}
-use Rattle.conflict_clause.proofs.Looking.{Sees-refl, Sees-trans, literal}
+use Rattle.conflict_clause.proofs.SeenLits.{Sees-refl, Sees-trans, literal}
 use Rattle.conflict_clause.proofs.analysis.Analysis.see_all.Goals as goal
 
 pub see-requires-clause-range : goal.see-requires-clause-range
@@ -52,14 +52,14 @@ returns-clause-seen c lit has =
     let same = ap (λ (rs : List Record). length (record_at rs c.args.at).lits) c.arena-arena.ensures in
     subst (λ (x : ℕ). is_seen c.loop-k.self (variable_of x) ≡ true) entry.2 (c.loop-k.invariant.seen entry.0 (omega arith))
 
-pub returns-in_err-see-clause-noted : goal.returns-in_err-see-clause-noted
-returns-in_err-see-clause-noted c = c.see.ensures.noted
+pub returns-in_err-see-clause-seen_list : goal.returns-in_err-see-clause-seen_list
+returns-in_err-see-clause-seen_list c = c.see.ensures.seen_list
 
 pub returns-in_err-see-clause-hints : goal.returns-in_err-see-clause-hints
 returns-in_err-see-clause-hints c = c.see.ensures.hints ∙ c.loop-k.invariant.hints
 
-pub returns-clause-noted : goal.returns-clause-noted
-returns-clause-noted c = c.loop-k.invariant.looking.noted
+pub returns-clause-seen_list : goal.returns-clause-seen_list
+returns-clause-seen_list c = c.loop-k.invariant.looking.seen_list
 
 pub returns-clause-looking : goal.returns-clause-looking
 returns-clause-looking c = c.loop-k.invariant.looking

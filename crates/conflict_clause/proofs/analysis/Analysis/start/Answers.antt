@@ -1,7 +1,7 @@
 use Rattle.std.proofs.Common.{◌∙◌, ℕ, List, ◌∷◌, ◌++◌, [], ap}
 use Rattle.clause_arena.specs.Records.{record_at}
 use Rattle.conflict_clause.proofs.AtPlaces.{each_false}
-use Rattle.conflict_clause.proofs.Endings.{IsSearch-started, lower-first, lowest-within}
+use Rattle.conflict_clause.proofs.SearchEnds.{IsSearch-started, lower-first, lowest-within}
 use Rattle.conflict_clause.proofs.analysis.Analysis.start.Goals as goal
 
 pub returns-clause-search : goal.returns-clause-search

@@ -5,8 +5,8 @@ use Rattle.std.proofs.lemmas.List.Elements.{Contains-push, Contains-push_cases}
 use Rattle.lits_core.specs.Literals.{variable_of}
 use Rattle.clause_arena.specs.Records.{record_at}
 use Rattle.watch_arena.specs.Places.{place_at}
-use Rattle.conflict_clause.proofs.Looking.{IsNoted-same, reason-off}
-use Rattle.conflict_clause.proofs.Endings.{IsSearch-below, none_in}
+use Rattle.conflict_clause.proofs.SeenLits.{IsSeenList-same, reason-off}
+use Rattle.conflict_clause.proofs.SearchEnds.{IsSearch-below, none_in}
 use Rattle.conflict_clause.proofs.analysis.Analysis.start_below.Goals as goal
 
 -- a variable that was marked is marked
@@ -43,16 +43,16 @@ returns-clause-only c lit has =
       | inr lower ↦ let none = lower.below in absurd (omega arith)
     ]
 
-pub returns-in_err-enter-clause-noted : goal.returns-in_err-enter-clause-noted
-returns-in_err-enter-clause-noted c =
-    IsNoted-same c.enter.new.self _ _ _ c.enter.ensures.noted refl refl (ap length c.begin.ensures.marks ∙ c.requires.clear.size)
+pub returns-in_err-enter-clause-seen_list : goal.returns-in_err-enter-clause-seen_list
+returns-in_err-enter-clause-seen_list c =
+    IsSeenList-same c.enter.new.self _ _ _ c.enter.ensures.seen_list refl refl (ap length c.begin.ensures.marks ∙ c.requires.clear.size)
 
-pub returns-in_err-push-clause-noted : goal.returns-in_err-push-clause-noted
-returns-in_err-push-clause-noted c =
-    IsNoted-same c.enter.new.self _ _ _ c.enter.ensures.noted refl refl (ap length c.begin.ensures.marks ∙ c.requires.clear.size)
+pub returns-in_err-push-clause-seen_list : goal.returns-in_err-push-clause-seen_list
+returns-in_err-push-clause-seen_list c =
+    IsSeenList-same c.enter.new.self _ _ _ c.enter.ensures.seen_list refl refl (ap length c.begin.ensures.marks ∙ c.requires.clear.size)
 
-pub returns-in_err-apply-clause-noted : goal.returns-in_err-apply-clause-noted
-returns-in_err-apply-clause-noted c = c.apply.ensures.noted
+pub returns-in_err-apply-clause-seen_list : goal.returns-in_err-apply-clause-seen_list
+returns-in_err-apply-clause-seen_list c = c.apply.ensures.seen_list
 
-pub returns-clause-noted : goal.returns-clause-noted
-returns-clause-noted c = c.apply.ensures.noted
+pub returns-clause-seen_list : goal.returns-clause-seen_list
+returns-clause-seen_list c = c.apply.ensures.seen_list

@@ -3,7 +3,7 @@ use Rattle.clause_arena.specs.Records.{new_record}
 use Rattle.watch_arena.specs.Trails.{TrailState, SameRecords, Adds}
 use Rattle.learn_solver.specs.declared.learner.Learner.{Learner}
 use Rattle.learn_solver.specs.Learners.{guide_of}
-use Rattle.learn_solver.proofs.Guidance.{guide-same}
+use Rattle.learn_solver.proofs.AssumptionsInvariant.{guide-same}
 use Rattle.learn_solver.proofs.Givens.{given-count, IsSound-given, AddsGiven-added}
 use Rattle.learn_solver.proofs.learner.Learner.add.Goals as goal
 
@@ -17,7 +17,7 @@ backtrack-requires-clause-sound c =
     ap (λ (l : Learner). l.given) same ∙ c.count-self.ensures ∙ ap length c.arena.ensures ∙ ap (λ (l : Learner). length l.trail.records) (sym same) in
     IsSound-given c.args.self.now c.note_variables.new.self c.args.lits.now c.in_ok-id.id c.requires.sound c.requires.first c.in_ok-id.ensures (let top = c.max-self.ensures in let last = ap (λ (l : Learner). l.last) same in omega arith) (let top = c.max-self.ensures in let last = ap (λ (l : Learner). l.last) same in omega arith) adds count
     (ap (λ (l : Learner). l.waiting.items) same) (ap (λ (l : Learner). l.variables) same) (ap (λ (l : Learner). l.analyzer) same) noted.count noted.kept noted.noted
-    (ap (λ (l : Learner). guide_of l) same ∙ guide-same c.args.self.now.trail c.add.new.self (guide_of c.args.self.now) c.in_ok-add.ensures.ok.places c.in_ok-add.ensures.ok.level)
+    (ap (λ (l : Learner). guide_of l) same ∙ guide-same c.args.self.now.trail c.add.new.self c.args.self.now.assumptions c.in_ok-add.ensures.ok.places c.in_ok-add.ensures.ok.level)
 
 pub returns-clause-id : goal.returns-clause-id
 returns-clause-id c =
@@ -28,7 +28,7 @@ returns-clause-id c =
 
 pub returns-clause-ok : goal.returns-clause-ok
 returns-clause-ok c =
-    let back = c.backtrack.ensures.back.same in
+    let back = c.backtrack.ensures.back in
     let same = c.note_variables.ensures.same in
     let trail : c.note_variables.new.self.trail ≡ c.add.new.self = ap (λ (l : Learner). l.trail) same in
     let records : c.backtrack.new.self.trail.records ≡ c.add.new.self.records = ap (λ (l : Learner). l.trail.records) back ∙ ap (λ (t : TrailState). t.records) trail in

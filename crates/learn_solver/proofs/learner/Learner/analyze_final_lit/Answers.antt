@@ -2,10 +2,10 @@ use Rattle.std.proofs.Common.{◌∙◌, List, length, Some, refl, sym, ap, arit
 use Rattle.lits_core.specs.Literals.{negation_of, variable_of}
 use Rattle.lits_core.proofs.LiteralLemmas.{variable_of-negation}
 use Rattle.clause_arena.specs.Records.{Record, record_at}
-use Rattle.learn_solver.proofs.StepLemmas.{Steps-refl, Steps-kept, IsSound-kept}
-use Rattle.learn_solver.proofs.Teaching.{IsClosed-put}
+use Rattle.learn_solver.proofs.StepInvariant.{Steps-refl, Steps-kept, IsSound-kept}
+use Rattle.learn_solver.proofs.TaughtClauses.{IsClosed-stored}
 use Rattle.learn_solver.proofs.Reasons.{reason-live}
-use Rattle.learn_solver.proofs.TrailLemmas.{true-index}
+use Rattle.learn_solver.proofs.TrailPlaces.{true-index}
 use Rattle.learn_solver.proofs.learner.Learner.analyze_final_lit.Goals as goal
 
 pub reason-requires : goal.reason-requires
@@ -32,11 +32,11 @@ returns-then-is_closed-clause-steps c = Steps-refl c.args.self.now c.requires.so
 pub returns-in_err-closing-clause-steps : goal.returns-in_err-closing-clause-steps
 returns-in_err-closing-clause-steps c = Steps-kept _ _ c.requires.sound (record { records = refl; trail_variables = refl; variables = refl; analyzer = c.analyze_final_lit.ensures.kept; order = refl; given = refl; last = refl; waiting = refl }) refl
 
-pub note-requires-clause-sound : goal.note-requires-clause-sound
-note-requires-clause-sound c = IsSound-kept _ _ c.requires.sound (record { records = refl; trail_variables = refl; variables = refl; analyzer = c.analyze_final_lit.ensures.kept; order = c.bump.ensures; given = refl; last = refl; waiting = refl }) refl
+pub add_derived-requires-clause-sound : goal.add_derived-requires-clause-sound
+add_derived-requires-clause-sound c = IsSound-kept _ _ c.requires.sound (record { records = refl; trail_variables = refl; variables = refl; analyzer = c.analyze_final_lit.ensures.kept; order = c.bump.ensures; given = refl; last = refl; waiting = refl }) refl
 
 pub returns-clause-closed : goal.returns-clause-closed
 returns-clause-closed c =
-    IsClosed-put c.args.self.now.trail c.note.new.self.trail (Some (negation_of c.args.lit)) c.in_ok-closing.closing.lits c.in_ok-closing.closing.hints c.in_ok-noted.noted c.id_of-2.result
-    c.in_ok-closing.ensures.closing c.in_ok-noted.ensures.kept c.in_ok-noted.ensures.put
+    IsClosed-stored c.args.self.now.trail c.add_derived.new.self.trail (Some (negation_of c.args.lit)) c.in_ok-closing.closing.lits c.in_ok-closing.closing.hints c.in_ok-noted.noted c.id_of-2.result
+    c.in_ok-closing.ensures.closing c.in_ok-noted.ensures.kept c.in_ok-noted.ensures.stored
     (ap (λ (records : List Record). (record_at records c.in_ok-noted.noted).id) (sym c.arena-2.ensures) ∙ sym c.id_of-2.ensures)

@@ -9,8 +9,8 @@ use Rattle.watch_arena.specs.Trails.{TrailState}
 use Rattle.learn_solver.specs.declared.learner.Learner.{Learner}
 use Rattle.learn_solver.specs.Solving.{IsRefutation}
 use Rattle.learn_solver.specs.Learners.{solver_state, guide_of}
-use Rattle.learn_solver.proofs.TrailLemmas.{value-some, true-or-false}
-use Rattle.learn_solver.proofs.Guidance.{guided-all}
+use Rattle.learn_solver.proofs.TrailPlaces.{value-some, true-or-false}
+use Rattle.learn_solver.proofs.AssumptionsInvariant.{guided-all}
 use Rattle.learn_solver.proofs.Conflicts.{IsRefutation-guided, false-implied, next-assumptions}
 use Rattle.learn_solver.proofs.learner.Learner.assume_next.Goals as goal
 
@@ -44,8 +44,8 @@ pub returns-then-is_some-clause-served : goal.returns-then-is_some-clause-served
 returns-then-is_some-clause-served c =
     let now = c.in_ok-id.ensures.kept.level in
     let all = guided-all (guide_of c.args.self.now) c.requires.sound.guided c.requires.next.within in
-    let guided : c.analyze_final_lit.new.self.guided ≡ c.args.self.now.guided = ap (λ (l : Learner). l.guided) c.in_ok-id.ensures.same in
+    let guided : c.analyze_final_lit.new.self.assumptions.guided ≡ c.args.self.now.assumptions.guided = ap (λ (l : Learner). l.assumptions.guided) c.in_ok-id.ensures.same in
     let assumptions = c.in_ok-id.ensures.steps.assumptions in
     let has = subst (λ (assumptions : List ℕ). Contains assumptions c.args.lit) (sym assumptions) (next-assumptions c.args.self.now c.args.lit c.requires.next) in
     subst (λ (assumptions : List ℕ). IsRefutation (solver_state c.analyze_final_lit.new.self) assumptions c.in_ok-id.id) assumptions
-    (IsRefutation-guided c.analyze_final_lit.new.self (Some (negation_of c.args.lit)) c.in_ok-id.id c.in_ok-id.ensures.steps.sound c.facts-then-is_some.ensures (omega arith) (λ lit stands. stood c.analyze_final_lit.new.self.assumptions.items c.args.lit lit has stands) c.in_ok-id.ensures.closed)
+    (IsRefutation-guided c.analyze_final_lit.new.self (Some (negation_of c.args.lit)) c.in_ok-id.id c.in_ok-id.ensures.steps.sound c.facts-then-is_some.ensures (omega arith) (λ lit stands. stood c.analyze_final_lit.new.self.assumptions.lits c.args.lit lit has stands) c.in_ok-id.ensures.closed)

@@ -1,4 +1,4 @@
-use Rattle.learn_solver.proofs.StepLemmas.{Steps-back}
+use Rattle.learn_solver.proofs.StepInvariant.{Steps-back}
 use Rattle.learn_solver.proofs.learner.Learner.backtrack.Goals as goal
 
 pub returns-clause-steps : goal.returns-clause-steps

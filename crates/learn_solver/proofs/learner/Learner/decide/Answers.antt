@@ -3,12 +3,12 @@ use Rattle.watch_arena.specs.Trails.{TrailState, IsTrail}
 use Rattle.learn_solver.specs.declared.learner.Learner.{Learner}
 use Rattle.learn_solver.specs.Noted.{AreAssigned}
 use Rattle.learn_solver.specs.Weights.{weight}
-use Rattle.learn_solver.specs.Guides.{IsGuided}
-use Rattle.learn_solver.specs.Learners.{guide_of, assumed}
-use Rattle.learn_solver.proofs.StepLemmas.{Steps-kept, Steps-moved, IsSound-kept}
-use Rattle.learn_solver.proofs.Guidance.{by_trail, IsGuided-decided, holding-true}
+use Rattle.learn_solver.specs.Guides.{IsGuided, by_trail}
+use Rattle.learn_solver.specs.Learners.{assumed}
+use Rattle.learn_solver.proofs.StepInvariant.{Steps-kept, Steps-moved, IsSound-kept}
+use Rattle.learn_solver.proofs.AssumptionsInvariant.{IsGuided-decided, holding-true}
 use Rattle.learn_solver.proofs.Conflicts.{assumed-lighter}
-use Rattle.learn_solver.proofs.Answering.{IsModel-bits}
+use Rattle.learn_solver.proofs.ModelOrRefutation.{IsModel-bits}
 use Rattle.learn_solver.proofs.learner.Learner.decide.Goals as goal
 
 pub returns-in_err-bits-in-None-clause-steps : goal.returns-in_err-bits-in-None-clause-steps
@@ -25,7 +25,7 @@ returns-in-Some-clause-steps c = Steps-moved _ _ c.requires.sound (record {
   given = refl;
   waiting = refl;
 }) refl
-    (subst (λ (t : TrailState). IsGuided (by_trail t (guide_of c.args.self.now))) (sym c.assume.ensures) (IsGuided-decided c.args.self.now.trail (guide_of c.args.self.now) c.in-Some.lit c.requires.sound.guided c.requires.holding))
+    (subst (λ (t : TrailState). IsGuided (by_trail t c.args.self.now.assumptions)) (sym c.assume.ensures) (IsGuided-decided c.args.self.now.trail c.args.self.now.assumptions c.in-Some.lit c.requires.sound.guided c.requires.holding))
 
 pub returns-in-Some-clause-served : goal.returns-in-Some-clause-served
 returns-in-Some-clause-served c =
@@ -40,5 +40,5 @@ returns-in_ok-bits-in-None-clause-served c =
     let picked : Learner = record c.args.self.now { order = c.pick.new.self } in
     let sound = IsSound-kept c.args.self.now picked c.requires.sound (record { records = refl; trail_variables = refl; variables = refl; analyzer = refl; order = c.pick.ensures.kept; given = refl; last = refl; waiting = refl }) refl in
     let assigned : AreAssigned c.pick.new.self c.args.self.now.trail.places = subst (λ (noted : List Bool). AreAssigned noted c.args.self.now.trail.places) (sym c.pick.ensures.kept) c.in-None.ensures.picked in
-    IsModel-bits picked picked.assumptions.items c.in_ok-bits-in-None.bits c.facts.ensures sound c.requires.propagated assigned c.in_ok-bits-in-None.ensures
-    (λ lit has. holding-true c.args.self.now.trail (guide_of c.args.self.now) lit c.facts.ensures c.requires.sound.guided.marked c.requires.holding has)
+    IsModel-bits picked picked.assumptions.lits c.in_ok-bits-in-None.bits c.facts.ensures sound c.requires.propagated assigned c.in_ok-bits-in-None.ensures
+    (λ lit has. holding-true c.args.self.now.trail c.args.self.now.assumptions lit c.facts.ensures c.requires.sound.guided.marked c.requires.holding has)

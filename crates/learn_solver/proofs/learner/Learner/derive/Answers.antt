@@ -1,4 +1,4 @@
-use Rattle.learn_solver.proofs.StepLemmas.{Steps-refl}
+use Rattle.learn_solver.proofs.StepInvariant.{Steps-refl}
 use Rattle.learn_solver.proofs.learner.Learner.derive.Goals as goal
 
 pub returns-in_err-count-clause-steps : goal.returns-in_err-count-clause-steps

@@ -3,8 +3,8 @@ use Rattle.std.specs.Prelude.{MatchOption}
 use Rattle.lits_core.specs.Derivation.{live_clause}
 use Rattle.clause_arena.specs.Records.{Record, record_at}
 use Rattle.learn_solver.specs.States.{state_of}
-use Rattle.learn_solver.proofs.RecordLemmas.{live-at, none-from}
-use Rattle.learn_solver.proofs.Remaining.{nth-some, nth-within, nth-none}
+use Rattle.learn_solver.proofs.RecordState.{live-at, none-from}
+use Rattle.learn_solver.proofs.RemainingRecords.{nth-some, nth-within, nth-none}
 use Rattle.learn_solver.proofs.learner.Learner.find.Goals as goal
 
 pub returns-in_err-at-clause-clause : goal.returns-in_err-at-clause-clause

@@ -1,5 +1,5 @@
 use Rattle.std.proofs.Common.{◌≡◌}
-use Rattle.learn_solver.proofs.Remaining.{ForgottenTo}
+use Rattle.learn_solver.proofs.RemainingRecords.{ForgottenTo}
 use Rattle.learn_solver.proofs.learner.Learner.forget_idle.Given as goal
 
 abbrev pub invariant-loop-number : goal.invariant-loop-number

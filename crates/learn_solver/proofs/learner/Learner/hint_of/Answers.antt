@@ -1,7 +1,7 @@
 use Rattle.std.proofs.Common.{◌≡◌, ◌≢◌, ◌∙◌, ◌<◌, ◌≤◌, List, length, None, Some, sym, ap, arith}
 use Rattle.std.proofs.lemmas.Bool.{eqb-true, eqb-false, not-true, not-false}
 use Rattle.clause_arena.specs.Records.{Record, record_at}
-use Rattle.learn_solver.proofs.Hinting.{from-held, from-first, from-same, from-other, from-end}
+use Rattle.learn_solver.proofs.HintChain.{from-held, from-first, from-same, from-other, from-end}
 use Rattle.learn_solver.proofs.learner.Learner.hint_of.Goals.{then-not-has+in-None, then-not-has+in-Some+else-ne, else-not-has}
 use Rattle.learn_solver.proofs.learner.Learner.hint_of.Goals as goal
 

@@ -1,6 +1,6 @@
 use Rattle.std.proofs.Common.{◌≡◌, drop, None}
 use Rattle.clause_arena.specs.Records.{record_at}
-use Rattle.learn_solver.proofs.Hinting.{hint_from}
+use Rattle.learn_solver.proofs.HintChain.{hint_from}
 use Rattle.learn_solver.proofs.learner.Learner.hint_of.Given as goal
 
 -- the rest of the clause comes to what the whole does

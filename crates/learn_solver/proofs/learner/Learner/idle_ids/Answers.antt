@@ -2,7 +2,7 @@ use Rattle.std.proofs.Common.{◌∙◌, ◌++◌, ◌+◌, ℕ, List, Vec, Glob
 use Rattle.learn_solver.specs.States.{idle_from, is_reason}
 use Rattle.clause_arena.specs.Records.{Record, record_at}
 use Rattle.learn_solver.proofs.Idle.{idle_of-from}
-use Rattle.learn_solver.proofs.Remaining.{idle-same, idle-more, nth-some, nth-none}
+use Rattle.learn_solver.proofs.RemainingRecords.{idle-same, idle-more, nth-some, nth-none}
 use Rattle.learn_solver.proofs.learner.Learner.idle_ids.Goals.{in-Some+then-not-is_reason+in_ok-push, in-Some+else-not-is_reason, in_default}
 use Rattle.learn_solver.proofs.learner.Learner.idle_ids.Goals as goal
 

@@ -1,7 +1,7 @@
 use Rattle.std.proofs.Common.{ℕ, ◌≡◌, ◌∙◌, Bool, true, false, eqb, Option, Some, None, refl, sym, ap}
 use Rattle.std.specs.Prelude.{not, is_none, is_some}
 use Rattle.std.proofs.lemmas.Bool.{true≢false, eqb-true}
-use Rattle.learn_solver.proofs.TrailLemmas.{decided-at}
+use Rattle.learn_solver.proofs.TrailPlaces.{decided-at}
 use Rattle.learn_solver.proofs.learner.Learner.is_assumed.Goals as goal
 
 none-told : (o : Option ℕ) (b : Bool) → is_some o ≡ not b → b ≡ true → is_none o ≡ true

@@ -1,5 +1,5 @@
 use Rattle.std.proofs.Common.{◌∙◌, ap, eqb, ℕ, sym}
-use Rattle.learn_solver.proofs.TrailLemmas.{true-place, not_true-unassigned}
+use Rattle.learn_solver.proofs.TrailPlaces.{true-place, not_true-unassigned}
 use Rattle.learn_solver.proofs.learner.Learner.is_true.Goals as goal
 
 pub returns-in-Some : goal.returns-in-Some

@@ -1,5 +1,5 @@
 use Rattle.std.proofs.Common.{arith}
-use Rattle.learn_solver.proofs.TrailLemmas.{level-most}
+use Rattle.learn_solver.proofs.TrailPlaces.{level-most}
 use Rattle.learn_solver.proofs.learner.Learner.level_of.Goals as goal
 
 pub returns-in-Some-clause-within : goal.returns-in-Some-clause-within

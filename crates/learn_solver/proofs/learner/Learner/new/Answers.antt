@@ -6,8 +6,9 @@ use Rattle.lits_core.specs.Derivation.{first_state}
 use Rattle.watch_arena.specs.Trails.{TrailState}
 use Rattle.learn_solver.specs.Solving.{SolverState, FromOne}
 use Rattle.learn_solver.specs.States.{state_of, idle_of}
+use Rattle.learn_solver.specs.Guides.{AssumptionsState}
 use Rattle.learn_solver.specs.Learners.{AreRecords}
-use Rattle.learn_solver.proofs.Guidance.{IsGuided-none}
+use Rattle.learn_solver.proofs.AssumptionsInvariant.{IsGuided-none}
 use Rattle.learn_solver.proofs.learner.Learner.new.Goals as goal
 
 -- nothing is wrong with no records
@@ -38,7 +39,7 @@ returns-clause-sound c =
       last = λ at lt. absurd (let size = ap (λ (t : TrailState). length t.records) e in omega arith);
       waiting = subst (All FromOne) (sym c.new-4.ensures.items) (λ k d lt. absurd (omega arith));
       noted = λ at lit lt. absurd (omega arith);
-      guided = IsGuided-none _ (ap (λ (t : TrailState). t.level) e) refl refl c.new-6.ensures.items;
+      guided = IsGuided-none _ (ap (λ (t : TrailState). t.level) e) (ap (λ (a : AssumptionsState). a.guided) c.new-5.ensures) (ap (λ (a : AssumptionsState). a.holding) c.new-5.ensures) (ap (λ (a : AssumptionsState). a.holding_before) c.new-5.ensures);
     }
 
 pub returns-clause-empty : goal.returns-clause-empty

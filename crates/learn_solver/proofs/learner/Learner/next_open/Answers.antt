@@ -1,31 +1,32 @@
-use Rattle.std.proofs.Common.{◌≡◌, ◌∙◌, ◌+◌, ◌<◌, ap, sym, subst, arith, length, true, vec_len}
-use Rattle.std.proofs.lemmas.Grind.{get_or_default_zero}
+use Rattle.std.proofs.Common.{◌≡◌, ◌∙◌, ◌+◌, ap, sym, subst, true}
 use Rattle.watch_arena.specs.Places.{is_true}
 use Rattle.watch_arena.specs.Trails.{IsTrail}
 use Rattle.learn_solver.specs.declared.learner.Learner.{Learner}
-use Rattle.learn_solver.specs.Learners.{guide_of}
-use Rattle.learn_solver.specs.Guides.{assumption_at}
-use Rattle.learn_solver.proofs.StepLemmas.{Steps-holding}
-use Rattle.learn_solver.proofs.Guidance.{IsGuided-holding}
+use Rattle.learn_solver.specs.Guides.{AssumptionsState, IsGuided, by_trail, assumption_at}
+use Rattle.learn_solver.proofs.StepInvariant.{Steps-holding}
+use Rattle.learn_solver.proofs.AssumptionsInvariant.{IsGuided-holding}
 use Rattle.learn_solver.proofs.learner.Learner.next_open.Goals as goal
 
-pub returns-then-not-is_true-clause-steps : goal.returns-then-not-is_true-clause-steps
-returns-then-not-is_true-clause-steps c = Steps-holding c.args.self.now c.loop-self.self c.requires.sound c.loop-self.invariant.same c.loop-self.invariant.guided
+-- one more holds, as a change of the start
+held : (old loop : Learner) (new : AssumptionsState) → loop ≡ record old { assumptions = record old.assumptions { holding = loop.assumptions.holding } } → new ≡ record loop.assumptions { holding = loop.assumptions.holding + 1 } → record loop { assumptions = new } ≡ record old { assumptions = record old.assumptions { holding = new.holding } }
+held old loop new h k =
+    let e : new ≡ record old.assumptions { holding = loop.assumptions.holding + 1 } = k ∙ ap (λ (a : AssumptionsState). record a { holding = loop.assumptions.holding + 1 }) (ap (λ (l : Learner). l.assumptions) h) in
+    ap (λ (l : Learner). record l { assumptions = new }) h
+    ∙ ap (λ (a : AssumptionsState). record old { assumptions = a }) (e ∙ sym (ap (λ (a : AssumptionsState). record old.assumptions { holding = a.holding }) e))
 
-pub loop-self-preserved : goal.loop-self-preserved
-loop-self-preserved c =
-    let l = c.loop-self.self in
-    let test = c.loop-self-test.true in
-    let count : vec_len c.loop-self.self.assumptions ≡ length c.loop-self.self.assumptions.items = c.loop-self.self.assumptions.ok.0 in
-    let size = c.len.ensures in
-    let next : c.loop-self.self.holding < length c.loop-self.self.assumptions.items = omega arith in
-    let facts : IsTrail c.loop-self.self.trail = subst IsTrail (sym (ap (λ (l : Learner). l.trail) c.loop-self.invariant.same)) c.facts.ensures in
-    let lit = c.index-lit.ensures ∙ get_or_default_zero c.loop-self.self.assumptions.items c.loop-self.self.holding c.index-lit.result.now next in
-    let on : is_true c.loop-self.self.trail.places (assumption_at (guide_of c.loop-self.self) c.loop-self.self.holding) ≡ true = ap (is_true c.loop-self.self.trail.places) (sym lit) ∙ sym c.is_true.ensures ∙ c.if-not-is_true.false in
+pub returns-then-not-is_true-clause-steps : goal.returns-then-not-is_true-clause-steps
+returns-then-not-is_true-clause-steps c = Steps-holding c.args.self.now c.loop-lit.self c.requires.sound c.loop-lit.invariant.same c.loop-lit.invariant.guided
+
+pub loop-lit-preserved : goal.loop-lit-preserved
+loop-lit-preserved c =
+    let next = c.in-Some.ensures in
+    let facts : IsTrail c.loop-lit.self.trail = subst IsTrail (sym (ap (λ (l : Learner). l.trail) c.loop-lit.invariant.same)) c.facts.ensures in
+    let on : is_true c.loop-lit.self.trail.places (assumption_at c.loop-lit.self.assumptions c.loop-lit.self.assumptions.holding) ≡ true = ap (is_true c.loop-lit.self.trail.places) (sym next.at) ∙ sym c.is_true.ensures ∙ c.if-not-is_true.false in
     record {
-      same = ap (λ (l : Learner). record l { holding = c.loop-self.self.holding + 1 }) c.loop-self.invariant.same;
-      guided = IsGuided-holding c.loop-self.self.trail (guide_of c.loop-self.self) facts c.loop-self.invariant.guided next on;
+      same = held c.args.self.now c.loop-lit.self c.hold_next.new.self c.loop-lit.invariant.same c.hold_next.ensures;
+      guided = subst (λ (a : AssumptionsState). IsGuided (by_trail c.loop-lit.self.trail a)) (sym c.hold_next.ensures)
+          (IsGuided-holding c.loop-lit.self.trail c.loop-lit.self.assumptions facts c.loop-lit.invariant.guided next.within on);
     }
 
 pub returns-clause-steps : goal.returns-clause-steps
-returns-clause-steps c = Steps-holding c.args.self.now c.loop-self.self c.requires.sound c.loop-self.invariant.same c.loop-self.invariant.guided
+returns-clause-steps c = Steps-holding c.args.self.now c.loop-lit.self c.requires.sound c.loop-lit.invariant.same c.loop-lit.invariant.guided

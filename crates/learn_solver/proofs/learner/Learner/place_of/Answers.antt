@@ -3,7 +3,7 @@ use Rattle.std.specs.Prelude.{IfSome}
 use Rattle.lits_core.specs.Literals.{variable_of}
 use Rattle.watch_arena.specs.declared.places.Place.{Place}
 use Rattle.watch_arena.specs.Places.{place_at, place_of}
-use Rattle.learn_solver.proofs.TrailLemmas.{place_of-found}
+use Rattle.learn_solver.proofs.TrailPlaces.{place_of-found}
 use Rattle.learn_solver.proofs.learner.Learner.place_of.Goals as goal
 
 found : (places : List Place) (variable : ℕ) (o : Option ℕ) → o ≡ place_of places variable → IfSome o (λ p. (p < length places) × (variable_of (place_at places p).lit ≡ variable))

@@ -1,9 +1,8 @@
 use Rattle.std.proofs.Common.{◌∙◌, refl, sym}
 use Rattle.learn_solver.proofs.SameStates.{SameState-records}
-use Rattle.learn_solver.proofs.RecordLemmas.{AreRecords-same, AreUpTo-same, AreNoted-same}
-use Rattle.learn_solver.specs.Learners.{guide_of}
-use Rattle.learn_solver.proofs.Guidance.{IsGuided-propagated}
-use Rattle.learn_solver.proofs.Goings.{GoesTo-same}
+use Rattle.learn_solver.proofs.RecordState.{AreRecords-same, AreUpTo-same, AreNoted-same}
+use Rattle.learn_solver.proofs.AssumptionsInvariant.{IsGuided-propagated}
+use Rattle.learn_solver.proofs.CallSequence.{GoesTo-same}
 use Rattle.learn_solver.proofs.learner.Learner.propagate.Goals as goal
 
 pub returns-clause-steps : goal.returns-clause-steps
@@ -20,7 +19,7 @@ returns-clause-steps c =
         last = AreUpTo-same l.trail.records c.propagate.new.self.records l.last s.last kept.records;
         waiting = s.waiting;
         noted = AreNoted-same l.trail.records c.propagate.new.self.records l.given l.order s.noted kept.records;
-        guided = IsGuided-propagated l.trail c.propagate.new.self (guide_of l) s.guided kept;
+        guided = IsGuided-propagated l.trail c.propagate.new.self l.assumptions s.guided kept;
       };
       goes = GoesTo-same _ _ kept.variables refl (SameState-records l.trail.records c.propagate.new.self.records l.given kept.records);
       variables = kept.variables;

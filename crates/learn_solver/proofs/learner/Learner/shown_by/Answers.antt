@@ -1,6 +1,6 @@
 use Rattle.std.proofs.Common.{◌∙◌, ◌++◌, ◌∷◌, [], ℕ, ap}
 use Rattle.lits_core.specs.declared.Hint.TheVariants.{Falsified, Implies, NotUnit}
-use Rattle.learn_solver.proofs.Hinting.{Does-found, HasCome-start, HasCome-next, IsTaught-come, Suffice-come, no-fault, unknown-fault, not_unit-fault, end-fault}
+use Rattle.learn_solver.proofs.HintChain.{Does-found, HasCome-start, HasCome-next, IsTaught-come, Suffice-come, no-fault, unknown-fault, not_unit-fault, end-fault}
 use Rattle.learn_solver.proofs.learner.Learner.shown_by.Goals as goal
 
 pub loop-place-init : goal.loop-place-init

@@ -1,4 +1,4 @@
-use Rattle.learn_solver.proofs.Hinting.{HasCome}
+use Rattle.learn_solver.proofs.HintChain.{HasCome}
 use Rattle.learn_solver.proofs.learner.Learner.shown_by.Given as goal
 
 -- the hints so far

@@ -1,6 +1,6 @@
 use Rattle.std.proofs.Common.{◌∙◌, ℕ, List, sym, subst}
 use Rattle.learn_solver.specs.Solving.{AreConsistent}
-use Rattle.learn_solver.proofs.Goings.{GoesTo-trans}
+use Rattle.learn_solver.proofs.CallSequence.{GoesTo-trans}
 use Rattle.learn_solver.proofs.learner.Learner.solve.Goals as goal
 
 pub step-requires-clause-consistent : goal.step-requires-clause-consistent

@@ -8,7 +8,7 @@ abbrev pub invariant-loop-answer : goal.invariant-loop-answer
 invariant-loop-answer l = record {
   sound : IsSound l.self;
   goes : GoesTo (solver_state l.fn.self) (solver_state l.self);
-  assumptions : l.self.assumptions.items ≡ l.assumptions ++ l.more;
+  assumptions : l.self.assumptions.lits ≡ l.assumptions ++ l.more;
 }
 
 abbrev pub decreases-loop-answer : goal.decreases-loop-answer

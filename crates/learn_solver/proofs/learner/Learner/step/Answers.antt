@@ -6,16 +6,16 @@ use Rattle.learn_solver.specs.Solving.{AreConsistent}
 use Rattle.learn_solver.specs.Weights.{weight}
 use Rattle.learn_solver.specs.Learners.{solver_state, Serves}
 use Rattle.learn_solver.specs.Answers.{IsAnswer}
-use Rattle.learn_solver.proofs.StepLemmas.{Steps-trans}
+use Rattle.learn_solver.proofs.StepInvariant.{Steps-trans}
 use Rattle.learn_solver.proofs.Conflicts.{Propagates-lighter}
 use Rattle.learn_solver.proofs.learner.Learner.step.Goals as goal
 
 -- what comes after propagation serves from before it
-serves-from : (old mid new : Learner) (o : Option Answer) → weight mid.trail.variables mid.trail.places ≤ weight old.trail.variables old.trail.places → mid.assumptions.items ≡ old.assumptions.items → Serves mid new o → Serves old new o
+serves-from : (old mid new : Learner) (o : Option Answer) → weight mid.trail.variables mid.trail.places ≤ weight old.trail.variables old.trail.places → mid.assumptions.lits ≡ old.assumptions.lits → Serves mid new o → Serves old new o
 serves-from old mid new None le same s = omega arith
 serves-from old mid new (Some a) le same s = subst (λ (assumptions : List ℕ). IsAnswer (solver_state new) assumptions a) same s
 
-result-from : {E : Type 0} (old mid new : Learner) (r : Result (Option Answer) E) → weight mid.trail.variables mid.trail.places ≤ weight old.trail.variables old.trail.places → mid.assumptions.items ≡ old.assumptions.items → IfOk r (Serves mid new) → IfOk r (Serves old new)
+result-from : {E : Type 0} (old mid new : Learner) (r : Result (Option Answer) E) → weight mid.trail.variables mid.trail.places ≤ weight old.trail.variables old.trail.places → mid.assumptions.lits ≡ old.assumptions.lits → IfOk r (Serves mid new) → IfOk r (Serves old new)
 result-from old mid new (Err e) le same s = s
 result-from old mid new (Ok o) le same s = serves-from old mid new o le same s
 

@@ -1,5 +1,5 @@
 use Rattle.std.proofs.Common.{◌≤◌, length, sym, subst, arith}
-use Rattle.point_ladder.proofs.Climbing.{keeps_cut, path_long}
+use Rattle.point_ladder.proofs.Keeps.{keeps_cut, path_long}
 use Rattle.point_ladder.proofs.ladder.Ladder.back_to.Goals as goal
 
 pub invariant_of-self : goal.invariant_of-self

@@ -1,4 +1,4 @@
-use Rattle.point_ladder.proofs.BoundSteps.{ladder_is_bound}
+use Rattle.point_ladder.proofs.Bounded.{ladder_is_bound}
 use Rattle.point_ladder.proofs.ladder.Ladder.bounded.Goals as goal
 
 pub returns : goal.returns

@@ -9,9 +9,8 @@ use Rattle.world_model.specs.Alive.{problem_at, IsAlive}
 use Rattle.bit_rows.specs.Rows.{has_bit}
 use Rattle.point_ladder.specs.Stretches.{stretch_at, IsInForce}
 use Rattle.point_ladder.specs.Barren.{LiesNoneBy}
-use Rattle.point_ladder.proofs.InForce.{alive_start, shows_pair}
-use Rattle.point_ladder.proofs.Climbing.{problem_of, some_stretch}
-use Rattle.point_ladder.proofs.LyingBehind.{stand_here, stand_lives, none_of_ladder}
+use Rattle.point_ladder.proofs.Keeps.{alive_start, some_stretch}
+use Rattle.point_ladder.proofs.Barren.{stand_here, stand_lives, none_of_ladder}
 use Rattle.point_ladder.proofs.ladder.Ladder.has_none_with.Goals as goal
 
 pub in_force-place-requires-clause-some : goal.in_force-place-requires-clause-some
@@ -24,18 +23,11 @@ pub in_force-place-requires-clause-first : goal.in_force-place-requires-clause-f
 in_force-place-requires-clause-first c =
     let s = c.self.inside in
     let alive = subst (λ v. IsAlive (problem_at v.problem v.path)) (sym c.self.view_is) c.requires.alive in
-    let start = alive_start s.problem (problem_of s) s.sets.items s.rows s.line.items s.len s.nexts.items s.stretches.items s.alive c.self.invariant alive in
+    let start = alive_start s c.self.invariant alive in
     subst (λ xs. (stretch_at xs 0).from ≡ 0) (sym c.deref.ensures.value) (c.self.invariant.has_frames start).first
 
-pub bound-set-requires-clause-two : goal.bound-set-requires-clause-two
-bound-set-requires-clause-two c =
-    let s = c.self.inside in
-    let alive = subst (λ v. IsAlive (problem_at v.problem v.path)) (sym c.self.view_is) c.requires.alive in
-    let force = subst (λ xs. IsInForce xs 0 c.in_force-place.result) c.deref.ensures.value c.in_force-place.ensures in
-    (stand_here s 0 c.in_force-place.result c.index.result.now c.self.invariant alive (omega arith) force c.index.ensures).frame.rows_two
-
-pub bound-set-requires-clause-lives : goal.bound-set-requires-clause-lives
-bound-set-requires-clause-lives c =
+pub bound-set-requires : goal.bound-set-requires
+bound-set-requires c =
     let s = c.self.inside in
     let alive = subst (λ v. IsAlive (problem_at v.problem v.path)) (sym c.self.view_is) c.requires.alive in
     let force = subst (λ xs. IsInForce xs 0 c.in_force-place.result) c.deref.ensures.value c.in_force-place.ensures in
@@ -46,38 +38,23 @@ returns-then-not-has c = λ e.
     let s = c.self.inside in
     let alive = subst (λ v. IsAlive (problem_at v.problem v.path)) (sym c.self.view_is) c.requires.alive in
     let force = subst (λ xs. IsInForce xs 0 c.in_force-place.result) c.deref.ensures.value c.in_force-place.ensures in
-    let l = has_bit c.row-left.result.now in
-    let r = has_bit c.row-right.result.now in
+    let l = has_bit c.sides_of-sides.result.left.now in
+    let r = has_bit c.sides_of-sides.result.right.now in
     let within = subst (λ v. c.args.pair < pair_count v.problem) (sym c.self.view_is) c.requires.within in
-    let shows = shows_pair s.problem s.rows l r c.pair_at-left.result (pair_at s.problem c.args.pair) c.self.invariant.rows_are c.pair_at-left.ensures.value c.pair_at-left.ensures.order c.pair_at-left.ensures.within c.row-left.ensures.bits c.row-right.ensures.bits in
+    let shows = c.sides_of-sides.ensures in
     subst (λ v. IsMet (narrowed v.problem (pair_at v.problem c.args.pair) (only c.args.rel)) → ⊥) c.self.view_is
     (none_of_ladder s c.in_force-place.result c.args.pair c.index.result.now c.index-2.result.now c.bound-set.result c.args.rel l r c.self.invariant alive force c.index.ensures within shows c.index-2.ensures c.bound-set.ensures
     (λ h. absurd (true≢false (sym h ∙ sym c.has.ensures ∙ c.if-not-has.true))))
-
-pub is_barren_by-requires-clause-some : goal.is_barren_by-requires-clause-some
-is_barren_by-requires-clause-some c =
-    let s = c.self.inside in
-    let alive = subst (λ v. IsAlive (problem_at v.problem v.path)) (sym c.self.view_is) c.requires.alive in
-    let force = subst (λ xs. IsInForce xs 0 c.in_force-place.result) c.deref.ensures.value c.in_force-place.ensures in
-    let width = (stand_here s 0 c.in_force-place.result c.index.result.now c.self.invariant alive (omega arith) force c.index.ensures).frame.width in
-    omega (arith, width)
-
-pub is_barren_by-requires-clause-two : goal.is_barren_by-requires-clause-two
-is_barren_by-requires-clause-two c =
-    let s = c.self.inside in
-    let alive = subst (λ v. IsAlive (problem_at v.problem v.path)) (sym c.self.view_is) c.requires.alive in
-    let force = subst (λ xs. IsInForce xs 0 c.in_force-place.result) c.deref.ensures.value c.in_force-place.ensures in
-    (stand_here s 0 c.in_force-place.result c.index.result.now c.self.invariant alive (omega arith) force c.index.ensures).frame.rows_two
 
 pub returns : goal.returns
 returns c =
     let s = c.self.inside in
     let alive = subst (λ v. IsAlive (problem_at v.problem v.path)) (sym c.self.view_is) c.requires.alive in
     let force = subst (λ xs. IsInForce xs 0 c.in_force-place.result) c.deref.ensures.value c.in_force-place.ensures in
-    let l = has_bit c.row-left.result.now in
-    let r = has_bit c.row-right.result.now in
+    let l = has_bit c.sides_of-sides.result.left.now in
+    let r = has_bit c.sides_of-sides.result.right.now in
     let within = subst (λ v. c.args.pair < pair_count v.problem) (sym c.self.view_is) c.requires.within in
-    let shows = shows_pair s.problem s.rows l r c.pair_at-left.result (pair_at s.problem c.args.pair) c.self.invariant.rows_are c.pair_at-left.ensures.value c.pair_at-left.ensures.order c.pair_at-left.ensures.within c.row-left.ensures.bits c.row-right.ensures.bits in
+    let shows = c.sides_of-sides.ensures in
     if_ok c.is_barren_by.result c.is_barren_by.ensures (λ none.
     subst (λ v. IsMet (narrowed v.problem (pair_at v.problem c.args.pair) (only c.args.rel)) → ⊥) c.self.view_is
     (none_of_ladder s c.in_force-place.result c.args.pair c.index.result.now c.index-2.result.now c.bound-set.result c.args.rel l r c.self.invariant alive force c.index.ensures within shows c.index-2.ensures c.bound-set.ensures

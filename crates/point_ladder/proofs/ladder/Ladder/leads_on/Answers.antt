@@ -1,4 +1,4 @@
-use Rattle.std.proofs.Common.{◌-◌, ◌<◌, ◌↔◌, ◌++◌, ◌∷◌, [], length, sym, ap, ◌∙◌, subst, arith}
+use Rattle.std.proofs.Common.{◌-◌, ◌<◌, ◌↔◌, ◌++◌, ◌∷◌, [], length, sym, subst, arith}
 use Rattle.std.specs.Prelude.{IsTrue}
 use Rattle.rcc5_core.specs.declared.Rel.{Rel}
 use Rattle.rcc5_core.specs.RelationSet.{has}
@@ -6,9 +6,8 @@ use Rattle.world_model.specs.Problem.{pair_count}
 use Rattle.world_model.specs.Node.{pair_at}
 use Rattle.world_model.specs.Alive.{problem_at, IsAlive}
 use Rattle.bit_rows.specs.Rows.{has_bit}
-use Rattle.point_ladder.proofs.Serving.{ShowsPair}
-use Rattle.point_ladder.proofs.InForce.{shows_pair}
-use Rattle.point_ladder.proofs.Climbing.{problem_of, points_of, path_of, some_stretch, frame_of, holds_of, frame_lives, path_long, alive_in_frame}
+use Rattle.point_ladder.specs.Ladders.{ShowsPair}
+use Rattle.point_ladder.proofs.Keeps.{problem_of, points_of, path_of, some_stretch, frame_of, holds_of, frame_lives, path_long, alive_in_frame}
 use Rattle.point_ladder.proofs.ladder.Ladder.leads_on.Goals as goal
 
 pub overflow_sub-last : goal.overflow_sub-last
@@ -23,15 +22,8 @@ index-requires c =
     let some = some_stretch s c.self.invariant (subst (λ v. IsAlive (problem_at v.problem v.path)) (sym c.self.view_is) c.requires.alive) in
     omega (arith, some, c.len-last.ensures, s.stretches.ok)
 
-pub bound-requires-clause-two : goal.bound-requires-clause-two
-bound-requires-clause-two c =
-    let s = c.self.inside in
-    let alive = subst (λ v. IsAlive (problem_at v.problem v.path)) (sym c.self.view_is) c.requires.alive in
-    let some = some_stretch s c.self.invariant alive in
-    (frame_of s (c.len-last.result - 1) c.index.result.now c.self.invariant alive (omega (arith, some, c.len-last.ensures, s.stretches.ok)) c.index.ensures).rows_two
-
-pub bound-requires-clause-lives : goal.bound-requires-clause-lives
-bound-requires-clause-lives c =
+pub bound-requires : goal.bound-requires
+bound-requires c =
     let s = c.self.inside in
     let alive = subst (λ v. IsAlive (problem_at v.problem v.path)) (sym c.self.view_is) c.requires.alive in
     let some = some_stretch s c.self.invariant alive in
@@ -46,12 +38,10 @@ returns c =
     let alive = subst (λ v. IsAlive (problem_at v.problem v.path)) (sym c.self.view_is) c.requires.alive in
     let some = some_stretch s c.self.invariant alive in
     let frame = frame_of s (c.len-last.result - 1) c.index.result.now c.self.invariant alive (omega (arith, some, c.len-last.ensures, s.stretches.ok)) c.index.ensures in
-    let l = has_bit c.row-left.result.now in
-    let r = has_bit c.row-right.result.now in
-    let shows : ShowsPair (pair_at (problem_of s) (length (path_of s))) (points_of s) l r =
-    shows_pair s.problem s.rows l r c.pair_at-left.result (pair_at s.problem (length (path_of s))) c.self.invariant.rows_are (c.pair_at-left.ensures.value ∙ ap (pair_at s.problem) (sym at)) c.pair_at-left.ensures.order c.pair_at-left.ensures.within
-    c.row-left.ensures.bits c.row-right.ensures.bits in
+    let l = has_bit c.sides_of-sides.result.left.now in
+    let r = has_bit c.sides_of-sides.result.right.now in
+    let shows : ShowsPair (pair_at (problem_of s) (length (path_of s))) (points_of s) l r = subst (λ k. ShowsPair (pair_at s.problem k) (points_of s) l r) (sym at) c.sides_of-sides.ensures in
     subst (λ v. (rel : Rel) → IsTrue (has c.bound.result rel) ↔ IsAlive (problem_at v.problem (v.path ++ rel ∷ []))) c.self.view_is (λ rel.
-    let both = alive_in_frame (problem_of s) (path_of s) rel s.sets.items s.len c.index-2.result.now (points_of s) c.index.result.now.frame l r c.self.invariant.sets_are at (omega (arith, at, short)) c.index-2.ensures
-    (holds_of s c.self.invariant alive) alive frame shows in
+    let both = alive_in_frame (problem_of s) (path_of s) rel s.sets.items s.len c.index-2.result.now (points_of s) c.index.result.now.frame l r
+    (record { sets_are = c.self.invariant.sets_are; long = at; short = omega (arith, at, short); read = c.index-2.ensures }) (record { holds = holds_of s c.self.invariant alive; alive = alive; frame = frame; shows = shows }) in
     (λ h. both.0 ((c.bound.ensures rel).0 h), λ a. (c.bound.ensures rel).1 (both.1 a)))

@@ -1,14 +1,13 @@
-use Rattle.std.proofs.Common.{◌≡◌, ◌<◌, ◌≤◌, true, [], length, take, Ok, Err, sym, ap, ◌∙◌, subst, arith}
+use Rattle.std.proofs.Common.{◌≡◌, ◌<◌, ◌≤◌, true, [], length, take, Ok, Err, sym, ap, ◌∙◌, subst}
 use Rattle.std.specs.Prelude.{Result, Bool, IfOk}
 use Rattle.std.proofs.lemmas.List.{take-take}
 use Rattle.world_model.specs.Alive.{problem_at, IsAlive}
 use Rattle.point_ladder.specs.Stretches.{stretch_at, IsInForce}
 use Rattle.point_ladder.specs.Ladders.{BeginsNone}
 use Rattle.point_ladder.specs.Barren.{IsStand}
-use Rattle.point_ladder.proofs.Narrowing.{narrowings_of}
-use Rattle.point_ladder.proofs.InForce.{alive_start}
-use Rattle.point_ladder.proofs.Climbing.{problem_of, path_long, some_stretch}
-use Rattle.point_ladder.proofs.LyingBehind.{stand_here, stand_lives, begins_none}
+use Rattle.point_ladder.proofs.Narrower.{narrowings_of}
+use Rattle.point_ladder.proofs.Keeps.{alive_start, problem_of, path_long, some_stretch}
+use Rattle.point_ladder.proofs.Barren.{stand_here, stand_lives, begins_none}
 use Rattle.point_ladder.proofs.ladder.Ladder.lies_none.Goals as goal
 
 pub in_force-place-requires-clause-some : goal.in_force-place-requires-clause-some
@@ -21,28 +20,11 @@ pub in_force-place-requires-clause-first : goal.in_force-place-requires-clause-f
 in_force-place-requires-clause-first c =
     let s = c.self.inside in
     let alive = subst (λ v. IsAlive (problem_at v.problem v.path)) (sym c.self.view_is) c.requires.alive in
-    let start = alive_start s.problem (problem_of s) s.sets.items s.rows s.line.items s.len s.nexts.items s.stretches.items s.alive c.self.invariant alive in
+    let start = alive_start s c.self.invariant alive in
     subst (λ xs. (stretch_at xs 0).from ≡ 0) (sym c.deref.ensures.value) (c.self.invariant.has_frames start).first
 
-pub is_barren-requires-clause-some : goal.is_barren-requires-clause-some
-is_barren-requires-clause-some c =
-    let s = c.self.inside in
-    let alive = subst (λ v. IsAlive (problem_at v.problem v.path)) (sym c.self.view_is) c.requires.alive in
-    let upto : c.args.len ≤ s.len = subst (λ n. c.args.len ≤ n) (ap (λ v. length v.path) (sym c.self.view_is) ∙ path_long s c.self.invariant) c.requires.within in
-    let force = subst (λ xs. IsInForce xs c.args.len c.in_force-place.result) c.deref.ensures.value c.in_force-place.ensures in
-    let width = (stand_here s c.args.len c.in_force-place.result c.index.result.now c.self.invariant alive upto force c.index.ensures).frame.width in
-    omega (arith, width)
-
-pub is_barren-requires-clause-two : goal.is_barren-requires-clause-two
-is_barren-requires-clause-two c =
-    let s = c.self.inside in
-    let alive = subst (λ v. IsAlive (problem_at v.problem v.path)) (sym c.self.view_is) c.requires.alive in
-    let upto : c.args.len ≤ s.len = subst (λ n. c.args.len ≤ n) (ap (λ v. length v.path) (sym c.self.view_is) ∙ path_long s c.self.invariant) c.requires.within in
-    let force = subst (λ xs. IsInForce xs c.args.len c.in_force-place.result) c.deref.ensures.value c.in_force-place.ensures in
-    (stand_here s c.args.len c.in_force-place.result c.index.result.now c.self.invariant alive upto force c.index.ensures).frame.rows_two
-
-pub is_barren-requires-clause-lives : goal.is_barren-requires-clause-lives
-is_barren-requires-clause-lives c =
+pub is_barren-requires-clause-alive : goal.is_barren-requires-clause-alive
+is_barren-requires-clause-alive c =
     let s = c.self.inside in
     let alive = subst (λ v. IsAlive (problem_at v.problem v.path)) (sym c.self.view_is) c.requires.alive in
     let upto : c.args.len ≤ s.len = subst (λ n. c.args.len ≤ n) (ap (λ v. length v.path) (sym c.self.view_is) ∙ path_long s c.self.invariant) c.requires.within in

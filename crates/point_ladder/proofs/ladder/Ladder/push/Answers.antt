@@ -1,14 +1,13 @@
-use Rattle.std.proofs.Common.{◌≡◌, ◌+◌, ◌-◌, ◌<◌, ◌++◌, ◌∷◌, [], length, set, refl, sym, ap, ◌∙◌, subst, arith}
+use Rattle.std.proofs.Common.{◌≡◌, ◌+◌, ◌-◌, ◌<◌, ◌++◌, ◌∷◌, [], length, set, refl, sym, subst, arith}
 use Rattle.world_model.specs.Problem.{pair_count}
 use Rattle.world_model.specs.Node.{pair_at}
 use Rattle.world_model.specs.Alive.{problem_at, IsAlive}
 use Rattle.bit_rows.specs.Rows.{has_bit}
 use Rattle.point_ladder.specs.declared.ladder.Ladder.TheInside.{Inside}
 use Rattle.point_ladder.specs.Stretches.{IsLadder}
-use Rattle.point_ladder.proofs.Narrowing.{IsNext}
-use Rattle.point_ladder.proofs.Serving.{ShowsPair}
-use Rattle.point_ladder.proofs.InForce.{shows_pair}
-use Rattle.point_ladder.proofs.Climbing.{problem_of, points_of, path_of, some_stretch, frame_of, frame_pushed, path_long, next_by_alive, keeps_more, risen_same, risen_new}
+use Rattle.point_ladder.proofs.Narrower.{IsNext}
+use Rattle.point_ladder.specs.Ladders.{ShowsPair}
+use Rattle.point_ladder.proofs.Keeps.{IsFrameAt, problem_of, points_of, path_of, some_stretch, frame_of, holds_of, frame_pushed, path_long, next_by_alive, keeps_more, risen_same, risen_new}
 use Rattle.point_ladder.proofs.ladder.Ladder.push.Goals as goal
 use Rattle.point_ladder.proofs.ladder.Ladder.push.Goals.{then-not-is_same+in_ok-frame+in_ok-push, else-not-is_same}
 
@@ -23,30 +22,6 @@ index-requires c =
     let s = c.self.inside in
     let some = some_stretch s c.self.invariant (subst (λ v. IsAlive (problem_at v.problem v.path)) (sym c.self.view_is) c.requires.alive) in
     omega (arith, some, c.len-last.ensures, s.stretches.ok)
-
-pub is_same-requires : goal.is_same-requires
-is_same-requires c =
-    let s = c.self.inside in
-    let alive = subst (λ v. IsAlive (problem_at v.problem v.path)) (sym c.self.view_is) c.requires.alive in
-    let some = some_stretch s c.self.invariant alive in
-    let frame = frame_of s (c.len-last.result - 1) c.index.result.now c.self.invariant alive (omega (arith, some, c.len-last.ensures, s.stretches.ok)) c.index.ensures in
-    frame.rows_two
-
-pub narrowed-requires-clause-some : goal.narrowed-requires-clause-some
-narrowed-requires-clause-some c =
-    let s = c.self.inside in
-    let alive = subst (λ v. IsAlive (problem_at v.problem v.path)) (sym c.self.view_is) c.requires.alive in
-    let some = some_stretch s c.self.invariant alive in
-    let frame = frame_of s (c.len-last.result - 1) c.index.result.now c.self.invariant alive (omega (arith, some, c.len-last.ensures, s.stretches.ok)) c.index.ensures in
-    let wide = frame.width in omega (arith, wide)
-
-pub narrowed-requires-clause-two : goal.narrowed-requires-clause-two
-narrowed-requires-clause-two c =
-    let s = c.self.inside in
-    let alive = subst (λ v. IsAlive (problem_at v.problem v.path)) (sym c.self.view_is) c.requires.alive in
-    let some = some_stretch s c.self.invariant alive in
-    let frame = frame_of s (c.len-last.result - 1) c.index.result.now c.self.invariant alive (omega (arith, some, c.len-last.ensures, s.stretches.ok)) c.index.ensures in
-    frame.rows_two
 
 pub invariant_of-self-2 : goal.invariant_of-self-2
 invariant_of-self-2 c =
@@ -63,20 +38,19 @@ invariant_of-self-2 c =
     let some = some_stretch s c.self.invariant alive in
     let end : c.len-last.result - 1 + 1 ≡ length s.stretches.items = omega (arith, some, c.len-last.ensures, s.stretches.ok) in
     let frame = frame_of s (c.len-last.result - 1) c.index.result.now c.self.invariant alive end c.index.ensures in
-    let l = has_bit c.row-left.result.now in
-    let r = has_bit c.row-right.result.now in
-    let shows : ShowsPair (pair_at q (length m)) (points_of s) l r =
-    shows_pair s.problem s.rows l r c.pair_at-left.result (pair_at s.problem (length m)) c.self.invariant.rows_are (c.pair_at-left.ensures.value ∙ ap (pair_at s.problem) (sym at)) c.pair_at-left.ensures.order c.pair_at-left.ensures.within
-    c.row-left.ensures.bits c.row-right.ensures.bits in
+    let l = has_bit c.sides_of-sides.result.left.now in
+    let r = has_bit c.sides_of-sides.result.right.now in
+    let shows : ShowsPair (pair_at q (length m)) (points_of s) l r = subst (λ k. ShowsPair (pair_at s.problem k) (points_of s) l r) (sym at) c.sides_of-sides.ensures in
+    let here : IsFrameAt q m (points_of s) c.index.result.now.frame l r = record { holds = holds_of s c.self.invariant alive; alive = alive; frame = frame; shows = shows } in
     elim c.if-not-is_same.branch [
       | then-not-is_same+in_ok-frame+in_ok-push w ↦
           subst (λ (x : Inside). IsLadder x.problem (problem_of x) x.sets.items x.rows (set x.line.items s.len rel) (s.len + 1) x.nexts.items x.stretches.items x.alive) (sym w.self-inside-is)
           (keeps_more s rel (set s.line.items s.len rel) w.push.new.self.items c.self.invariant next lives refl
           (risen_new s rel (set s.line.items s.len rel) (record { from = s.len + 1; frame = w.in_ok-frame.frame }) w.push.new.self.items c.self.invariant next alive refl refl w.in_ok-push.ensures.items
-          (frame_pushed q m rel w.row-then-not-is_same.result (points_of s) c.index.result.now.frame w.in_ok-frame.frame l r w.row-then-not-is_same.ensures next frame shows w.in_ok-frame.ensures)))
+          (frame_pushed q m rel w.row-then-not-is_same.result (points_of s) c.index.result.now.frame w.in_ok-frame.frame l r w.row-then-not-is_same.ensures next here w.in_ok-frame.ensures)))
       | else-not-is_same w ↦
           subst (λ (x : Inside). IsLadder x.problem (problem_of x) x.sets.items x.rows (set x.line.items s.len rel) (s.len + 1) x.nexts.items x.stretches.items x.alive) (sym w.self-inside-is)
           (keeps_more s rel (set s.line.items s.len rel) s.stretches.items c.self.invariant next lives refl
           (risen_same s rel (set s.line.items s.len rel) (c.len-last.result - 1) c.index.result.now c.self.invariant next alive refl end c.index.ensures
-          (frame_pushed q m rel c.row.result (points_of s) c.index.result.now.frame c.index.result.now.frame l r c.row.ensures next frame shows (c.is_same.ensures w.if-not-is_same.false))))
+          (frame_pushed q m rel c.row.result (points_of s) c.index.result.now.frame c.index.result.now.frame l r c.row.ensures next here (c.is_same.ensures w.if-not-is_same.false))))
     ]

@@ -1,7 +1,7 @@
 use Rattle.std.proofs.Common.{◌<◌, [], length, take, refl, sym, subst, arith, append-nil}
 use Rattle.world_model.specs.Alive.{problem_at, IsAlive}
 use Rattle.point_ladder.specs.Ladders.{IsAlong}
-use Rattle.point_ladder.proofs.Climbing.{problem_of, path_of, path_long, keeps_along, goes_here}
+use Rattle.point_ladder.proofs.Keeps.{problem_of, path_of, path_long, keeps_along, goes_here}
 use Rattle.point_ladder.proofs.ladder.Ladder.skip.Goals as goal
 
 pub invariant_of-self : goal.invariant_of-self

@@ -12,4 +12,4 @@ returns c = λ avoids.
     let at = ap (λ p. pair_at p c.pair_index.result) (sym c.problem.ensures) ∙ c.pair_index.ensures.at in
     by_number q c.args.bits.now c.args.x c.args.y c.pair_index.result c.requires.order
     (subst (λ p. c.pair_index.result < pair_count p) c.problem.ensures c.pair_index.ensures.within) at
-    (sym (avoided_pair q c.args.bits.now c.pair_index.result c.forced_at-regions.result (c.args.x, c.args.y) _ _ c.is_out.result c.is_out.ensures c.forced_at-regions.ensures (sym at) refl refl) ∙ avoids)
+    (sym (avoided_pair q c.args.bits.now c.pair_index.result c.forced_at-regions.result (c.args.x, c.args.y) _ _ c.avoids_by.result c.avoids_by.ensures c.forced_at-regions.ensures (sym at) refl refl) ∙ avoids)

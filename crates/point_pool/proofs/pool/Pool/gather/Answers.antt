@@ -1,8 +1,7 @@
 use Rattle.std.proofs.Common.{◌≡◌, ◌<◌, [], true, false, length, get_or, ◌∙◌, sym, subst, arith}
 use Rattle.std.proofs.lemmas.List.{get_or_read}
-use Rattle.world_model.specs.Alive.{problem_at}
+use Rattle.world_model.specs.Alive.{problem_at, point_at}
 use Rattle.point_encode.specs.Numbers.{is_needed}
-use Rattle.point_pool.specs.Pools.{point_at}
 use Rattle.point_pool.proofs.Settling.{served_now}
 use Rattle.point_pool.proofs.Gathering.{gathered_skip, gathered_taken, gathered_more}
 use Rattle.point_pool.proofs.pool.Pool.gather.Goals as goal

@@ -1,7 +1,8 @@
 use Rattle.std.proofs.Common.{◌≡◌, ◌∙◌, sym, ap, subst, arith}
 use Rattle.std.specs.Prelude.{IsTrue}
 use Rattle.world_model.specs.Alive.{problem_at}
-use Rattle.point_encode.specs.Numbers.{is_needed, need_count}
+use Rattle.point_encode.specs.Numbers.{is_needed}
+use Rattle.cert_model.specs.Forced.{need_count}
 use Rattle.point_pool.specs.Starts.{AreStarted}
 use Rattle.point_pool.proofs.Pooling.{pool_made}
 use Rattle.point_pool.proofs.pool.Pool.new.Goals as goal

@@ -2,8 +2,8 @@ use Rattle.std.proofs.Common.{◌≡◌, ◌+◌, ℕ, Bool, List, [], refl, ap,
 use Rattle.std.specs.Prelude.{IsTrue, Option, None}
 use Rattle.std.proofs.lemmas.List.{get_or_read}
 use Rattle.world_model.specs.Node.{pair_at}
-use Rattle.world_model.specs.Alive.{avoids}
-use Rattle.point_pool.specs.Pools.{IsUnstruck, point_at, depth_at}
+use Rattle.world_model.specs.Alive.{avoids, point_at}
+use Rattle.point_pool.specs.Pools.{IsUnstruck, depth_at}
 use Rattle.point_pool.proofs.Pooling.{striking_left, striking_out}
 use Rattle.point_pool.proofs.pool.Pool.strike_if_out.Goals as goal
 

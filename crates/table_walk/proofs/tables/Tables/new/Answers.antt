@@ -2,7 +2,7 @@ use Rattle.std.proofs.Common.{sym, subst}
 use Rattle.std.specs.Prelude.{IfSome}
 use Rattle.point_ladder.specs.Ladders.{IsBoundOf}
 use Rattle.table_walk.specs.Tables.{tables_of, IsNewListing}
-use Rattle.table_walk.proofs.Starting.{new_listing}
+use Rattle.table_walk.proofs.HasBegun.{new_listing}
 use Rattle.table_walk.proofs.tables.Tables.new.Goals as goal
 
 pub invariant_of-result : goal.invariant_of-result

@@ -1,7 +1,7 @@
 use Rattle.std.proofs.Common.{refl, subst}
 use Rattle.table_walk.specs.Ways.{problem_of, at_of, told_of}
 use Rattle.table_walk.specs.Tables.{tables_of, PassedTold}
-use Rattle.table_walk.proofs.Starting.{same_lists, still_for, at_world, if_found}
+use Rattle.table_walk.proofs.HasBegun.{same_lists, still_for, at_world, if_found}
 use Rattle.table_walk.proofs.tables.Tables.next.Goals as goal
 
 pub invariant_of-self : goal.invariant_of-self

@@ -1,7 +1,7 @@
 use Rattle.std.proofs.Common.{List, ℕ, [], ◌∷◌, ◌++◌, subst, sym}
 use Rattle.clause_arena.specs.Records.{Record, new_record}
 use Rattle.watch_arena.specs.Engines.{IsSound}
-use Rattle.watch_arena.proofs.Adding.{IsSound-listed, IsSound-put_short}
+use Rattle.watch_arena.proofs.AddedClause.{IsSound-listed, IsSound-put_short}
 use Rattle.watch_arena.proofs.engine.Engine.add_short.Goals as goal
 
 pub returns-in_err-at-clause-sound : goal.returns-in_err-at-clause-sound

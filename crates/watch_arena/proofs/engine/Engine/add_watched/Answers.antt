@@ -4,8 +4,8 @@ use Rattle.lits_core.proofs.LiteralLemmas.{negation-below}
 use Rattle.clause_arena.specs.Records.{Record}
 use Rattle.watch_arena.specs.declared.engine.Engine.{Engine}
 use Rattle.watch_arena.specs.Engines.{IsSound}
-use Rattle.watch_arena.proofs.Watching.{contains_at}
-use Rattle.watch_arena.proofs.Adding.{Added}
+use Rattle.watch_arena.proofs.WatchedPair.{contains_at}
+use Rattle.watch_arena.proofs.AddedClause.{Added}
 use Rattle.watch_arena.proofs.engine.Engine.add_watched.Goals as goal
 
 -- a code of the clause is of the first variables
@@ -30,43 +30,43 @@ pub attach-requires-clause-range : goal.attach-requires-clause-range
 attach-requires-clause-range c =
     let two = c.requires.two in
     let range = code_range c.args.codes.now 0 c.from_code-first.result c.args.self.now.variables (omega arith) c.from_code-first.ensures c.requires.range in
-    let vars = ap (λ (e : Engine). e.variables) c.lower.ensures.same in
-    let lists = c.lower.ensures.sound.lists in omega arith
+    let vars = ap (λ (e : Engine). e.variables) c.rewind.ensures.same in
+    let lists = c.rewind.ensures.sound.lists in omega arith
 
 pub attach-requires-2-clause-range : goal.attach-requires-2-clause-range
 attach-requires-2-clause-range c =
     let two = c.requires.two in
     let range = code_range c.args.codes.now 1 c.from_code-second.result c.args.self.now.variables (omega arith) c.from_code-second.ensures c.requires.range in
-    let vars = ap (λ (e : Engine). e.variables) c.lower.ensures.same in
-    let lists = c.lower.ensures.sound.lists in
+    let vars = ap (λ (e : Engine). e.variables) c.rewind.ensures.same in
+    let lists = c.rewind.ensures.sound.lists in
     let size = ap (λ (e : Engine). length e.chains) c.attach.ensures in
-    let same = length-set c.lower.new.self.chains c.from_code-first.result (Some (record { at = c.in_ok-at.at; slot = 0 })) in
+    let same = length-set c.rewind.new.self.chains c.from_code-first.result (Some (record { at = c.in_ok-at.at; slot = 0 })) in
     omega arith
 
 pub returns-clause-ok : goal.returns-clause-ok
 returns-clause-ok c =
-    (Added c.args.self.now c.lower.new.self c.put.new.self c.attach.new.self c.attach-2.new.self c.args.codes.now c.args.id c.from_code-first.result c.from_code-second.result c.in_ok-at.at c.false_since.result c.false_since-2.result c.min-since.result c.requires.sound c.requires.range c.requires.two c.requires.differ c.from_code-first.ensures c.from_code-second.ensures c.false_since.ensures c.false_since-2.ensures c.min-since.ensures c.lower.ensures.sound c.lower.ensures.lowered c.lower.ensures.same c.in_ok-at.ensures.at c.in_ok-at.ensures.ok c.attach.ensures c.attach-2.ensures).bodies
+    (Added c.args.self.now c.rewind.new.self c.put.new.self c.attach.new.self c.attach-2.new.self c.args.codes.now c.args.id c.from_code-first.result c.from_code-second.result c.in_ok-at.at c.false_since.result c.false_since-2.result c.min-since.result c.requires.sound c.requires.range c.requires.two c.requires.differ c.from_code-first.ensures c.from_code-second.ensures c.false_since.ensures c.false_since-2.ensures c.min-since.ensures c.rewind.ensures.sound c.rewind.ensures.rewound c.rewind.ensures.same c.in_ok-at.ensures.at c.in_ok-at.ensures.ok c.attach.ensures c.attach-2.ensures).bodies
 
 pub returns-clause-sound : goal.returns-clause-sound
 returns-clause-sound c =
-    (Added c.args.self.now c.lower.new.self c.put.new.self c.attach.new.self c.attach-2.new.self c.args.codes.now c.args.id c.from_code-first.result c.from_code-second.result c.in_ok-at.at c.false_since.result c.false_since-2.result c.min-since.result c.requires.sound c.requires.range c.requires.two c.requires.differ c.from_code-first.ensures c.from_code-second.ensures c.false_since.ensures c.false_since-2.ensures c.min-since.ensures c.lower.ensures.sound c.lower.ensures.lowered c.lower.ensures.same c.in_ok-at.ensures.at c.in_ok-at.ensures.ok c.attach.ensures c.attach-2.ensures).sound
+    (Added c.args.self.now c.rewind.new.self c.put.new.self c.attach.new.self c.attach-2.new.self c.args.codes.now c.args.id c.from_code-first.result c.from_code-second.result c.in_ok-at.at c.false_since.result c.false_since-2.result c.min-since.result c.requires.sound c.requires.range c.requires.two c.requires.differ c.from_code-first.ensures c.from_code-second.ensures c.false_since.ensures c.false_since-2.ensures c.min-since.ensures c.rewind.ensures.sound c.rewind.ensures.rewound c.rewind.ensures.same c.in_ok-at.ensures.at c.in_ok-at.ensures.ok c.attach.ensures c.attach-2.ensures).sound
 
 pub returns-clause-places : goal.returns-clause-places
 returns-clause-places c = record {
-  places = ap (λ (e : Engine). e.places.list) c.attach-2.ensures ∙ ap (λ (e : Engine). e.places.list) c.attach.ensures ∙ ap (λ (e : Engine). e.places.list) c.lower.ensures.same;
-  variables = ap (λ (e : Engine). e.variables) c.attach-2.ensures ∙ ap (λ (e : Engine). e.variables) c.attach.ensures ∙ ap (λ (e : Engine). e.variables) c.lower.ensures.same;
-  moves = ap (λ (e : Engine). e.moves) c.attach-2.ensures ∙ ap (λ (e : Engine). e.moves) c.attach.ensures ∙ ap (λ (e : Engine). e.moves) c.lower.ensures.same;
+  places = ap (λ (e : Engine). e.places.list) c.attach-2.ensures ∙ ap (λ (e : Engine). e.places.list) c.attach.ensures ∙ ap (λ (e : Engine). e.places.list) c.rewind.ensures.same;
+  variables = ap (λ (e : Engine). e.variables) c.attach-2.ensures ∙ ap (λ (e : Engine). e.variables) c.attach.ensures ∙ ap (λ (e : Engine). e.variables) c.rewind.ensures.same;
+  moves = ap (λ (e : Engine). e.moves) c.attach-2.ensures ∙ ap (λ (e : Engine). e.moves) c.attach.ensures ∙ ap (λ (e : Engine). e.moves) c.rewind.ensures.same;
 }
 
 pub returns-clause-at : goal.returns-clause-at
-returns-clause-at c = c.in_ok-at.ensures.at ∙ ap (λ (e : Engine). length e.arena) c.lower.ensures.same
+returns-clause-at c = c.in_ok-at.ensures.at ∙ ap (λ (e : Engine). length e.arena) c.rewind.ensures.same
 
 pub returns-in_err-at-clause-sound : goal.returns-in_err-at-clause-sound
-returns-in_err-at-clause-sound c = subst (λ (rs : List Record). IsSound (record c.lower.new.self { arena = rs })) (sym c.in_err-at.ensures.err) c.lower.ensures.sound
+returns-in_err-at-clause-sound c = subst (λ (rs : List Record). IsSound (record c.rewind.new.self { arena = rs })) (sym c.in_err-at.ensures.err) c.rewind.ensures.sound
 
 pub returns-in_err-at-clause-places : goal.returns-in_err-at-clause-places
 returns-in_err-at-clause-places c = record {
-  places = ap (λ (e : Engine). e.places.list) c.lower.ensures.same;
-  variables = ap (λ (e : Engine). e.variables) c.lower.ensures.same;
-  moves = ap (λ (e : Engine). e.moves) c.lower.ensures.same;
+  places = ap (λ (e : Engine). e.places.list) c.rewind.ensures.same;
+  variables = ap (λ (e : Engine). e.variables) c.rewind.ensures.same;
+  moves = ap (λ (e : Engine). e.moves) c.rewind.ensures.same;
 }

@@ -1,5 +1,5 @@
 use Rattle.std.proofs.Common.{arith}
-use Rattle.watch_arena.proofs.Visiting.{head_lit, Advances-head, places_at_most}
+use Rattle.watch_arena.proofs.WatchVisit.{head_lit, Advances-head, places_at_most}
 use Rattle.watch_arena.proofs.engine.Engine.advance.Goals as goal
 
 pub propagate_lit-requires-clause-range : goal.propagate_lit-requires-clause-range

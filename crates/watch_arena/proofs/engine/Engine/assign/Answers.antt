@@ -1,5 +1,5 @@
 use Rattle.std.proofs.Common.{arith}
-use Rattle.watch_arena.proofs.Visiting.{HasRoom-from_can}
+use Rattle.watch_arena.proofs.WatchVisit.{HasRoom-from_can}
 use Rattle.watch_arena.proofs.engine.Engine.assign.Goals as goal
 
 pub overflow_add-count : goal.overflow_add-count

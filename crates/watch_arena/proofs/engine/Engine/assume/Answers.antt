@@ -3,9 +3,9 @@ use Rattle.std.proofs.lemmas.List.Sums.{count_by-le-length}
 use Rattle.watch_arena.specs.declared.engine.Engine.{Engine}
 use Rattle.watch_arena.specs.Places.{is_assumed}
 use Rattle.watch_arena.specs.Engines.{IsSound, with_place}
-use Rattle.watch_arena.proofs.Sound.{IsSound-marked}
-use Rattle.watch_arena.proofs.Visiting.{places_below}
-use Rattle.watch_arena.proofs.Meeting.{CanAssign-assumed}
+use Rattle.watch_arena.proofs.EngineInvariant.{IsSound-marked}
+use Rattle.watch_arena.proofs.WatchVisit.{places_below}
+use Rattle.watch_arena.proofs.ShortClauses.{CanAssign-assumed}
 use Rattle.watch_arena.proofs.engine.Engine.assume.Goals as goal
 
 pub overflow_add-level : goal.overflow_add-level

@@ -1,8 +1,8 @@
 use Rattle.std.proofs.Common.{◌∙◌, length, refl, ap, arith}
 use Rattle.clause_arena.specs.Movings.{new_ref, place_after}
 use Rattle.watch_arena.specs.Stack.{Stack}
-use Rattle.watch_arena.proofs.Visiting.{places_at_most}
-use Rattle.watch_arena.proofs.Compacting.{IsBare-compacted, IsSound-relinked, places_with-same, length-with}
+use Rattle.watch_arena.proofs.WatchVisit.{places_at_most}
+use Rattle.watch_arena.proofs.CompactedClauses.{IsBare-compacted, IsSound-relinked, places_with-same, length-with}
 use Rattle.watch_arena.proofs.engine.Engine.compact.Goals as goal
 
 pub cap-requires : goal.cap-requires

@@ -1,4 +1,4 @@
-use Rattle.watch_arena.proofs.Undoing.{IsSound-forgotten}
+use Rattle.watch_arena.proofs.DroppedPlaces.{IsSound-forgotten}
 use Rattle.std.proofs.Common.{subst, sym, List}
 use Rattle.clause_arena.specs.Records.{Record}
 use Rattle.watch_arena.specs.Engines.{IsSound}

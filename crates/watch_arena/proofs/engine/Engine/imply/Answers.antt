@@ -1,8 +1,8 @@
 use Rattle.std.proofs.Common.{ℕ, Some, subst, sym}
 use Rattle.watch_arena.specs.declared.engine.Engine.{Engine}
 use Rattle.watch_arena.specs.Engines.{IsSound, with_place}
-use Rattle.watch_arena.proofs.Sound.{IsSound-marked}
-use Rattle.watch_arena.proofs.Visiting.{HasRoom-from_can}
+use Rattle.watch_arena.proofs.EngineInvariant.{IsSound-marked}
+use Rattle.watch_arena.proofs.WatchVisit.{HasRoom-from_can}
 use Rattle.watch_arena.proofs.engine.Engine.imply.Goals as goal
 
 pub returns-clause-sound : goal.returns-clause-sound

@@ -1,6 +1,6 @@
 use Rattle.std.proofs.Common.{arith}
 use Rattle.clause_arena.specs.Records.{record_at}
-use Rattle.watch_arena.proofs.Meeting.{IsShort-few, IsShort-test}
+use Rattle.watch_arena.proofs.ShortClauses.{IsShort-few, IsShort-test}
 use Rattle.watch_arena.proofs.engine.Engine.is_short.Goals as goal
 
 pub returns-then-len_of-lt2 : goal.returns-then-len_of-lt2

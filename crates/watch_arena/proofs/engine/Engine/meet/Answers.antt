@@ -1,6 +1,6 @@
 use Rattle.std.proofs.Common.{◌∙◌, sym, true≢false}
-use Rattle.watch_arena.proofs.Visiting.{Advances-refl}
-use Rattle.watch_arena.proofs.Meeting.{IsFalse-from_empty}
+use Rattle.watch_arena.proofs.WatchVisit.{Advances-refl}
+use Rattle.watch_arena.proofs.ShortClauses.{IsFalse-from_empty}
 use Rattle.watch_arena.proofs.engine.Engine.meet.Goals as goal
 
 pub returns-then-not-is_live-clause-advances : goal.returns-then-not-is_live-clause-advances

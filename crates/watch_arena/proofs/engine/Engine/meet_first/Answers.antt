@@ -1,9 +1,9 @@
 use Rattle.std.proofs.Common.{subst, sym, refl}
 use Rattle.watch_arena.specs.declared.engine.Engine.{Engine}
 use Rattle.watch_arena.specs.Engines.{Advances, IsShortMet}
-use Rattle.watch_arena.proofs.Sound.{lit-in_range}
-use Rattle.watch_arena.proofs.Visiting.{Advances-refl}
-use Rattle.watch_arena.proofs.Meeting.{IsShortMet-true, IsFalse-from_short, CanAssign-from_short, Advances-marked, IsShortMet-marked}
+use Rattle.watch_arena.proofs.EngineInvariant.{lit-in_range}
+use Rattle.watch_arena.proofs.WatchVisit.{Advances-refl}
+use Rattle.watch_arena.proofs.ShortClauses.{IsShortMet-true, IsFalse-from_short, CanAssign-from_short, Advances-marked, IsShortMet-marked}
 use Rattle.watch_arena.proofs.engine.Engine.meet_first.Goals as goal
 
 pub is_true-requires : goal.is_true-requires

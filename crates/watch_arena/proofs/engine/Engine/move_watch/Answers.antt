@@ -4,11 +4,11 @@ use Rattle.clause_arena.specs.declared.place.Link.{Link}
 use Rattle.clause_arena.specs.Records.{Record, record_at}
 use Rattle.watch_arena.specs.declared.engine.Engine.{Engine}
 use Rattle.watch_arena.specs.Chains.{IsEntry}
-use Rattle.watch_arena.proofs.Watching.{contains_at}
-use Rattle.watch_arena.proofs.Moved.{fresh}
-use Rattle.watch_arena.proofs.Walked.{IsEntry-exchanged}
-use Rattle.watch_arena.proofs.Leading.{IsAt, IsAt-walking, IsEntry-at, IsEntry-before, length-past}
-use Rattle.watch_arena.proofs.Passing.{IsExchange-past}
+use Rattle.watch_arena.proofs.WatchedPair.{contains_at}
+use Rattle.watch_arena.proofs.SameRecords.{fresh}
+use Rattle.watch_arena.proofs.ChangedChains.{IsEntry-exchanged}
+use Rattle.watch_arena.proofs.MovedWatch.{IsAt, IsAt-walking, IsEntry-at, IsEntry-before, length-past}
+use Rattle.watch_arena.proofs.ChainWalk.{IsExchange-past}
 use Rattle.watch_arena.proofs.engine.Engine.move_watch.Goals as goal
 
 pub link-next-requires-clause-slot : goal.link-next-requires-clause-slot

@@ -1,5 +1,5 @@
 use Rattle.std.proofs.Common.{refl, arith}
-use Rattle.watch_arena.proofs.Beginning.{IsSound-empty}
+use Rattle.watch_arena.proofs.EmptyEngine.{IsSound-empty}
 use Rattle.watch_arena.proofs.engine.Engine.new.Goals as goal
 
 pub returns-clause-sound : goal.returns-clause-sound

@@ -2,8 +2,8 @@ use Rattle.std.proofs.Common.{◌∙◌, Option, subst, sym, ap}
 use Rattle.clause_arena.specs.declared.place.Link.{Link}
 use Rattle.watch_arena.specs.Chains.{head_of}
 use Rattle.watch_arena.specs.Engines.{IsWalking}
-use Rattle.watch_arena.proofs.Visiting.{Visits-refl, Visits-trans, Visits-range}
-use Rattle.watch_arena.proofs.Passing.{IsEntry-walking, IsWalking-head, AllAgree-walked, walk_falls}
+use Rattle.watch_arena.proofs.WatchVisit.{Visits-refl, Visits-trans, Visits-range}
+use Rattle.watch_arena.proofs.ChainWalk.{IsEntry-walking, IsWalking-head, AllAgree-walked, walk_falls}
 use Rattle.watch_arena.proofs.engine.Engine.propagate_lit.Goals as goal
 
 pub loop-cur-init : goal.loop-cur-init

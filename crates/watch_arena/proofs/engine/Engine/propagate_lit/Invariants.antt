@@ -1,6 +1,6 @@
 use Rattle.std.proofs.Common.{◌*◌, length}
 use Rattle.watch_arena.specs.Engines.{Visits, IsWalking}
-use Rattle.watch_arena.proofs.Walked.{count_from}
+use Rattle.watch_arena.proofs.ChangedChains.{count_from}
 use Rattle.watch_arena.proofs.engine.Engine.propagate_lit.Given as goal
 
 abbrev pub invariant-loop-cur : goal.invariant-loop-cur

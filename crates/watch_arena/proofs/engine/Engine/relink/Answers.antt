@@ -1,6 +1,6 @@
 use Rattle.std.proofs.Common.{ap, arith}
 use Rattle.watch_arena.specs.declared.engine.Engine.{Engine}
-use Rattle.watch_arena.proofs.Relinking.{in_range-bodies}
+use Rattle.watch_arena.proofs.RebuiltChains.{in_range-bodies}
 use Rattle.watch_arena.proofs.engine.Engine.relink.Goals as goal
 
 pub watch-requires-clause-in_range : goal.watch-requires-clause-in_range

@@ -3,8 +3,8 @@ use Rattle.watch_arena.specs.declared.places.Place.{Place}
 use Rattle.watch_arena.specs.declared.engine.Engine.{Engine}
 use Rattle.watch_arena.specs.Places.{place_at}
 use Rattle.watch_arena.specs.Engines.{IsSound, without_last}
-use Rattle.watch_arena.proofs.Sound.{IsSound-popped}
-use Rattle.watch_arena.proofs.Visiting.{place_read, place_lit-in_range, mark_within, places_at_most}
+use Rattle.watch_arena.proofs.EngineInvariant.{IsSound-popped}
+use Rattle.watch_arena.proofs.WatchVisit.{place_read, place_lit-in_range, mark_within, places_at_most}
 use Rattle.watch_arena.proofs.engine.Engine.unassign_last.Goals as goal
 
 undone : (c : goal.After-pop) → ◌≡◌ {A = Engine} (record c.args.self.now { marks = c.set.new.self; places = c.pop.new.self; queue_head = c.get-self.result; first = c.get-self-2.result }) (without_last c.args.self.now)

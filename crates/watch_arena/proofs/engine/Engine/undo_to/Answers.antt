@@ -1,6 +1,6 @@
 use Rattle.std.proofs.Common.{subst, sym, length, arith, ◌-◌, ◌≡◌, ap, length-take, ◌∙◌}
 use Rattle.watch_arena.specs.declared.engine.Engine.{Engine}
-use Rattle.watch_arena.proofs.Undoing.{Undone, Undone-refl, Undone-last, Undoes-from, some_place}
+use Rattle.watch_arena.proofs.DroppedPlaces.{Undone, Undone-refl, Undone-last, Undoes-from, some_place}
 use Rattle.watch_arena.proofs.engine.Engine.undo_to.Goals as goal
 
 pub loop-self-init : goal.loop-self-init

@@ -1,5 +1,5 @@
 use Rattle.std.proofs.Common.{length}
-use Rattle.watch_arena.proofs.Undoing.{Undone}
+use Rattle.watch_arena.proofs.DroppedPlaces.{Undone}
 use Rattle.watch_arena.proofs.engine.Engine.undo_to.Given as goal
 
 abbrev pub invariant-loop-self : goal.invariant-loop-self

@@ -1,7 +1,7 @@
 use Rattle.std.proofs.Common.{◌≡◌, ◌∙◌, true, false}
 use Rattle.clause_arena.specs.Records.{record_at}
-use Rattle.watch_arena.proofs.Leading.{IsAt-walking, IsEntry-at}
-use Rattle.watch_arena.proofs.Passing.{IsWalking-dead}
+use Rattle.watch_arena.proofs.MovedWatch.{IsAt-walking, IsEntry-at}
+use Rattle.watch_arena.proofs.ChainWalk.{IsWalking-dead}
 use Rattle.watch_arena.proofs.engine.Engine.visit.Goals as goal
 
 pub is_live-requires : goal.is_live-requires

@@ -1,5 +1,5 @@
 use Rattle.std.proofs.Common.{arith}
-use Rattle.watch_arena.proofs.Meeting.{IsSound-met}
+use Rattle.watch_arena.proofs.ShortClauses.{IsSound-met}
 use Rattle.watch_arena.proofs.engine.Engine.visit_short.Goals as goal
 
 pub overflow_add-self : goal.overflow_add-self

@@ -2,8 +2,8 @@ use Rattle.std.proofs.Common.{◌≡◌, ◌≢◌, ◌∙◌, length, Some, tru
 use Rattle.clause_arena.specs.Records.{record_at}
 use borrow.Author.Tests.{eq-eqb}
 use Rattle.watch_arena.specs.declared.engine.Engine.{Engine}
-use Rattle.watch_arena.proofs.Watching.{contains_at}
-use Rattle.watch_arena.proofs.Relinking.{Watched}
+use Rattle.watch_arena.proofs.WatchedPair.{contains_at}
+use Rattle.watch_arena.proofs.RebuiltChains.{Watched}
 use Rattle.watch_arena.proofs.engine.Engine.watch.Goals as goal
 
 pub attach-requires-clause-range : goal.attach-requires-clause-range

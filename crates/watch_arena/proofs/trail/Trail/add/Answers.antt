@@ -2,7 +2,7 @@ use Rattle.std.proofs.Common.{◌<◌, ◌*◌, ◌∙◌, List, ℕ, subst, sym
 use Rattle.std.specs.List.{Contains}
 use Rattle.std.specs.List.Sorted.{IsPermutation}
 use Rattle.watch_arena.specs.Trails.{TrailState, AreInRange, Adds}
-use Rattle.watch_arena.specs.Engines.{seen}
+use Rattle.watch_arena.specs.Engines.{trail_state}
 use Rattle.watch_arena.proofs.Promises.{codes_in_range, Adds-from}
 use Rattle.watch_arena.proofs.trail.Trail.add.Goals as goal
 
@@ -16,6 +16,6 @@ add-requires-clause-range c =
 pub returns-clause-ok : goal.returns-clause-ok
 returns-clause-ok c =
     let P : List ℕ → Type 0 = λ codes. IsPermutation codes c.add.new.codes in
-    subst (λ (t : TrailState). Adds t (seen c.add.new.self) c.args.lits.now c.args.id) c.self.view_is
+    subst (λ (t : TrailState). Adds t (trail_state c.add.new.self) c.args.lits.now c.args.id) c.self.view_is
     (Adds-from c.self.inside.engine c.add.new.self c.args.lits.now c.add.new.codes c.args.id c.add.ensures.places
     (subst P (c.deref_mut.ensures.value ∙ c.in_ok-codes.ensures) c.add.ensures.permuted) c.in_ok-at.ensures.ok)

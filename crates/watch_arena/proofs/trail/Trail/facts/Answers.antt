@@ -1,6 +1,6 @@
 use Rattle.std.proofs.Common.{subst}
 use Rattle.watch_arena.specs.Trails.{TrailState, IsTrail}
-use Rattle.watch_arena.proofs.Seen.{IsTrail-sound}
+use Rattle.watch_arena.proofs.TrailView.{IsTrail-sound}
 use Rattle.watch_arena.proofs.trail.Trail.facts.Goals as goal
 
 pub returns : goal.returns

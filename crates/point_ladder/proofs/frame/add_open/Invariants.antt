@@ -1,7 +1,0 @@
-use Rattle.std.proofs.Common.{ℕ, ◌<◌, ◌≤◌, ◌&&◌}
-use Rattle.bit_rows.specs.Rows.{has_bit, bit_in, in_cells, SomePlace}
-use Rattle.point_ladder.specs.Ladders.{IsOwing}
-use Rattle.point_ladder.proofs.frame.add_open.Given as goal
-
-abbrev pub invariant-loop-row : goal.invariant-loop-row
-invariant-loop-row l = IsOwing l.initial.frame l.frame (λ some. (r : ℕ) → 2 ≤ r → r < l.row → SomePlace (λ k. (bit_in l.old r k && bit_in l.old 0 k && in_cells l.cells (has_bit l.left k) (has_bit l.right k)) && some k))

@@ -1,0 +1,16 @@
+-- What a run leaves that writes one name alone.
+use Rattle.std.proofs.Common.{◌≡◌, ℕ, List, [], ◌∷◌, Contains, refl, sym, subst, arith}
+use Rattle.outer_store.specs.Contents.{Contents, OthersKept}
+use Rattle.outer_store.specs.Faults.{Counts, Rose}
+use Rattle.run_ends.specs.Runs.{HasFailed, AreKeptBut}
+
+is_named : (name : List ℕ) → Contains (name ∷ []) name
+is_named name = (0, omega arith, refl)
+
+-- the others are kept
+pub kept_but_one : (name : List ℕ) (old new : Contents) → OthersKept name old new → AreKeptBut (name ∷ []) old new
+kept_but_one name old new others other apart = others other (λ e. apart (subst (Contains (name ∷ [])) (sym e) (is_named name)))
+
+-- a failure is one of that name
+pub write_failed : (name : List ℕ) (before now : Counts) → Rose (before name) (now name) → HasFailed (name ∷ []) before now
+write_failed name before now rose = record { name = name; named = is_named name; rose = rose }

@@ -1,5 +1,0 @@
-use Rattle.watch_arena.specs.Engines.{HasNoFresh}
-use Rattle.watch_arena.proofs.engine.Engine.find.Given as goal
-
-abbrev pub invariant-loop-k : goal.invariant-loop-k
-invariant-loop-k l = HasNoFresh l.self l.at l.other l.k

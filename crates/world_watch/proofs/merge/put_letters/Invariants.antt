@@ -1,6 +1,0 @@
-use Rattle.std.proofs.Common.{◌≡◌, ◌++◌, map, take}
-use Rattle.rcc5_core.specs.Relation.{letter_of}
-use Rattle.world_watch.proofs.merge.put_letters.Given as goal
-
-abbrev pub invariant-loop-rel : goal.invariant-loop-rel
-invariant-loop-rel l = l.out.items ≡ l.fn.out.items ++ map letter_of (take l.rel-index l.rels)
