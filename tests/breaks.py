@@ -17,6 +17,8 @@ import tempfile
 import time
 import types
 
+from commands import files_read, files_written
+
 HERE = os.path.dirname(os.path.abspath(__file__))
 # in the order in which they import each other
 MODULES = ["plain", "random_cases", "plain_words", "certificate_lines", "certificates", "certificate_writer", "differential"]
@@ -148,10 +150,7 @@ def remembering(base, program, folder, known):
             self.files.pop(name, None)
 
         def run(self, words):
-            names = [word.split("=", 1) for word in words if "=" in word]
-            is_read = lambda key: key in ("in", "resume") or (key == "cert" and words[0] == "check")
-            read = [name for key, name in names if is_read(key)]
-            written = [name for key, name in names if key in ("cert", "token") and not is_read(key)]
+            read, written = files_read(words), files_written(words)
             asked = hashlib.sha256(repr((words, [self.files.get(name) for name in read])).encode()).digest()
             if asked not in known:
                 for name in read:

@@ -15,6 +15,8 @@ import sys
 import tempfile
 from importlib.machinery import SourceFileLoader
 
+from commands import ROWS
+
 ROOT = os.path.join(os.path.dirname(os.path.abspath(__file__)), "..")
 COMPLETIONS = os.path.join(ROOT, "completions")
 sys.dont_write_bytecode = True
@@ -22,7 +24,7 @@ generate = SourceFileLoader("generate", os.path.join(COMPLETIONS, "generate")).l
 
 # what is on the line, and the words that must be among those offered, or all of them where the first is None
 CASES = [
-    ("euler_align ", [None, "align", "check", "mir", "conflict", "report", "trial"]),
+    ("euler_align ", [None, *ROWS]),
     ("euler_align al", [None, "align"]),
     ("euler_align trial ", [None, "seed=", "size="]),
     ("euler_align align wor", [None, "worlds="]),

@@ -24,6 +24,7 @@ import tempfile
 import threading
 
 import plain
+from commands import ON_DEVICES, ROWS, values_of
 
 HERE = os.path.dirname(os.path.abspath(__file__))
 NOBODY = 65534
@@ -34,15 +35,10 @@ READ_FAULT, WRITE_FAULT = (3, "read fault\n"), (4, "")
 # a problem with several worlds, and one statement more that makes it a conflict
 SMALL = b"taxonomy 1\n(A B C)\ntaxonomy 2\n(D E F)\narticulation\n[1.A equals 2.D]\n", b"[1.B disjoint 2.D]\n"
 LARGER = plain.made_text(7, 40).encode(), b"[1.b1 disjoint 2.r]\n"
-KINDS = "kinds=count,tally,seen,merge,json"
 # name: words, the files that are read, the files that are written
 COMMANDS = {
-    "align": ("align in=p worlds=2 resume=r token=t cert=c", {"in": "p", "resume": "r"}, {"token": "t", "cert": "c"}),
-    "check": ("check in=p cert=k", {"in": "p", "cert": "k"}, {}),
-    "mir": ("mir in=p cert=c", {"in": "p"}, {"cert": "c"}),
-    "conflict": ("conflict in=q cert=c", {"in": "q"}, {"cert": "c"}),
-    "report": (f"report in=p {KINDS}", {"in": "p"}, {}),
-    "trial": ("trial seed=7 size=14", {}, {}),
+    name: (words, *({key: values[key] for key in keys} for keys in (ROWS[name].reads, ROWS[name].writes)))
+    for name, words, values in ((name, words, values_of(words.split())) for name, words in ON_DEVICES.items())
 }
 # what an endless file comes to, by its key; that of a certificate is one line without an end, for which memory is wanting
 ENDLESS = {"in": (1, "refused 0 TooLong\n"), "resume": (7, "token BadToken\n"), "cert": (9, "no memory\n")}

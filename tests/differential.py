@@ -25,7 +25,7 @@ import certificates
 import plain
 import plain_words
 import random_cases
-from random_cases import KINDS
+from commands import KINDS
 
 
 class Difference(Exception):

@@ -24,6 +24,8 @@ import subprocess
 import sys
 import tempfile
 
+from commands import NONE, ROWS
+
 ROOT = os.path.join(os.path.dirname(os.path.abspath(__file__)), "..")
 SHOWN = ["README.md", "docs/GUIDE.md", "examples/README.md"]
 NAMING = ["docs/PROOF.md", "docs/DEFINITIONS.md", "docs/CONTRACTS.md"]
@@ -224,10 +226,10 @@ def reading_faults():
 
 def commands_in_code():
     """The commands with their keys, by the table of the specification."""
-    text = "\n".join(lines_of("crates/command_line/specs/Words.antt"))
-    rows = re.findall(r'name = codes "(\w+)";\s+required = ([^;]*);\s+optional = ([^;]*);', text)
+    text = "\n".join(lines_of("crates/command_line/specs/Table.antt"))
+    rows = re.findall(r'name = codes "(\w+)";\s+required = ([^;]*);\s+optional = ([^;]*);\s+reads = ([^;]*);\s+writes = ([^;]*);', text)
     keys = lambda part: [word.lower() for word in re.findall(r"\w+", part)]
-    return {name: (keys(required), keys(optional)) for name, required, optional in rows}
+    return {name: tuple(map(keys, parts)) for name, *parts in rows}
 
 
 def word_faults():
@@ -235,7 +237,10 @@ def word_faults():
     formats = "\n".join(lines_of("docs/FORMATS.md"))
     manual = re.sub(r"\\f[A-Z]", "", "\n".join(lines_of("man/euler_align.1")))
     completion = "\n".join(lines_of("completions/euler_align.bash"))
-    for name, (required, optional) in table.items():
+    for name, (required, optional, reads, writes) in table.items():
+        known = ROWS.get(name, NONE)
+        if (known.required, known.optional, known.reads, known.writes) != (required, optional, reads, writes):
+            faults.append(f"tests/commands.py: {name} has other keys than the program's table")
         row = f"| `{name}` | " + " ".join([f"`{key}=`" for key in required] + [f"[`{key}=`]" for key in optional]) + " |"
         if row not in formats:
             faults.append(f"docs/FORMATS.md: no row of commands begins {row}")

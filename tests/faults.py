@@ -14,43 +14,10 @@ import subprocess
 import sys
 import tempfile
 
-HERE = os.path.dirname(os.path.abspath(__file__))
-ALONE = "taxonomy 1\n(A)\ntaxonomy 2\n(B)\n"
-PARTINGS = "taxonomy 1\n(A B C)\ntaxonomy 2\n(D E F)\narticulation\n[1.A equals 2.D]\n"
-EQUAL = "taxonomy 1\n(A B C)\ntaxonomy 2\n(D)\narticulation\n[1.B equals 2.D]\n[1.C equals 2.D]\n"
-SPLIT = (
-    "taxonomy 1\n(A)\ntaxonomy 2\n(B)\ntaxonomy 3\n(C)\narticulation\n"
-    "[1.A {equals disjoint} 2.B]\n[2.B {equals disjoint} 3.C]\n[1.A overlaps 3.C]\n"
-)
-TORN = SPLIT + "[1.A equals 2.B]\n"
-LISTING = "certificate 1 on on on .\nb 0 .\nw 1 = 1 0 0\nw 1 > 2 0,1 0\nw 1 < 2 0 0,1\nw 1 x 3 0,1 0,2\nw 1 ! 2 0 1\nend -\n"
-TOKEN = "token 2 2 1 0e840ad3c362ef009568403e4c4fb237f9a9b4416ef7c8fbc4f86c79753f6d10 <\n"
-OLD = {"c": "old c\n", "t": "old t\n", "z": "other\n"}
+from commands import FAILING_CALLS, files_written
 
-# A problem, files, and words.
-CASES = [
-    (ALONE, {}, "align in=p"),
-    (PARTINGS, {}, "align in=p worlds=2 token=t"),
-    (ALONE, {}, "align in=p nodes=3 token=t cert=c"),
-    (ALONE, {"r": TOKEN}, "align in=p resume=r nodes=1 token=t cert=c"),
-    (PARTINGS, {}, "align in=p cert=c"),
-    (EQUAL, {}, "align in=p cert=c"),
-    (ALONE, {"c": LISTING}, "check in=p cert=c"),
-    (ALONE, {"c": LISTING.replace("w 1 x 3 0,1 0,2\n", "")}, "check in=p cert=c"),
-    (ALONE, {"c": LISTING.replace("end -\n", "")}, "check in=p cert=c"),
-    (ALONE, {"r": TOKEN.replace("<", "?")}, "align in=p resume=r"),
-    (PARTINGS, {}, "mir in=p"),
-    (SPLIT, {}, "mir in=p cert=c"),
-    (TORN, {}, "mir in=p cert=c"),
-    (TORN, {}, "conflict in=p"),
-    (TORN, {}, "conflict in=p cert=c"),
-    (SPLIT, {}, "conflict in=p cert=c"),
-    (PARTINGS, {}, "report in=p kinds=count,tally,seen,merge,json"),
-    (TORN, {}, "report in=p kinds=merge"),
-    (ALONE, {}, "trial seed=1 size=14"),
-    ("taxonomy 1\n", {}, "align in=p"),
-    (ALONE, {}, "align in=p nodes=3"),
-]
+HERE = os.path.dirname(os.path.abspath(__file__))
+OLD = {"c": "old c\n", "t": "old t\n", "z": "other\n"}
 
 
 def file_of(name, text):
@@ -103,7 +70,7 @@ def fault_in(words, files, right, run):
         return "what is put is not a first part of what is right"
     given = {**OLD, **files}
     for name in held:
-        is_written = f"token={name}" in words or (f"cert={name}" in words and not words.startswith("check"))
+        is_written = name in files_written(words.split())
         if held[name] != given[name] and not (is_written and is_first_part(held[name], right[2][name])):
             return f"{name} holds something else"
     return None
@@ -136,8 +103,8 @@ def check_case(program, folder, case):
 def main():
     program = os.path.abspath(sys.argv[1] if len(sys.argv) > 1 else os.path.join(HERE, "../crates/run_scenes/out/run_scenes"))
     with tempfile.TemporaryDirectory() as folder:
-        count = sum(check_case(program, folder, case) for case in CASES)
-    print(f"{len(CASES)} runs, {count} calls that fail, nothing wrong")
+        count = sum(check_case(program, folder, case) for case in FAILING_CALLS)
+    print(f"{len(FAILING_CALLS)} runs, {count} calls that fail, nothing wrong")
 
 
 if __name__ == "__main__":

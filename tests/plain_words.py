@@ -1,55 +1,47 @@
 """What the words of the command line come to: their first usage fault, as docs/FORMATS.md has it."""
 
 import plain
-from random_cases import KINDS
+from commands import KEYS, KINDS, LIMIT, ROWS
 
 
 def usage_of(words):
     """The first usage fault of words, or None."""
-    rows = {
-        "align": (["in"], ["cert", "nonempty", "sibling", "coverage", "nodes", "worlds", "token", "resume"]),
-        "check": (["in", "cert"], ["nonempty", "sibling", "coverage"]),
-        "mir": (["in"], ["cert", "nonempty", "sibling", "coverage"]),
-        "conflict": (["in"], ["cert", "nonempty", "sibling", "coverage"]),
-        "report": (["in", "kinds"], ["nonempty", "sibling", "coverage"]),
-        "trial": (["seed", "size"], []),
-    }
     if not words:
         return "NoCommand"
-    if words[0] not in rows:
+    if words[0] not in ROWS:
         return "UnknownCommand"
-    required, optional = rows[words[0]]
+    row = ROWS[words[0]]
     given = {}
     for word in words[1:]:
         if "=" not in word:
             return "NotOperand"
         key, value = word.split("=", 1)
-        if key not in required + optional:
+        if key not in row.required + row.optional:
             return "UnknownKey"
         if key in given:
             return "KeyTwice"
-        if key in ("nonempty", "sibling", "coverage") and value not in ("on", "off"):
+        kind = KEYS[key]
+        if kind == "switch" and value not in ("on", "off"):
             return "BadSwitch"
-        if key in ("nodes", "worlds", "seed") and not plain.is_number(value, 0, 2**64 - 1):
+        least, most, step = LIMIT if kind == "limit" else kind if isinstance(kind, tuple) else (0, 0, 0)
+        if step and (not plain.is_number(value, least, most) or int(value) % step):
             return "BadNumber"
-        if key == "size" and (not plain.is_number(value, 14, 256) or int(value) % 2):
-            return "BadNumber"
-        if key in ("nodes", "worlds") and value == "0":
+        if kind == "limit" and value == "0":
             return "ZeroBudget"
-        if key in ("in", "cert", "token", "resume") and not value:
+        if kind == "file" and not value:
             return "EmptyName"
-        if key == "kinds":
+        if kind == "reports":
             kinds = value.split(",")
             if any(k not in KINDS for k in kinds):
                 return "UnknownKind"
             if len(set(kinds)) < len(kinds):
                 return "KindTwice"
         given[key] = value
-    if any(key not in given for key in required):
+    if any(key not in given for key in row.required):
         return "MissingKey"
     if ("nodes" in given or "worlds" in given) and "token" not in given:
         return "BudgetWithoutToken"
-    files = [given[k] for k in ("in", "cert", "token", "resume") if k in given]
+    files = [value for key, value in given.items() if KEYS[key] == "file"]
     if len(set(files)) < len(files):
         return "SameName"
     return None

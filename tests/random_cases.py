@@ -3,19 +3,9 @@
 import re
 
 import plain
+from commands import OTHER_WORDS, REQUESTS
 
 SWITCHES = [(a, b, c) for a in (True, False) for b in (True, False) for c in (True, False)]
-KINDS = ["count", "tally", "seen", "merge", "json"]
-REQUESTS = [
-    "align in=p", "align in=p cert=c", "align in=p nodes=3 token=t", "align in=p worlds=2 token=t resume=r cert=c sibling=off", "check in=p cert=c",
-    "mir in=p cert=c coverage=off", "conflict in=p nonempty=off", "report in=p kinds=count,seen", "trial seed=3 size=14",
-]
-OTHER_WORDS = [
-    "align", "check", "report", "trial", "mir", "conflict", "lattice", "in=p", "in=", "in=c", "cert=c", "cert=p", "cert=", "token=t", "token=p", "token=c",
-    "resume=r", "resume=t", "resume=p", "nodes=1", "nodes=0", "nodes=01", "worlds=2", "worlds=-1", "worlds=18446744073709551616", "nonempty=on", "nonempty=On",
-    "sibling=off", "coverage=1", "kinds=count", "kinds=", "kinds=count,seen", "kinds=count,count", "kinds=seen,x", "kinds=seen,", "seed=3", "seed=+3", "size=14",
-    "size=15", "size=300", "x", "=x", "y=z", "", "In=p", "--help",
-]
 
 
 def random_words(rng):

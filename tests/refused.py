@@ -15,25 +15,9 @@ import subprocess
 import sys
 import tempfile
 
-from faults import ALONE, EQUAL, LISTING, PARTINGS, SPLIT, TOKEN, TORN
+from commands import REFUSED_MEMORY
 
 HERE = os.path.dirname(os.path.abspath(__file__))
-# A problem, files, and words.
-CASES = [
-    (PARTINGS, {}, "align in=p"),
-    (PARTINGS, {}, "align in=p sibling=off nodes=40 token=t"),
-    (ALONE, {"r": TOKEN}, "align in=p resume=r nodes=1 token=t cert=c"),
-    (PARTINGS, {}, "align in=p cert=c"),
-    (EQUAL, {}, "align in=p cert=c nonempty=off"),
-    (ALONE, {"k": LISTING}, "check in=p cert=k"),
-    (SPLIT, {}, "mir in=p cert=c"),
-    (TORN, {}, "conflict in=p cert=c"),
-    (PARTINGS, {}, "report in=p kinds=count,tally,seen,merge,json"),
-    (ALONE, {}, "trial seed=1 size=14"),
-    ("taxonomy 1\n(A B)\n(B A)\n", {}, "align in=p"),
-    (ALONE, {"r": TOKEN[:-3]}, "align in=p resume=r"),
-    (ALONE, {}, "align in=p nodes=0"),
-]
 OLD = {"c": b"old c\n", "t": b"old t\n", "z": b"other\n"}
 
 
@@ -101,7 +85,7 @@ def main():
     given = parser.parse_args()
     with tempfile.TemporaryDirectory() as folder:
         bench = Bench(given.program, folder)
-        told = [check_case(bench, case, given.every) for case in CASES]
+        told = [check_case(bench, case, given.every) for case in REFUSED_MEMORY]
     runs, refused = sum(t[0] for t in told), sum(t[1] for t in told)
     print(f"{runs} runs, {refused} of them out of memory, the others right")
 

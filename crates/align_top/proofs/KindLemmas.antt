@@ -1,14 +1,16 @@
 -- Names of watchers that words may ask for.
-use Rattle.std.proofs.Common.{◌≡◌, ◌≢◌, ℕ, suc, Bool, true, false, cond, ◌||◌, ◌&&◌, List, [], ◌∷◌, map, None, Some, refl, sym, subst, arith}
+use Rattle.std.proofs.Common.{◌≡◌, ◌≢◌, ℕ, suc, Bool, true, false, cond, ◌||◌, ◌&&◌, List, [], ◌∷◌, map, None, Some, refl, sym, ap, subst, ◌∙◌, arith}
 use Rattle.std.specs.Prelude.{All, AllPairs, Contains, bytes_eq, not}
 use Rattle.std.specs.List.{list_all}
+use Rattle.std.proofs.lemmas.Slice.Eq.{bytes_eq-Decides}
 use Rattle.std.proofs.lemmas.List.Elements.{All-nil, All-cons}
 use Rattle.std.proofs.lemmas.List.Kept.{AllPairs-cons}
 use Rattle.cert_text.proofs.ReadLemmas.{is_word}
 use Rattle.command_line.specs.declared.UsageKind.TheVariants.{UnknownKind, KindTwice}
 use Rattle.command_line.specs.Words.{is_among, has_twice, names_fault}
-use Rattle.report_run.specs.Reporting.{Watched, AreKinds}
-use Rattle.listing_run.proofs.RequestLemmas.{one_bytes}
+use Rattle.world_watch.specs.Steps.{Texts}
+use Rattle.report_run.specs.Reporting.{Watched, watched, AreKinds}
+use Rattle.align_top.proofs.RunLemmas.{watched_names}
 
 -- a name among others is one of them, and one that is not among them is none
 there : (names : List (List ℕ)) (word : List ℕ) → is_among names word ≡ true → Contains names word
@@ -25,7 +27,7 @@ apart (name ∷ names) word e = by (bytes_eq word name) refl (apart names word) 
   where
     by : (b : Bool) → bytes_eq word name ≡ b → (is_among names word ≡ false → All (λ other. word ≢ other) names) → (b || is_among names word) ≡ false → All (λ other. word ≢ other) (name ∷ names)
     by true same rest h = cc
-    by false other rest h = All-cons (λ other. word ≢ other) name names (λ e. let t = subst (λ (xs : List ℕ). bytes_eq word xs ≡ true) e (one_bytes word) in cc) (rest h)
+    by false other rest h = All-cons (λ other. word ≢ other) name names (λ e. let t = subst (λ (xs : List ℕ). bytes_eq word xs ≡ true) e ((bytes_eq-Decides word word).1 refl) in cc) (rest h)
 
 -- so of all names of a list
 all_there : (names kinds : List (List ℕ)) → list_all (is_among names) kinds ≡ true → All (Contains names) kinds
@@ -45,7 +47,7 @@ none_twice (kind ∷ kinds) e = by (is_among kinds kind) refl (none_twice kinds)
     by false other rest h = AllPairs-cons (λ one other. one ≢ other) kind kinds (apart kinds kind other) (rest h)
 
 -- names without a fault can be asked for
-pub are_kinds : (watchers : List Watched) (kinds : List (List ℕ)) → names_fault (map (λ w. w.name) watchers) kinds ≡ None → AreKinds watchers kinds
+are_kinds : (watchers : List Watched) (kinds : List (List ℕ)) → names_fault (map (λ w. w.name) watchers) kinds ≡ None → AreKinds watchers kinds
 are_kinds watchers kinds e = by (list_all (is_among (map (λ w. w.name) watchers)) kinds) refl (has_twice kinds) refl e
   where
     by : (known : Bool) → list_all (is_among (map (λ w. w.name) watchers)) kinds ≡ known → (twice : Bool) → has_twice kinds ≡ twice
@@ -53,3 +55,7 @@ are_kinds watchers kinds e = by (list_all (is_among (map (λ w. w.name) watchers
     by false known twice same h = cc
     by true known true same h = cc
     by true known false same h = record { named = all_there (map (λ w. w.name) watchers) kinds known; once = none_twice kinds same }
+
+-- so of watchers as they are handed in
+pub kinds_by : {W : Type 0} (name : W → List ℕ) (text : W → Texts) (ws : List W) (kinds : List (List ℕ)) → names_fault (map name ws) kinds ≡ None → AreKinds (watched name text ws) kinds
+kinds_by name text ws kinds e = are_kinds (watched name text ws) kinds (ap (λ names. names_fault names kinds) (watched_names name text ws) ∙ e)

@@ -1,4 +1,3 @@
 pub mod KindLemmas
-pub mod MadeLemmas
 pub mod NameLemmas
 pub mod RunLemmas

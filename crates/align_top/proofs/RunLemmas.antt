@@ -1,37 +1,57 @@
 -- How a run ends that words ask for.
 use Rattle.std.proofs.Common.{◌≡◌, ℕ, List, [], ◌∷◌, map, Result, Ok, Err, refl, sym, ap, subst, ◌∙◌, inl, inr}
-use Rattle.command_line.specs.declared.UsageKind.{UsageKind}
-use Rattle.command_line.specs.declared.Request.{Request}
+use Rattle.outer_store.specs.Contents.{Contents}
+use Rattle.outer_store.specs.States.{StoreState, SinkState}
 use Rattle.world_watch.specs.Steps.{Texts}
+use Rattle.trial_make.specs.Made.{IsSize}
+use Rattle.command_line.specs.declared.UsageKind.{UsageKind}
+use Rattle.command_line.specs.declared.request.Request.{Request}
+use Rattle.command_line.specs.declared.request.TrialArgs.{TrialArgs}
+use Rattle.command_line.specs.Words.{request_of}
+use Rattle.command_line.specs.Requests.{Names, IsTrial, names_of}
 use Rattle.report_run.specs.Reporting.{Watched, watched}
 use Rattle.run_ends.specs.declared.Status.{Status}
 use Rattle.run_ends.specs.declared.Status.TheVariants as status
 use Rattle.run_ends.specs.Ends.{end_line, IsLastPut}
-use Rattle.outer_store.specs.States.{StoreState, SinkState}
 use Rattle.run_ends.specs.Runs.{IsRunOf}
 use Rattle.run_ends.proofs.EndLemmas.{run_early}
-use Rattle.align_top.specs.Output.{names_of, answers_to, request_by, IsRun}
-use Rattle.command_line.specs.Words.{request_of}
-use Rattle.align_top.specs.Steps.{IsMade}
-use Rattle.align_top.proofs.MadeLemmas.{made}
+use Rattle.align_top.specs.Output.{HasNames, answers_to, request_by, IsRun}
 
 -- words that are a request
-pub words_asked : (watchers : List Watched) (words : List (List ℕ)) (r : Request) (s : Status) (one other : StoreState) (old new : SinkState) → request_by watchers words ≡ Ok r
-    → IsRunOf (names_of (Ok r)) (answers_to watchers (Ok r)) s one other old new → IsRun watchers words s one other old new
-words_asked watchers words r s one other old new e run = subst (λ asked. IsRunOf (names_of asked) (answers_to watchers asked) s one other old new) (sym e) run
+words_asked : (watchers : List Watched) (words : List (List ℕ)) (r : Request) (s : Status) (one other : StoreState) (old new : SinkState) → request_by watchers words ≡ Ok r
+    → IsRunOf (names_of r) (answers_to watchers (Ok r)) s one other old new → IsRun watchers words s one other old new
+words_asked watchers words r s one other old new e run = record {
+  names = names_of r;
+  named = subst (λ asked. HasNames asked one.held (names_of r)) (sym e) refl;
+  run = subst (λ asked. IsRunOf (names_of r) (answers_to watchers asked) s one other old new) (sym e) run;
+}
 
 -- words that are none
-pub words_refused : (watchers : List Watched) (words : List (List ℕ)) (kind : UsageKind) (r : Status) (one : StoreState) (old new : SinkState) → request_by watchers words ≡ Err kind
+words_refused : (watchers : List Watched) (words : List (List ℕ)) (kind : UsageKind) (r : Status) (one : StoreState) (old new : SinkState) → request_by watchers words ≡ Err kind
     → IsLastPut (status.Usage kind) r (end_line (status.Usage kind)) old new → IsRun watchers words r one one old new
-words_refused watchers words kind r one old new e last =
-    subst (λ asked. IsRunOf (names_of asked) (answers_to watchers asked) r one one old new) (sym e)
-    (run_early (names_of (Err kind)) (answers_to watchers (Err kind)) (status.Usage kind) r one one old new (inl ((refl, refl, refl), refl, (refl, refl))) refl last)
+words_refused watchers words kind r one old new e last = record {
+  names = record { read = []; written = [] };
+  named = subst (λ asked. HasNames asked one.held (record { read = []; written = [] })) (sym e) refl;
+  run =
+      subst (λ asked. IsRunOf (record { read = []; written = [] }) (answers_to watchers asked) r one one old new) (sym e)
+      (run_early (record { read = []; written = [] }) (answers_to watchers (Err kind)) (status.Usage kind) r one one old new (inl ((refl, refl, refl), refl, (refl, refl))) refl last);
+}
+
+-- words have some names, whatever they ask for
+some_names : (asked : Result Request UsageKind) (held : Contents) → (names : Names) × HasNames asked held names
+some_names (Ok r) held = (names_of r, refl)
+some_names (Err kind) held = (record { read = []; written = [] }, refl)
 
 -- and want of memory before they are read
 pub words_starved : (watchers : List Watched) (words : List (List ℕ)) (r : Status) (one : StoreState) (old new : SinkState)
     → IsLastPut status.NoMemory r (end_line status.NoMemory) old new → IsRun watchers words r one one old new
 words_starved watchers words r one old new last =
-    run_early (names_of (request_by watchers words)) (answers_to watchers (request_by watchers words)) status.NoMemory r one one old new (inr (inr (refl, (refl, refl)))) refl last
+    let some = some_names (request_by watchers words) one.held in
+    record {
+      names = some.0;
+      named = some.1;
+      run = run_early some.0 (answers_to watchers (request_by watchers words)) status.NoMemory r one one old new (inr (inr (refl, (refl, refl)))) refl last;
+    }
 
 -- the names of watchers as they are seen
 pub watched_names : {W : Type 0} (name : W → List ℕ) (text : W → Texts) (ws : List W) → map (λ w. w.name) (watched name text ws) ≡ map name ws
@@ -43,15 +63,16 @@ request_named : {W : Type 0} (name : W → List ℕ) (text : W → Texts) (ws : 
 request_named name text ws words r e = ap (λ names. request_of names words) (watched_names name text ws) ∙ e
 
 -- what is asked for, of watchers as they are handed in
-pub made_by : {W : Type 0} (name : W → List ℕ) (text : W → Texts) (ws : List W) (words : List (List ℕ)) (r : Request) → request_of (map name ws) words ≡ Ok r → IsMade (watched name text ws) r
-made_by name text ws words r e = made (watched name text ws) words r (request_named name text ws words (Ok r) e)
-
 pub asked_by : {W : Type 0} (name : W → List ℕ) (text : W → Texts) (ws : List W) (words : List (List ℕ)) (r : Request) (s : Status) (one other : StoreState) (old new : SinkState)
-    → request_of (map name ws) words ≡ Ok r → IsRunOf (names_of (Ok r)) (answers_to (watched name text ws) (Ok r)) s one other old new → IsRun (watched name text ws) words s one other old new
+    → request_of (map name ws) words ≡ Ok r → IsRunOf (names_of r) (answers_to (watched name text ws) (Ok r)) s one other old new → IsRun (watched name text ws) words s one other old new
 asked_by name text ws words r s one other old new e run = words_asked (watched name text ws) words r s one other old new (request_named name text ws words (Ok r) e) run
 
 pub refused_by : {W : Type 0} (name : W → List ℕ) (text : W → Texts) (ws : List W) (words : List (List ℕ)) (kind : UsageKind) (r : Status) (one : StoreState) (old new : SinkState)
     → request_of (map name ws) words ≡ Err kind → IsLastPut (status.Usage kind) r (end_line (status.Usage kind)) old new → IsRun (watched name text ws) words r one one old new
 refused_by name text ws words kind r one old new e last = words_refused (watched name text ws) words kind r one old new (request_named name text ws words (Err kind) e) last
 
-pub ruleset words_rules = (made_by, asked_by, refused_by, words_starved)
+pub ruleset words_rules = (asked_by, refused_by, words_starved)
+
+-- a size that words ask for is one
+pub sized : (args : TrialArgs) → IsTrial args → IsSize args.size
+sized args trial = record { even = trial.even; least = trial.least; most = trial.most }

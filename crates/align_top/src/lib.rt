@@ -5,7 +5,7 @@ mod top;
 mod words;
 
 pub use command_line::{
-    Command, Key, UsageKind, WordsFault, command_help, fault_place, key_help, usage_help,
+    Command, Key, KeyKind, UsageKind, WordsFault, command_help, fault_place, key_help, usage_help,
 };
 pub use run_ends::{Status, TEXT_LIMIT, read_front, text_help};
 pub use top::run;

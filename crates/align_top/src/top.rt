@@ -1,15 +1,16 @@
 //! All that the program does with its words, a store and a sink.
-ghost use Rattle.std.specs.Prelude.{◌≡◌, List, map, string_bytes, Ok};
+ghost use Rattle.std.specs.Prelude.{◌≡◌, List, map, string_bytes, true, Ok};
+ghost use Rattle.command_line.specs.Requests.{IsMade, names_of};
 ghost use Rattle.run_ends.specs.Runs.{IsRunOf};
 ghost use Rattle.report_run.specs.Reporting.{Watched, watched};
-ghost use Rattle.align_top.specs.Output.{names_of, answers_to, IsRun};
-ghost use Rattle.align_top.specs.Steps.{IsPlain, IsReporting, IsMade, is_report};
+ghost use Rattle.align_top.specs.Output.{answers_to, IsRun};
+ghost use Rattle.align_top.specs.Steps.{IsPlain, is_report};
 
 use crate::words::read_words;
 use check_run::run_check;
 use claims_run::{Question, run_claims};
 use command_line::{Request, WordsFault};
-use listing_run::{Asking, run_listing};
+use listing_run::run_listing;
 use outer_store::{Sink, Store};
 use report_run::run_report;
 use run_ends::{Status, put_end};
@@ -21,7 +22,7 @@ use world_watch::WorldWatcher;
 fn is_report(request: &Request) -> bool
     ensures { result ≡ is_report request.now }
 {
-    matches!(request, Request::Report { .. })
+    matches!(request, Request::Report(_))
 }
 
 // Does what a request asks for that asks for no report.
@@ -32,62 +33,38 @@ fn run_plain<S: Store, W: Sink>(
     request: Request,
 ) -> Status
     requires { IsPlain request }
-    ensures { (watchers : List Watched) → IsRunOf (names_of (Ok request)) (answers_to watchers (Ok request)) result (S.state store.old) (S.state store.new) (W.state out.old) (W.state out.new) }
+    ensures { (watchers : List Watched) → IsRunOf (names_of request) (answers_to watchers (Ok request)) result (S.state store.old) (S.state store.new) (W.state out.old) (W.state out.new) }
 {
     match request {
-        Request::Align {
-            input,
-            cert,
-            switches,
-            nodes,
-            worlds,
-            token,
-            resume,
-        } => {
-            let asking = Asking {
-                input,
-                cert,
-                switches,
-                nodes,
-                worlds,
-                token,
-                resume,
-            };
-            run_listing(alloc, store, out, &asking)
-        }
-        Request::Check {
-            input,
-            cert,
-            switches,
-        } => run_check(alloc, store, out, input.text(), cert.text(), switches),
-        Request::Mir {
-            input,
-            cert,
-            switches,
-        } => run_claims(
+        Request::Align(args) => run_listing(alloc, store, out, &args),
+        Request::Check(args) => run_check(
+            alloc,
+            store,
+            out,
+            args.input.text(),
+            args.cert.text(),
+            args.switches,
+        ),
+        Request::Mir(args) => run_claims(
             alloc,
             store,
             out,
             Question::Relations,
-            input.text(),
-            &cert,
-            switches,
+            args.input.text(),
+            &args.cert,
+            args.switches,
         ),
-        Request::Conflict {
-            input,
-            cert,
-            switches,
-        } => run_claims(
+        Request::Conflict(args) => run_claims(
             alloc,
             store,
             out,
             Question::Conflicts,
-            input.text(),
-            &cert,
-            switches,
+            args.input.text(),
+            &args.cert,
+            args.switches,
         ),
-        Request::Trial { seed, size } => run_trial(alloc, out, seed, size),
-        Request::Report { .. } => unreachable!(),
+        Request::Trial(args) => run_trial(alloc, out, args.seed, args.size),
+        Request::Report(_) => unreachable!(),
     }
 }
 
@@ -99,24 +76,20 @@ fn run_reporting<S: Store, W: Sink>(
     request: Request,
     watchers: Vec<Box<dyn WorldWatcher>>,
 ) -> Status
-    requires { IsReporting (watched name text watchers.items) request }
-    ensures { IsRunOf (names_of (Ok request)) (answers_to (watched name text watchers.items) (Ok request)) result (S.state store.old) (S.state store.new) (W.state out.old) (W.state out.new) }
+    requires report { is_report request ≡ true }
+    requires made { IsMade (map name watchers.items) request }
+    ensures { IsRunOf (names_of request) (answers_to (watched name text watchers.items) (Ok request)) result (S.state store.old) (S.state store.new) (W.state out.old) (W.state out.new) }
 {
-    let Request::Report {
-        input,
-        kinds,
-        switches,
-    } = request
-    else {
+    let Request::Report(args) = request else {
         unreachable!()
     };
     run_report(
         alloc,
         store,
         out,
-        input.text(),
-        kinds.list(),
-        switches,
+        args.input.text(),
+        args.kinds.list(),
+        args.switches,
         watchers,
     )
 }
@@ -129,8 +102,8 @@ fn run_request<S: Store, W: Sink>(
     request: Request,
     watchers: Vec<Box<dyn WorldWatcher>>,
 ) -> Status
-    requires { IsMade (watched name text watchers.items) request }
-    ensures { IsRunOf (names_of (Ok request)) (answers_to (watched name text watchers.items) (Ok request)) result (S.state store.old) (S.state store.new) (W.state out.old) (W.state out.new) }
+    requires { IsMade (map name watchers.items) request }
+    ensures { IsRunOf (names_of request) (answers_to (watched name text watchers.items) (Ok request)) result (S.state store.old) (S.state store.new) (W.state out.old) (W.state out.new) }
 {
     if is_report(&request) {
         return run_reporting(alloc, store, out, request, watchers);

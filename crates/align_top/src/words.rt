@@ -1,6 +1,7 @@
 //! The words of the command line, where reports are asked for by the names of watchers.
 ghost use Rattle.std.specs.Prelude.{◌≡◌, Ok, Err, IfOk, map, bytes_eq, string_bytes};
 ghost use Rattle.command_line.specs.Words.{is_among, request_of, IfUsage};
+ghost use Rattle.command_line.specs.Requests.{IsMade};
 
 use command_line::{KnownNames, Request, WordsFault};
 use std::alloc::Global;
@@ -46,6 +47,7 @@ pub fn read_words(
     watchers: &Vec<Box<dyn WorldWatcher>>,
 ) -> Result<Request, WordsFault>
     ensures request { IfOk result (λ request. request_of (map name watchers.now.items) (map string_bytes words.now) ≡ Ok request) }
+    ensures made { IfOk result (IsMade (map name watchers.now.items)) }
     ensures usage { IfUsage result (λ kind. request_of (map name watchers.now.items) (map string_bytes words.now) ≡ Err kind) }
 {
     command_line::read_words(alloc, words, &NamesOf { watchers })

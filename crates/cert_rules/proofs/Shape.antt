@@ -142,7 +142,7 @@ record IsWhole (tree : Branching) (m : List Rel) (Kind : List Placed → Type 0)
   is : Kind first
   leads : Leads tree (past tree m) rest to
 
-record IsCut (m : List Rel) (Kind : List Rel → List Placed → Type 0) (lines : List Placed) (to : Option (List Rel)) : Type 0 where
+record IsCutOff (m : List Rel) (Kind : List Rel → List Placed → Type 0) (lines : List Placed) (to : Option (List Rel)) : Type 0 where
   stop : List Rel
   ends : to ≡ Some (m ++ stop)
   is : Kind stop lines
@@ -157,7 +157,7 @@ record IsCutBelow (m : List Rel) (Kind : Rel → List Placed → Type 0) (Before
 in_turn : (tree : Branching) (set : RelSet) (m : List Rel) (Kind : Rel → List Placed → Type 0) (Before : Rel → List Rel → List Placed → Type 0) →
     ((rel : Rel) → past tree (m ++ rel ∷ []) ≡ found_or m (next_of set rel) (past tree m)) →
     ((rel : Rel) (lines : List Placed) (to : Option (List Rel)) → Leads tree (Some (m ++ rel ∷ [])) lines to →
-    IsWhole tree (m ++ rel ∷ []) (Kind rel) lines to ⊎ IsCut (m ++ rel ∷ []) (Before rel) lines to) →
+    IsWhole tree (m ++ rel ∷ []) (Kind rel) lines to ⊎ IsCutOff (m ++ rel ∷ []) (Before rel) lines to) →
     (rels : List Rel) (next : Option Rel) → Chain set next rels → (lines : List Placed) (to : Option (List Rel)) → Leads tree (found_or m next (past tree m)) lines to →
     IsWhole tree m (InTurn Kind rels) lines to ⊎ IsCutBelow m Kind Before rels lines to
 in_turn tree set m Kind Before beside each [] next is lines to leads =
@@ -206,12 +206,12 @@ in_turn tree set m Kind Before beside each (rel ∷ rels) next is lines to leads
 
 -- lines that lead on from a node are those of the tree there, or of what is before a stop
 begins : (tree : Branching) (sets : List RelSet) (from m : List Rel) → Within tree sets from m → (lines : List Placed) (to : Option (List Rel)) → Leads tree (Some m) lines to →
-    IsWhole tree m (IsTreeAt tree sets from m) lines to ⊎ IsCut m (IsTreeBefore tree sets from m) lines to
+    IsWhole tree m (IsTreeAt tree sets from m) lines to ⊎ IsCutOff m (IsTreeBefore tree sets from m) lines to
 begins tree [] from m is [] to leads = inr (record { stop = []; ends = sym leads ∙ ap (λ n. Some n) (sym (append-nil m)); is = refl })
 begins tree (set ∷ sets) from m is [] to leads = inr (record { stop = []; ends = sym leads ∙ ap (λ n. Some n) (sym (append-nil m)); is = refl })
 begins tree [] from m is (placed ∷ lines) to leads = by (is_branch placed.line) refl
   where
-    by : (b : Bool) → is_branch placed.line ≡ b → IsWhole tree m (IsTreeAt tree [] from m) (placed ∷ lines) to ⊎ IsCut m (IsTreeBefore tree [] from m) (placed ∷ lines) to
+    by : (b : Bool) → is_branch placed.line ≡ b → IsWhole tree m (IsTreeAt tree [] from m) (placed ∷ lines) to ⊎ IsCutOff m (IsTreeBefore tree [] from m) (placed ∷ lines) to
     by false e = inl (record {
       first = placed ∷ [];
       rest = lines;
@@ -234,8 +234,8 @@ begins tree (set ∷ sets) from m is (placed ∷ lines) to leads =
 
     by : (b : Bool) → is_branch placed.line ≡ b →
         ((rel : Rel) (lines : List Placed) (to : Option (List Rel)) → Leads tree (Some (m ++ rel ∷ [])) lines to →
-        IsWhole tree (m ++ rel ∷ []) (Kind rel) lines to ⊎ IsCut (m ++ rel ∷ []) (Before rel) lines to) →
-        IsWhole tree m (IsTreeAt tree (set ∷ sets) from m) (placed ∷ lines) to ⊎ IsCut m (IsTreeBefore tree (set ∷ sets) from m) (placed ∷ lines) to
+        IsWhole tree (m ++ rel ∷ []) (Kind rel) lines to ⊎ IsCutOff (m ++ rel ∷ []) (Before rel) lines to) →
+        IsWhole tree m (IsTreeAt tree (set ∷ sets) from m) (placed ∷ lines) to ⊎ IsCutOff m (IsTreeBefore tree (set ∷ sets) from m) (placed ∷ lines) to
     by false e each = inl (record {
       first = placed ∷ [];
       rest = lines;

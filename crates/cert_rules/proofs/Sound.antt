@@ -47,7 +47,7 @@ pub record IsBranchingOf (tree : Branching) (given : List (List ℕ)) : Type 0 w
   pub room : length tree.from ≤ length tree.levels
 
 -- what is so where a tree stands
-pub record IsSound (tree : Branching) (s : Stand) : Type 0 where
+pub record IsSoundStand (tree : Branching) (s : Stand) : Type 0 where
   pub tree_is : IsBranchingOf tree s.proof.given
   pub follow : DerivedFollow s.proof
   pub shown : (m : List Rel) → s.at ≡ Some m → is_shown tree.from m ≡ true
@@ -161,7 +161,7 @@ leaf_is_dead tree proof m is follow (NoRelation depth last pair) leaf none = pai
 leaf_is_dead tree proof m is follow line leaf none = absurd (true≢false (sym leaf))
 
 -- a line at the expected node
-node_sound : (tree : Branching) (proof : State) (m : List Rel) (worlds : List (List Rel)) → IsSound tree (record { proof = proof; at = Some m; worlds = worlds }) →
+node_sound : (tree : Branching) (proof : State) (m : List Rel) (worlds : List (List Rel)) → IsSoundStand tree (record { proof = proof; at = Some m; worlds = worlds }) →
     (line : CertLine) → names m line ≡ true → node_fault tree proof m line ≡ None →
     IsExactly (Between (IsTableOf tree) tree.from (after_node tree (record { proof = proof; at = Some m; worlds = worlds }) line).at) (with_world worlds (Some m) line)
 node_sound tree proof m worlds s (Branch depth last) named none =
@@ -175,13 +175,13 @@ node_sound tree proof m worlds s (World depth last family) named none =
 node_sound tree proof m worlds s line named none = absurd (true≢false (sym named))
 
 -- a line of the tree
-pub tree_sound : (tree : Branching) (proof : State) (at : Option (List Rel)) (worlds : List (List Rel)) → IsSound tree (record { proof = proof; at = at; worlds = worlds }) →
-    (line : CertLine) → tree_fault tree proof at line ≡ None → IsSound tree (after_node tree (record { proof = proof; at = at; worlds = worlds }) line)
+pub tree_sound : (tree : Branching) (proof : State) (at : Option (List Rel)) (worlds : List (List Rel)) → IsSoundStand tree (record { proof = proof; at = at; worlds = worlds }) →
+    (line : CertLine) → tree_fault tree proof at line ≡ None → IsSoundStand tree (after_node tree (record { proof = proof; at = at; worlds = worlds }) line)
 tree_sound tree proof None worlds s line none = cc
 tree_sound tree proof (Some m) worlds s line none = by (names m line) refl none
   where
     by : (b : Bool) → names m line ≡ b → cond b (node_fault tree proof m line) (Some RejectKind.MissingBranch) ≡ None →
-        IsSound tree (after_node tree (record { proof = proof; at = Some m; worlds = worlds }) line)
+        IsSoundStand tree (after_node tree (record { proof = proof; at = Some m; worlds = worlds }) line)
     by false e none = cc
     by true e none = record {
       tree_is = s.tree_is;
@@ -198,7 +198,7 @@ no_line_fault (Some fault) e = cc
 pub proof_follows : (proof : State) (line : Line) → DerivedFollow proof → proof_fault proof line ≡ None → DerivedFollow (next_state proof line)
 proof_follows proof line follow none = DerivedFollow-next proof line follow (no_line_fault (line_fault proof line) none)
 
-pub proof_sound : (tree : Branching) (s : Stand) (line : Line) → IsSound tree s → proof_fault s.proof line ≡ None → IsSound tree (after_proof s line)
+pub proof_sound : (tree : Branching) (s : Stand) (line : Line) → IsSoundStand tree s → proof_fault s.proof line ≡ None → IsSoundStand tree (after_proof s line)
 proof_sound tree s line is none = record {
   tree_is = record {
     built = is.tree_is.built;
@@ -220,7 +220,7 @@ ends_there (Some m) (Some to) e = let same = same_positions m to (passes (same_p
 
 -- what lines lead to
 abbrev pub IsSoundStatus : Branching → Status Stand Listed → Type 0
-IsSoundStatus tree (Going n s) = IsSound tree s
+IsSoundStatus tree (Going n s) = IsSoundStand tree s
 IsSoundStatus tree (Ended listed) = IsExactly (Between (IsTableOf tree) tree.from listed.to) listed.worlds
 IsSoundStatus tree (Rejected number kind) = Unit {0}
 
@@ -228,7 +228,7 @@ unless_sound : (tree : Branching) (fault : Option RejectKind) (number : ℕ) (ne
 unless_sound tree None number next sound = sound refl
 unless_sound tree (Some kind) number next sound = tt
 
-take_sound : (tree : Branching) (n : ℕ) (s : Stand) (line : CertLine) (role : Role) → IsSound tree s → IsSoundStatus tree (take_by tree n s line role)
+take_sound : (tree : Branching) (n : ℕ) (s : Stand) (line : CertLine) (role : Role) → IsSoundStand tree s → IsSoundStatus tree (take_by tree n s line role)
 take_sound tree n s line (ForProof proof) is = unless_sound tree (proof_fault s.proof proof) (n + 1) _ (proof_sound tree s proof is)
 take_sound tree n s line (ForEnd to) is =
     unless_sound tree (end_fault s.at to) (n + 1) _ (λ none. subst (λ at. IsExactly (Between (IsTableOf tree) tree.from at) s.worlds) (ends_there s.at to none) is.exact)

@@ -33,7 +33,7 @@ use Rattle.set_family.specs.Sets.{family_from}
 use Rattle.cert_rules.specs.Laws.{IsSettled}
 use Rattle.cert_rules.proofs.Nexts.{below_nothing}
 use Rattle.cert_rules.proofs.Leaves.{built_with}
-use Rattle.cert_rules.proofs.Sound.{IsTableOf, IsBranchingOf, IsSound, tree_sound, proof_sound, proof_follows, ends_there, both_none, family_met, passes}
+use Rattle.cert_rules.proofs.Sound.{IsTableOf, IsBranchingOf, IsSoundStand, tree_sound, proof_sound, proof_follows, ends_there, both_none, family_met, passes}
 
 -- the problem of a subject is one
 flags_fit : (p : Problem) (kept : List Bool) → is_problem p ≡ true → length kept ≡ length p.articulations → is_problem (restricted p kept) ≡ true
@@ -87,7 +87,7 @@ block_stand proof at = record { proof = proof; at = at; worlds = [] }
 
 abbrev pub IsSoundBlock : Problem → State → Option Block → Type 0
 IsSoundBlock p proof None = Unit {0}
-IsSoundBlock p proof (Some block) = IsSound (subject_tree p block.subject) (block_stand proof block.at)
+IsSoundBlock p proof (Some block) = IsSoundStand (subject_tree p block.subject) (block_stand proof block.at)
 
 -- what is so where a list of claims stands
 pub record IsSoundClaims (p : Problem) (proof : State) (block : Option Block) (claims : List Claim) : Type 0 where
@@ -107,7 +107,7 @@ unless_sound p None number next sound = sound refl
 unless_sound p (Some kind) number next sound = tt
 
 -- no position comes before the empty one, where no table is found
-pub begins_sound : (tree : Branching) (proof : State) → IsBranchingOf tree proof.given → DerivedFollow proof → IsSound tree (block_stand proof (Some []))
+pub begins_sound : (tree : Branching) (proof : State) → IsBranchingOf tree proof.given → DerivedFollow proof → IsSoundStand tree (block_stand proof (Some []))
 begins_sound tree proof is follow = record {
   tree_is = is;
   follow = follow;
@@ -180,7 +180,7 @@ no_world (Some m) (World depth last family) e = cc
 no_world (Some m) line e = refl
 
 -- where the tree is whole, no family meets the problem of its subject
-whole_tree : (p : Problem) (proof : State) (block : Block) → IsSound (subject_tree p block.subject) (block_stand proof block.at) → block.at ≡ None →
+whole_tree : (p : Problem) (proof : State) (block : Block) → IsSoundStand (subject_tree p block.subject) (block_stand proof block.at) → block.at ≡ None →
     IsMet (subject_problem p block.subject) → ⊥
 whole_tree p proof block is whole met =
     let tree = subject_tree p block.subject in
@@ -206,7 +206,7 @@ inside p n proof block claims line ForNode e is =
       follow = is.follow;
       settled = is.settled;
       block_is =
-          subst (λ worlds. IsSound tree (record { proof = proof; at = tree_next tree block.at line; worlds = worlds })) (no_world block.at line e)
+          subst (λ worlds. IsSoundStand tree (record { proof = proof; at = tree_next tree block.at line; worlds = worlds })) (no_world block.at line e)
           (tree_sound tree proof block.at [] is.block_is line none);
     })
 inside p n proof block claims line ForEnd e is = unless_sound p (end_fault block.at None) (n + 1) _ (λ none.

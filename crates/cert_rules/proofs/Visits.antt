@@ -18,14 +18,14 @@ use Rattle.cert_rules.specs.Listings.{Status, Going, Ended, Rejected, unless, pr
 use Rattle.cert_rules.specs.ShownNodes.{IsShownNode, IsNextNode, Branches, node_by, line_node, visited, IsBranchAlive, AllBranchesAlive}
 use Rattle.cert_rules.proofs.Nexts.{below_nothing}
 use Rattle.cert_rules.proofs.Exact.{one_between}
-use Rattle.cert_rules.proofs.Sound.{IsSound, leaf_is_dead, table_length, tree_sound, proof_sound, ends_there}
+use Rattle.cert_rules.proofs.Sound.{IsSoundStand, leaf_is_dead, table_length, tree_sound, proof_sound, ends_there}
 use Rattle.cert_rules.proofs.Refuting.{tree_parts, branch_is_short, world_is_its_table}
 use Rattle.world_model.proofs.Nodes.{node_within}
 use Rattle.cert_rules.proofs.NextNodes.{covers, next_is_next}
 
 -- what is so where a listing stands: the expected node is a shown node, and those before it were seen
 pub record IsSeen (p : Problem) (from : List Rel) (s : Stand) (seen : List (List Rel)) : Type 0 where
-  pub sound : IsSound (listing_tree p from) s
+  pub sound : IsSoundStand (listing_tree p from) s
   pub node : (m : List Rel) → s.at ≡ Some m → IsShownNode p from m
   pub exact : IsExactly (Between (IsShownNode p from) [] s.at) seen
 
@@ -40,7 +40,7 @@ unless_seen p from None number next seen is = is refl
 unless_seen p from (Some kind) number next seen is = tt
 
 -- a line's node branches just where the line says so
-rightly : (p : Problem) (from m : List Rel) (proof : State) (worlds : List (List Rel)) → IsSound (listing_tree p from) (record { proof = proof; at = Some m; worlds = worlds }) → IsNode p m →
+rightly : (p : Problem) (from m : List Rel) (proof : State) (worlds : List (List Rel)) → IsSoundStand (listing_tree p from) (record { proof = proof; at = Some m; worlds = worlds }) → IsNode p m →
     (line : CertLine) → names m line ≡ true → node_fault (listing_tree p from) proof m line ≡ None → (is_branch line ≡ true → IsAlive (problem_at p m)) → Branches p m (is_branch line)
 rightly p from m proof worlds s node (Branch depth last) named none alive =
     (alive refl, short (node_within p m node) (branch_is_short (listing_tree p from) proof m (Branch depth last) none refl))
@@ -116,7 +116,7 @@ steps_seen p from status seen (line ∷ lines) is alive =
     (steps_seen p from (step tree status line) (seen ++ line_node status line) lines (step_seen p from status seen line is alive.0) alive.1)
 
 -- none is seen at first, and the root is a shown node
-pub none_seen : (p : Problem) (from : List Rel) → IsSound (listing_tree p from) (start p) → IsSeen p from (start p) []
+pub none_seen : (p : Problem) (from : List Rel) → IsSoundStand (listing_tree p from) (start p) → IsSeen p from (start p) []
 none_seen p from sound = record {
   sound = sound;
   node = λ m e. let empty : [] ≡ m = cc in subst (IsShownNode p from) empty (inl refl, sound.shown [] refl);

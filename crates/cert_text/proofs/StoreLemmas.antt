@@ -109,7 +109,7 @@ told_added (Some bytes) new line e one = by (lines_in bytes) refl
     by None f = tt
     by (Some lines) f = ap (lines_held false) e ∙ line_added bytes lines line f one
 
--- the same where a call answers Ok
+-- so it does where a call answers Ok that put the line
 pub told_ok : {T E : Type 0} (r : Result T E) (old new : Option (List ℕ)) (line : CertLine) → IsCertLine line → OnOk r (new ≡ added old (cert_text line ++ 10 ∷ [])) →
     OnOk r (IsToldWith (lines_held false old) line (lines_held false new))
 told_ok (Ok v) old new line one e = told_added old new line e one

@@ -10,13 +10,14 @@ use Rattle.proof_text.specs.Words.{position_word}
 use Rattle.cert_text.specs.Lines.{end_word, subject_words}
 use Rattle.cert_reader.specs.declared.fault.CertTextKind.{CertTextKind}
 use Rattle.cert_reader.specs.Bytes.{MayHold, ForSome}
-use Rattle.cert_reader.specs.Reading.{reading}
 use Rattle.cert_rules.specs.ClaimLists.{Claim}
-use Rattle.cert_rules.specs.Files.{Verdict, Listing, ClaimList, Answer, Accepts, Rejects, HasFault, answer_of}
+use Rattle.cert_rules.specs.Files.{Verdict, Listing, ClaimList, Answer, Accepts, Rejects, HasFault}
+use Rattle.part_rules.specs.Certs.{cert_answer}
 use Rattle.run_ends.specs.declared.Status.{Status}
 use Rattle.run_ends.specs.declared.Status.TheVariants.{Done, RefusedText, RefusedCert, Rejected}
 use Rattle.run_ends.specs.Ends.{line_of, world_line, end_line}
-use Rattle.run_ends.specs.Runs.{File, Names}
+use Rattle.command_line.specs.Requests.{Names}
+use Rattle.run_ends.specs.Runs.{File}
 
 -- the line of a claim: whether it holds, and its subject
 abbrev pub claim_word : Bool → List ℕ
@@ -47,10 +48,6 @@ abbrev pub text_by : Answer CertTextKind → List ℕ
 text_by (Accepts verdict) = verdict_text verdict
 text_by (Rejects line kind) = end_line (Rejected line kind)
 text_by (HasFault line kind) = end_line (RefusedCert line kind)
-
--- the answer to a certificate's bytes
-abbrev pub cert_answer : Problem → List ℕ → Answer CertTextKind
-cert_answer p bytes = answer_of p (reading bytes).lines (reading bytes).ends
 
 -- what comes of the certificate of a problem, by bytes that there may be under its name
 abbrev pub IsCertAnswer : Problem → Option (List ℕ) → Status → List ℕ → Type 0

@@ -1,6 +1,6 @@
 -- An answer whose certificate a store holds.
-use Rattle.std.proofs.Common.{◌≡◌, ℕ, ◌≤◌, Bool, false, length, List, [], ◌∷◌, ◌++◌, Option, None, Some, IfSome, IfOk, Result, Ok, Err, refl, sym, ap, subst, ◌∙◌, arith}
-use Rattle.std.specs.Prelude.{⊤, ◌^◌, Contains}
+use Rattle.std.proofs.Common.{◌≡◌, ℕ, ◌≤◌, Bool, false, length, List, [], ◌∷◌, ◌++◌, Option, None, Some, IfSome, IfOk, Result, Ok, Err, refl, sym, ap, subst, ◌∙◌}
+use Rattle.std.specs.Prelude.{⊤, ◌^◌}
 use Rattle.std.specs.Result.{IsErrAnd}
 use Rattle.std.specs.Borrow.{Bor}
 use Rattle.outer_store.specs.Contents.{Contents, OthersKept, emptied}
@@ -16,8 +16,8 @@ use Rattle.cert_text.specs.declared.store_log.StoreLog.{StoreLog}
 use Rattle.cert_text.proofs.StoreLemmas.{told_bytes}
 use Rattle.cert_text.specs.StoreLogs.{log_store, log_name, is_refused}
 use Rattle.cert_reader.specs.Reading.{Reading}
-use Rattle.cert_rules.specs.Listings.{Status, Going}
-use Rattle.cert_rules.specs.ClaimLists.{Claim, ClaimStand, claim_step, claim_start}
+use Rattle.cert_rules.specs.Listings.{Going}
+use Rattle.cert_rules.specs.ClaimLists.{Claim, claim_start}
 use Rattle.cert_rules.specs.ClaimWriting.{ClaimsKeepUp}
 use Rattle.cert_check.proofs.WrittenClaims.{written_claims_are_read, written_claims_are_accepted_law}
 use Rattle.search_log.specs.declared.fault.StepFault.{StepFault}
@@ -26,7 +26,7 @@ use Rattle.search_log.specs.Logging.{IfLogFailed, LogGoes, store_fault}
 use Rattle.split_search.specs.Claiming.{AllClaimBranchesAlive}
 use Rattle.claim_blocks.proofs.Steps.{alive_more}
 use Rattle.outer_store.specs.States.{StoreState, IsQuiet, OnlyWritten, IsQuiet-joins}
-use Rattle.run_ends.specs.Runs.{HasFailed, AreKeptBut}
+use Rattle.run_ends.specs.Runs.{HasFailed}
 use Rattle.run_ends.proofs.OneName.{kept_but_one, write_failed}
 use Rattle.claims_run.specs.declared.question.Question.{Question}
 use Rattle.claims_run.specs.declared.question.Answer.{Answer}

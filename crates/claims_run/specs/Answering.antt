@@ -25,8 +25,9 @@ use Rattle.world_watch.specs.Kinds.{set_at, seen_lines}
 use Rattle.run_ends.specs.declared.Status.{Status}
 use Rattle.run_ends.specs.declared.Status.TheVariants as status
 use Rattle.run_ends.specs.Ends.{line_of, end_line}
-use Rattle.run_ends.specs.Runs.{File, Names, file_under}
-use Rattle.check_run.specs.Checking.{cert_answer}
+use Rattle.command_line.specs.Requests.{Names}
+use Rattle.run_ends.specs.Runs.{File, file_under}
+use Rattle.part_rules.specs.Certs.{cert_answer}
 use Rattle.claims_run.specs.declared.question.Question.{Question}
 use Rattle.claims_run.specs.declared.question.Question.TheVariants as question
 use Rattle.claims_run.specs.declared.question.Answer.{Answer}

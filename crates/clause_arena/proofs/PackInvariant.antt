@@ -11,7 +11,7 @@ use lib.Seq.{paste}
 use Rattle.clause_arena.specs.declared.arena.Head.{Head}
 use Rattle.clause_arena.specs.Records.{Record, no_record, record_at, unlinked, compacted}
 use Rattle.clause_arena.specs.Layout.{record_of, records_of, AreInOrder, head_moved, MovesDown, Packs}
-use Rattle.clause_arena.specs.Movings.{new_ref, place_after, LeadsTo}
+use Rattle.clause_arena.specs.Movings.{new_ref, place_after, AreMoves}
 use Rattle.clause_arena.proofs.Ranges.{AreInOrder-within, AreInOrder-push, AreInOrder-earlier, records_of-below, records_of-above}
 
 -- what is so after the first `i` of the heads `hs` over the codes `cs`: `heads` and `codes` are the lists now, of which `kept` heads and `end` codes are done
@@ -252,8 +252,8 @@ records_of-cut hs cs heads codes table kept end p =
     records_of-below (take end codes) codes (take kept heads) 0 end (take-take end end codes (omega arith)) p.order ∙ p.records
 
 -- a pair leads from a record to it
-pub LeadsTo-from_places : (pairs : List (ℕ × ℕ)) (rs : List Record) → ((at : ℕ) → new_ref pairs at ≡ place_after rs at) → LeadsTo pairs rs (compacted rs)
-LeadsTo-from_places pairs rs places at =
+pub AreMoves-from_places : (pairs : List (ℕ × ℕ)) (rs : List Record) → ((at : ℕ) → new_ref pairs at ≡ place_after rs at) → AreMoves pairs rs (compacted rs)
+AreMoves-from_places pairs rs places at =
     let P : Option ℕ → Type 0 = λ o. IfSome o (λ to. (to < length (compacted rs)) × (record_at (compacted rs) to ≡ unlinked (record_at rs at))) in
     let go : (b : Bool) → (record_at rs at).live ≡ b → P (cond b (Some (count_by (λ r. r.live) (take at rs))) None) = λ b. elim b as (λ b. (record_at rs at).live ≡ b → P (cond b (Some (count_by (λ r. r.live) (take at rs))) None)) [ true ↦ λ on. record_at-compacted rs at on | false ↦ λ off. tt ] in
     subst P (sym (places at)) (go (record_at rs at).live refl)

@@ -24,6 +24,6 @@ place_after records at =
     if (record_at records at).live then Some (count_by (λ r. r.live) (take at records)) else None
 
 -- a pair leads from a live record to that record under its new Ref
-abbrev pub LeadsTo : List (ℕ × ℕ) → List Record → List Record → Type 0
-LeadsTo pairs old new =
+abbrev pub AreMoves : List (ℕ × ℕ) → List Record → List Record → Type 0
+AreMoves pairs old new =
     (at : ℕ) → IfSome (new_ref pairs at) (λ to. (to < length new) × (record_at new to ≡ unlinked (record_at old at)))

@@ -1,7 +1,7 @@
 //! The arena of clauses: their literals in one list, a head for each.
 ghost use Rattle.std.specs.Prelude.{◌≡◌, ℕ, ◌+◌, ◌^◌, ◌<◌, ◌≤◌, ◌↔◌, IsTrue, MatchOption, [], ◌∷◌, ◌++◌, length, slice_index, slice_set, OnErr, OnOk, IfOk, None, Some, if◌then◌else◌, nat_lt, ◌==◌};
 ghost use Rattle.clause_arena.specs.Records.{new_record, record_at, link_of, with_link, with_lits_swapped, forgotten, compacted};
-ghost use Rattle.clause_arena.specs.Movings.{new_ref, place_after, LeadsTo};
+ghost use Rattle.clause_arena.specs.Movings.{new_ref, place_after, AreMoves};
 
 use crate::moves::Moves;
 use crate::pack::pack;
@@ -240,7 +240,7 @@ impl Arena {
         requires no_pairs { moves.old.pairs ≡ [] }
         ensures kept { self.new ≡ compacted self.old }
         ensures moved { (at : ℕ) → new_ref moves.new.pairs at ≡ place_after self.old at }
-        ensures leads { LeadsTo moves.new.pairs self.old self.new }
+        ensures leads { AreMoves moves.new.pairs self.old self.new }
         ensures spare { moves.new.spare ≡ moves.old.spare }
     {
         let packed = pack(&mut self.heads, &mut self.codes, &mut moves.table);

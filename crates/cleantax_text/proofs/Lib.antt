@@ -7,6 +7,7 @@ pub mod TextLemmas
 pub mod PieceLemmas
 pub mod CutLemmas
 pub mod NamedLemmas
+pub mod DottedLemmas
 pub mod ScanLemmas
 pub mod RegrowLemmas
 pub mod RowsBackLemmas

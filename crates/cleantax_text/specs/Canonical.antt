@@ -1,5 +1,5 @@
 -- The canonical text of a problem.
-use Rattle.std.specs.Prelude.{ℕ, ◌==◌, List, [], ◌∷◌, ◌++◌, length, map, filter, flat_map, true, false, if◌then◌else◌, codes}
+use Rattle.std.specs.Prelude.{ℕ, ◌==◌, List, [], ◌∷◌, ◌++◌, length, map, filter, flat_map, find, Option, bytes_eq, true, false, if◌then◌else◌, codes}
 use Rattle.std.specs.List.{range_with_len}
 use Rattle.rcc5_core.specs.declared.Rel.{Rel}
 use Rattle.rcc5_core.specs.declared.Rel.TheVariants.{Equals, Includes, IncludedIn, Overlaps, Disjoint}
@@ -18,6 +18,10 @@ spaced pieces = flat_map (λ piece. 32 ∷ piece) pieces
 -- ID.NAME
 abbrev pub concept_text : Problem → ℕ → List ℕ
 concept_text p c = taxonomy_of p (owner_of p c) ++ 46 ∷ name_of p c
+
+-- the concept that a word names as ID.NAME, if any: the first
+abbrev pub concept_named : Problem → List ℕ → Option ℕ
+concept_named p word = find (λ c. bytes_eq (concept_text p c) word) (concepts p)
 
 -- the word that is printed for a relation
 abbrev pub word_of : Rel → List ℕ

@@ -9,11 +9,13 @@ ghost use Rattle.cleantax_text.specs.declared.TextKind.TheVariants.{NoMemory};
 
 mod entries;
 mod forms;
+mod named;
 mod naming;
 mod print;
 mod reader;
 mod text;
 
+pub use crate::named::concept_named;
 pub use crate::print::{articulation_text, concept_text, print_problem};
 pub use crate::text::MAX_TEXT_LEN;
 use constraint_set::Problem;

@@ -23,7 +23,7 @@ fn put(out: &mut Vec<u8>, bytes: &[u8]) -> Result<(), AllocError>
     Ok(())
 }
 
-fn owner_within(problem: &Problem, concept: u32) -> u32
+pub(crate) fn owner_within(problem: &Problem, concept: u32) -> u32
     requires { concept < concept_count problem.now }
     ensures owner { result ≡ owner_of problem.now concept }
     ensures within { result < length problem.now.taxonomies }

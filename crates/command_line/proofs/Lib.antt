@@ -1,3 +1,6 @@
 pub mod WordsLemmas
+pub mod NameLemmas
 pub mod ValueLemmas
+pub mod MadeLemmas
 pub mod KindLemmas
+pub mod RowLemmas

@@ -2,13 +2,16 @@
 use Rattle.std.proofs.Common.{◌≡◌, ℕ, ◌≤◌, ◌%◌, nat_eq, Bool, true, false, cond, List, [], ◌∷◌, ◌++◌, Option, None, Some, IfSome, Result, Ok, Err, refl, subst, arith}
 use Rattle.std.specs.Prelude.{find, option_map, option_and_then, unwrap_or}
 use Rattle.std.proofs.lemmas.Bool.{eqb-true}
+use Rattle.proof_text.specs.Numbers.{number_in}
 use Rattle.proof_text.proofs.NumberLemmas.{number_in-spells}
 use Rattle.command_line.specs.declared.UsageKind.TheVariants.{BadNumber}
-use Rattle.command_line.specs.declared.Key.{Key}
-use Rattle.command_line.specs.declared.Key.TheVariants.{In, Cert, Nonempty, Sibling, Coverage, Nodes, Worlds, Token, Resume, Kinds, Seed, Size}
+use Rattle.command_line.specs.declared.table.Key.{Key}
+use Rattle.command_line.specs.declared.table.Key.TheVariants.{Kinds, Size}
 use Rattle.command_line.specs.declared.Operand.{Operand}
 use Rattle.command_line.specs.declared.UsageKind.{UsageKind}
-use Rattle.command_line.specs.Words.{Row, kind_of, same_key, value_fault, need, and_then, fail_if, unless, key_in, cut_word, is_given, operand_of, operands_of, value_of, names_in, names_fault, kinds_of, size_of, size_fault, size_in}
+use Rattle.command_line.specs.Table.{Row, kind_of, same_key}
+use Rattle.command_line.proofs.NameLemmas.{same_key_is}
+use Rattle.command_line.specs.Words.{value_fault, need, and_then, fail_if, unless, key_in, cut_word, is_given, operand_of, operands_of, value_of, names_in, names_fault, kinds_of, even_fault, size_in}
 
 -- a value comes of each step
 pub need_ok : {X Y : Type 0} (o : Option X) (kind : UsageKind) (further : X → Result Y UsageKind) (y : Y) → need o kind further ≡ Ok y → (x : X) × (further x ≡ Ok y)
@@ -27,7 +30,7 @@ unless_ok : {Y : Type 0} (fault : Option UsageKind) (rest : Result Y UsageKind) 
 unless_ok None rest y e = (refl, e)
 unless_ok (Some kind) rest y e = cc
 
--- the same good results
+-- good results that are one
 abbrev Same : Operand → Operand → Type 0
 Same a b = ◌≡◌ {A = Result Operand UsageKind} (Ok a) (Ok b)
 
@@ -87,54 +90,26 @@ found_valued known key (o ∷ os) operand valued e = by (same_key o.key key) ref
         here a b one two same = subst (λ (o : Operand). IsValued known o × (same_key o.key key ≡ true)) (some_same a b same) (one, two)
     by false at rest same = rest same
 
-of_kinds : (key : Key) → same_key key Kinds ≡ true → key ≡ Kinds
-of_kinds In e = cc
-of_kinds Cert e = cc
-of_kinds Nonempty e = cc
-of_kinds Sibling e = cc
-of_kinds Coverage e = cc
-of_kinds Nodes e = cc
-of_kinds Worlds e = cc
-of_kinds Token e = cc
-of_kinds Resume e = cc
-of_kinds Kinds e = refl
-of_kinds Seed e = cc
-of_kinds Size e = cc
-
-of_size : (key : Key) → same_key key Size ≡ true → key ≡ Size
-of_size In e = cc
-of_size Cert e = cc
-of_size Nonempty e = cc
-of_size Sibling e = cc
-of_size Coverage e = cc
-of_size Nodes e = cc
-of_size Worlds e = cc
-of_size Token e = cc
-of_size Resume e = cc
-of_size Kinds e = cc
-of_size Seed e = cc
-of_size Size e = refl
-
 -- the names of reports that are given have no fault, nor has the size
 given_kinds : (known : List (List ℕ)) (operands : List Operand) (o : Option Operand) → AreValued known operands → find (λ o. same_key o.key Kinds) operands ≡ o
     → (option_map (λ o. o.value) o ≡ None → ⊥) → names_fault known (names_in (unwrap_or (option_map (λ o. o.value) o) [])) ≡ None
 given_kinds known operands None valued found given = absurd (given refl)
 given_kinds known operands (Some o) valued found given =
     let one = found_valued known Kinds operands o valued found in
-    subst (λ (key : Key). value_fault known (kind_of key) o.value ≡ None) (of_kinds o.key one.1) one.0
+    subst (λ (key : Key). value_fault known (kind_of key) o.value ≡ None) (same_key_is o.key Kinds one.1) one.0
 
 pub kinds_valued : (known : List (List ℕ)) (operands : List Operand) → AreValued known operands → (value_of operands Kinds ≡ None → ⊥) → names_fault known (kinds_of operands) ≡ None
 kinds_valued known operands valued given = given_kinds known operands (find (λ o. same_key o.key Kinds) operands) valued refl given
 
 given_size : (known : List (List ℕ)) (operands : List Operand) (o : Option Operand) → AreValued known operands → find (λ o. same_key o.key Size) operands ≡ o
-    → (option_map (λ o. o.value) o ≡ None → ⊥) → size_fault (option_and_then size_of (option_map (λ o. o.value) o)) ≡ None
+    → (option_map (λ o. o.value) o ≡ None → ⊥) → even_fault (option_and_then (number_in 14 256) (option_map (λ o. o.value) o)) ≡ None
 given_size known operands None valued found given = absurd (given refl)
 given_size known operands (Some o) valued found given =
     let one = found_valued known Size operands o valued found in
-    subst (λ (key : Key). value_fault known (kind_of key) o.value ≡ None) (of_size o.key one.1) one.0
+    subst (λ (key : Key). value_fault known (kind_of key) o.value ≡ None) (same_key_is o.key Size one.1) one.0
 
 -- a size without a fault is one
-sized : (o : Option ℕ) → IfSome o (λ n. (14 ≤ n) × (n ≤ 256)) → size_fault o ≡ None → (unwrap_or o 0 % 2 ≡ 0) × (14 ≤ unwrap_or o 0) × (unwrap_or o 0 ≤ 256)
+sized : (o : Option ℕ) → IfSome o (λ n. (14 ≤ n) × (n ≤ 256)) → even_fault o ≡ None → (unwrap_or o 0 % 2 ≡ 0) × (14 ≤ unwrap_or o 0) × (unwrap_or o 0 ≤ 256)
 sized None within e = cc
 sized (Some n) within e = (by (nat_eq (n % 2) 0) refl e, within.0, within.1)
   where
@@ -142,15 +117,15 @@ sized (Some n) within e = (by (nat_eq (n % 2) 0) refl e, within.0, within.1)
     by true same e = eqb-true (n % 2) 0 same
     by false same e = cc
 
-in_range : (o : Option (List ℕ)) → IfSome (option_and_then size_of o) (λ n. (14 ≤ n) × (n ≤ 256))
+in_range : (o : Option (List ℕ)) → IfSome (option_and_then (number_in 14 256) o) (λ n. (14 ≤ n) × (n ≤ 256))
 in_range None = tt
-in_range (Some word) = by (size_of word) refl
+in_range (Some word) = by (number_in 14 256 word) refl
   where
-    by : (o : Option ℕ) → size_of word ≡ o → IfSome o (λ n. (14 ≤ n) × (n ≤ 256))
+    by : (o : Option ℕ) → number_in 14 256 word ≡ o → IfSome o (λ n. (14 ≤ n) × (n ≤ 256))
     by None e = tt
     by (Some n) e = let spells = number_in-spells 14 256 n word (omega arith) e in (spells.above, spells.below)
 
 pub size_valued : (known : List (List ℕ)) (operands : List Operand) → AreValued known operands → (value_of operands Size ≡ None → ⊥)
     → (size_in operands % 2 ≡ 0) × (14 ≤ size_in operands) × (size_in operands ≤ 256)
 size_valued known operands valued given =
-    sized (option_and_then size_of (value_of operands Size)) (in_range (value_of operands Size)) (given_size known operands (find (λ o. same_key o.key Size) operands) valued refl given)
+    sized (option_and_then (number_in 14 256) (value_of operands Size)) (in_range (value_of operands Size)) (given_size known operands (find (λ o. same_key o.key Size) operands) valued refl given)

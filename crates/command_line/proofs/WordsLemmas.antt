@@ -6,10 +6,11 @@ use Rattle.std.proofs.lemmas.List.{drop_more}
 use Rattle.std.specs.declared.string.String.{String}
 use Rattle.std.specs.declared.alloc.Global.{Global}
 use Rattle.text_words.proofs.WordLemmas.{any_placed, none_placed}
-use Rattle.command_line.specs.declared.Key.{Key}
+use Rattle.command_line.specs.declared.table.Key.{Key}
 use Rattle.command_line.specs.declared.Operand.{Operand}
 use Rattle.command_line.specs.declared.UsageKind.{UsageKind}
-use Rattle.command_line.specs.Words.{Row, key_name, key_among, is_equals, cut_word, and_then, operand_of, operands_of}
+use Rattle.command_line.specs.Table.{Row, key_name}
+use Rattle.command_line.specs.Words.{key_among, is_equals, cut_word, and_then, operand_of, operands_of}
 
 -- a key of the first list is found there
 pub key_among-first : (first second : List Key) (name : List ℕ) (key : Key) → key_among first name ≡ Some key → key_among (first ++ second) name ≡ Some key

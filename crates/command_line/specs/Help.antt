@@ -1,19 +1,22 @@
 -- What people are told besides: the words that there are, and where a fault of a text stands.
 use Rattle.std.specs.Prelude.{ℕ, ◌==◌, if◌then◌else◌, List, [], ◌∷◌, ◌++◌, flat_map, codes, decimal}
-use Rattle.command_line.specs.declared.Command.{Command}
-use Rattle.command_line.specs.declared.Key.{Key}
-use Rattle.command_line.specs.declared.KeyKind.{KeyKind}
-use Rattle.command_line.specs.declared.KeyKind.TheVariants.{FileName, OnOff, Limit, ReportNames, Number, EvenSize}
-use Rattle.command_line.specs.Words.{Row, row_of, all_commands, key_name, kind_of}
+use Rattle.command_line.specs.declared.table.Command.{Command}
+use Rattle.command_line.specs.declared.table.Key.{Key}
+use Rattle.command_line.specs.declared.table.KeyKind.{KeyKind}
+use Rattle.command_line.specs.declared.table.KeyKind.TheVariants.{Switch, FileName, FileNames, ReportNames, Text, Letters, Limit, Number, EvenNumber}
+use Rattle.command_line.specs.Table.{Row, row_of, all_commands, key_name, kind_of}
 
 -- how a value is shown
 abbrev pub value_form : KeyKind → List ℕ
+value_form Switch = codes "on|off"
 value_form FileName = codes "FILE"
-value_form OnOff = codes "on|off"
-value_form Limit = codes "NUMBER"
+value_form FileNames = codes "FILE,.."
 value_form ReportNames = codes "KIND,.."
-value_form Number = codes "NUMBER"
-value_form EvenSize = codes "NUMBER"
+value_form Text = codes "TEXT"
+value_form Letters = codes "LETTERS"
+value_form Limit = codes "NUMBER"
+value_form (Number least most) = codes "NUMBER"
+value_form (EvenNumber least most) = codes "NUMBER"
 
 -- how a key is shown, with its value
 abbrev pub key_form : Key → List ℕ

@@ -1,2 +1,4 @@
+pub mod Table
 pub mod Words
+pub mod Requests
 pub mod Help

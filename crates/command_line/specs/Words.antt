@@ -1,103 +1,26 @@
 -- The words of the command line: a request, or the first usage fault.
 use Rattle.std.specs.Prelude.{ℕ, ◌==◌, ◌%◌, Bool, true, false, not, ◌||◌, ◌&&◌, ◌-◌, ◌^◌, List, [], ◌∷◌, ◌++◌, length, find, Option, Some, None, option_map, option_and_then, unwrap_or, Result, Ok, Err, if◌then◌else◌, bytes_eq, codes, ⊤}
 use Rattle.std.specs.List.{list_any, list_all, before_first, after_first}
+use Rattle.rcc5_core.specs.declared.RelSet.{RelSet}
 use Rattle.proof_text.specs.Numbers.{number_in}
 use Rattle.proof_text.specs.Words.{words_of}
+use Rattle.text_words.specs.Words.{set_of_letters}
 use Rattle.world_model.specs.declared.Switches.{Switches}
-use Rattle.command_line.specs.declared.Key.{Key}
-use Rattle.command_line.specs.declared.Key.TheVariants.{In, Cert, Nonempty, Sibling, Coverage, Nodes, Worlds, Token, Resume, Kinds, Seed, Size}
-use Rattle.command_line.specs.declared.KeyKind.{KeyKind}
-use Rattle.command_line.specs.declared.KeyKind.TheVariants.{FileName, OnOff, Limit, ReportNames, Number, EvenSize}
-use Rattle.command_line.specs.declared.Command.{Command}
-use Rattle.command_line.specs.declared.Command.TheVariants as command
+use Rattle.command_line.specs.declared.table.Key.{Key}
+use Rattle.command_line.specs.declared.table.Key.TheVariants.{In, Cert, Nonempty, Sibling, Coverage, Nodes, Worlds, Token, Resume, Kinds, Seed, Size}
+use Rattle.command_line.specs.declared.table.KeyKind.{KeyKind}
+use Rattle.command_line.specs.declared.table.KeyKind.TheVariants.{Switch, FileName, FileNames, ReportNames, Text, Letters, Limit, Number, EvenNumber}
+use Rattle.command_line.specs.declared.table.Command.{Command}
+use Rattle.command_line.specs.declared.table.Command.TheVariants as command
 use Rattle.command_line.specs.declared.Operand.{Operand}
 use Rattle.command_line.specs.declared.UsageKind.{UsageKind}
-use Rattle.command_line.specs.declared.UsageKind.TheVariants.{NoCommand, UnknownCommand, NotOperand, UnknownKey, KeyTwice, BadSwitch, BadNumber, ZeroBudget, EmptyName, UnknownKind, KindTwice, MissingKey, BudgetWithoutToken, SameName}
-use Rattle.command_line.specs.declared.Request.{Request}
-use Rattle.command_line.specs.declared.Request.TheVariants.{Align, Check, Mir, Conflict, Report, Trial}
+use Rattle.command_line.specs.declared.UsageKind.TheVariants.{NoCommand, UnknownCommand, NotOperand, UnknownKey, KeyTwice, BadSwitch, BadNumber, BadSet, ZeroBudget, EmptyName, UnknownKind, KindTwice, MissingKey, BudgetWithoutToken, SameName}
+use Rattle.command_line.specs.declared.request.Request.{Request}
+use Rattle.command_line.specs.declared.request.Request.TheVariants.{Align, Check, Mir, Conflict, Report, Trial}
+use Rattle.command_line.specs.declared.request.ClaimsArgs.{ClaimsArgs}
 use Rattle.command_line.specs.declared.WordsFault.{WordsFault}
 use Rattle.command_line.specs.declared.WordsFault.TheVariants.{Usage, NoMemory}
-
--- how a key is written
-abbrev pub key_name : Key → List ℕ
-key_name In = codes "in"
-key_name Cert = codes "cert"
-key_name Nonempty = codes "nonempty"
-key_name Sibling = codes "sibling"
-key_name Coverage = codes "coverage"
-key_name Nodes = codes "nodes"
-key_name Worlds = codes "worlds"
-key_name Token = codes "token"
-key_name Resume = codes "resume"
-key_name Kinds = codes "kinds"
-key_name Seed = codes "seed"
-key_name Size = codes "size"
-
--- what a key's value is
-abbrev pub kind_of : Key → KeyKind
-kind_of In = FileName
-kind_of Cert = FileName
-kind_of Nonempty = OnOff
-kind_of Sibling = OnOff
-kind_of Coverage = OnOff
-kind_of Nodes = Limit
-kind_of Worlds = Limit
-kind_of Token = FileName
-kind_of Resume = FileName
-kind_of Kinds = ReportNames
-kind_of Seed = Number
-kind_of Size = EvenSize
-
--- whether two keys are one
-abbrev pub same_key : Key → Key → Bool
-same_key a b = bytes_eq (key_name a) (key_name b)
-
--- a row of the table of commands: the name, the required keys and the optional ones
-pub record Row : Type 0 where
-  pub name : List ℕ
-  pub required : List Key
-  pub optional : List Key
-
--- the table of commands
-abbrev pub row_of : Command → Row
-row_of command.Align = record {
-  name = codes "align";
-  required = In ∷ [];
-  optional = Cert ∷ Nonempty ∷ Sibling ∷ Coverage ∷ Nodes ∷ Worlds ∷ Token ∷ Resume ∷ [];
-}
-row_of command.Check = record {
-  name = codes "check";
-  required = In ∷ Cert ∷ [];
-  optional = Nonempty ∷ Sibling ∷ Coverage ∷ [];
-}
-row_of command.Mir = record {
-  name = codes "mir";
-  required = In ∷ [];
-  optional = Cert ∷ Nonempty ∷ Sibling ∷ Coverage ∷ [];
-}
-row_of command.Conflict = record {
-  name = codes "conflict";
-  required = In ∷ [];
-  optional = Cert ∷ Nonempty ∷ Sibling ∷ Coverage ∷ [];
-}
-row_of command.Report = record {
-  name = codes "report";
-  required = In ∷ Kinds ∷ [];
-  optional = Nonempty ∷ Sibling ∷ Coverage ∷ [];
-}
-row_of command.Trial = record {
-  name = codes "trial";
-  required = Seed ∷ Size ∷ [];
-  optional = [];
-}
-
--- the commands, in the order of the table
-abbrev pub all_commands : List Command
-all_commands = command.Align ∷ command.Check ∷ command.Mir ∷ command.Conflict ∷ command.Report ∷ command.Trial ∷ []
-
--- the command with this name
-abbrev pub command_named : List ℕ → Option Command
-command_named word = find (λ c. bytes_eq word (row_of c).name) all_commands
+use Rattle.command_line.specs.Table.{Row, row_of, command_named, key_name, kind_of, same_key}
 
 -- whether a byte is =
 abbrev pub is_equals : ℕ → Bool
@@ -152,13 +75,15 @@ abbrev pub number_fault : Option ℕ → Option UsageKind
 number_fault None = Some BadNumber
 number_fault (Some number) = None
 
--- the size that a word is, which must be even
-abbrev pub size_of : List ℕ → Option ℕ
-size_of word = number_in 14 256 word
+-- what is wrong with a number that must be even
+abbrev pub even_fault : Option ℕ → Option UsageKind
+even_fault None = Some BadNumber
+even_fault (Some number) = if number % 2 == 0 then None else Some BadNumber
 
-abbrev pub size_fault : Option ℕ → Option UsageKind
-size_fault None = Some BadNumber
-size_fault (Some size) = if size % 2 == 0 then None else Some BadNumber
+-- what is wrong with a set of relations
+abbrev pub set_fault : Option RelSet → Option UsageKind
+set_fault None = Some BadSet
+set_fault (Some set) = None
 
 -- whether a byte is a comma
 abbrev pub is_comma : ℕ → Bool
@@ -182,14 +107,25 @@ abbrev pub names_fault : List (List ℕ) → List (List ℕ) → Option UsageKin
 names_fault known names =
     if not (list_all (is_among known) names) then Some UnknownKind else (if has_twice names then Some KindTwice else None)
 
+-- whether a name is empty
+abbrev pub is_empty_name : List ℕ → Bool
+is_empty_name name = length name == 0
+
+-- what is wrong with names of files
+abbrev pub file_names_fault : List (List ℕ) → Option UsageKind
+file_names_fault names = if list_any is_empty_name names then Some EmptyName else None
+
 -- what is wrong with a key's value, by the names of reports that are known
 abbrev pub value_fault : List (List ℕ) → KeyKind → List ℕ → Option UsageKind
-value_fault known Limit value = limit_fault (number_of value)
-value_fault known OnOff value = if is_switch value then None else Some BadSwitch
-value_fault known FileName value = if length value == 0 then Some EmptyName else None
+value_fault known Switch value = if is_switch value then None else Some BadSwitch
+value_fault known FileName value = if is_empty_name value then Some EmptyName else None
+value_fault known FileNames value = file_names_fault (names_in value)
 value_fault known ReportNames value = names_fault known (names_in value)
-value_fault known Number value = number_fault (number_of value)
-value_fault known EvenSize value = size_fault (size_of value)
+value_fault known Text value = None
+value_fault known Letters value = set_fault (set_of_letters value)
+value_fault known Limit value = limit_fault (number_of value)
+value_fault known (Number least most) value = number_fault (number_in least most value)
+value_fault known (EvenNumber least most) value = even_fault (number_in least most value)
 
 -- whether a key is given
 abbrev pub is_given : List Operand → Key → Bool
@@ -238,21 +174,29 @@ limit_of operands key = option_and_then number_of (value_of operands key)
 abbrev pub lacks_token : List Operand → Bool
 lacks_token operands = (is_given operands Nodes || is_given operands Worlds) && not (is_given operands Token)
 
--- whether two values are given and are one
-abbrev pub is_same_value : Option (List ℕ) → Option (List ℕ) → Bool
-is_same_value None other = false
-is_same_value (Some value) None = false
-is_same_value (Some value) (Some other) = bytes_eq value other
+-- the file names that a value of some kind gives
+abbrev pub names_by : KeyKind → List ℕ → List (List ℕ)
+names_by Switch value = []
+names_by FileName value = value ∷ []
+names_by FileNames value = names_in value
+names_by ReportNames value = []
+names_by Text value = []
+names_by Letters value = []
+names_by Limit value = []
+names_by (Number least most) value = []
+names_by (EvenNumber least most) value = []
 
--- whether two keys are given and have one value
-abbrev pub share_value : List Operand → Key → Key → Bool
-share_value operands key other = is_same_value (value_of operands key) (value_of operands other)
+abbrev pub file_names : Operand → List (List ℕ)
+file_names operand = names_by (kind_of operand.key) operand.value
 
--- whether two of the file names are one
+-- whether an operand gives a file name that one before it gives
+abbrev pub gives_again : List (List ℕ) → List Operand → Bool
+gives_again earlier [] = false
+gives_again earlier (operand ∷ operands) = list_any (is_among earlier) (file_names operand) || gives_again (earlier ++ file_names operand) operands
+
+-- whether two operands give one file name
 abbrev pub has_same_name : List Operand → Bool
-has_same_name operands =
-    share_value operands In Cert || share_value operands In Token || share_value operands In Resume ||
-    share_value operands Cert Token || share_value operands Cert Resume || share_value operands Token Resume
+has_same_name operands = gives_again [] operands
 
 -- the names of reports, the seed and the size that are given
 abbrev pub kinds_of : List Operand → List (List ℕ)
@@ -262,19 +206,36 @@ abbrev pub seed_in : List Operand → ℕ
 seed_in operands = unwrap_or (limit_of operands Seed) 0
 
 abbrev pub size_in : List Operand → ℕ
-size_in operands = unwrap_or (option_and_then size_of (value_of operands Size)) 0
+size_in operands = unwrap_or (option_and_then (number_in 14 256) (value_of operands Size)) 0
+
+-- the arguments of a question that is answered by claims
+abbrev pub claims_args : List Operand → ClaimsArgs
+claims_args operands = record { input = unwrap_or (value_of operands In) []; cert = value_of operands Cert; switches = switches_of operands }
 
 -- the request of a command, whose required keys are given
 abbrev pub request_for : Command → List Operand → Request
-request_for command.Align operands =
-    Align (unwrap_or (value_of operands In) []) (value_of operands Cert) (switches_of operands) (limit_of operands Nodes) (limit_of operands Worlds)
-    (value_of operands Token) (value_of operands Resume)
-request_for command.Check operands =
-    Check (unwrap_or (value_of operands In) []) (unwrap_or (value_of operands Cert) []) (switches_of operands)
-request_for command.Mir operands = Mir (unwrap_or (value_of operands In) []) (value_of operands Cert) (switches_of operands)
-request_for command.Conflict operands = Conflict (unwrap_or (value_of operands In) []) (value_of operands Cert) (switches_of operands)
-request_for command.Report operands = Report (unwrap_or (value_of operands In) []) (kinds_of operands) (switches_of operands)
-request_for command.Trial operands = Trial (seed_in operands) (size_in operands)
+request_for command.Align operands = Align (record {
+  input = unwrap_or (value_of operands In) [];
+  cert = value_of operands Cert;
+  switches = switches_of operands;
+  nodes = limit_of operands Nodes;
+  worlds = limit_of operands Worlds;
+  token = value_of operands Token;
+  resume = value_of operands Resume;
+})
+request_for command.Check operands = Check (record {
+  input = unwrap_or (value_of operands In) [];
+  cert = unwrap_or (value_of operands Cert) [];
+  switches = switches_of operands;
+})
+request_for command.Mir operands = Mir (claims_args operands)
+request_for command.Conflict operands = Conflict (claims_args operands)
+request_for command.Report operands = Report (record {
+  input = unwrap_or (value_of operands In) [];
+  kinds = kinds_of operands;
+  switches = switches_of operands;
+})
+request_for command.Trial operands = Trial (record { seed = seed_in operands; size = size_in operands })
 
 -- the request of a command with operands, or what is wrong with them together
 abbrev pub request_from : Command → List Operand → Result Request UsageKind
@@ -307,6 +268,7 @@ usage_name UnknownKey = codes "UnknownKey"
 usage_name KeyTwice = codes "KeyTwice"
 usage_name BadSwitch = codes "BadSwitch"
 usage_name BadNumber = codes "BadNumber"
+usage_name BadSet = codes "BadSet"
 usage_name ZeroBudget = codes "ZeroBudget"
 usage_name EmptyName = codes "EmptyName"
 usage_name UnknownKind = codes "UnknownKind"

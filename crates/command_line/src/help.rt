@@ -11,12 +11,13 @@ impl KeyKind {
         ensures { result.now ≡ value_form self }
     {
         match self {
+            KeyKind::Switch => "on|off",
             KeyKind::FileName => "FILE",
-            KeyKind::OnOff => "on|off",
-            KeyKind::Limit => "NUMBER",
+            KeyKind::FileNames => "FILE,..",
             KeyKind::ReportNames => "KIND,..",
-            KeyKind::Number => "NUMBER",
-            KeyKind::EvenSize => "NUMBER",
+            KeyKind::Text => "TEXT",
+            KeyKind::Letters => "LETTERS",
+            KeyKind::Limit | KeyKind::Number { .. } | KeyKind::EvenNumber { .. } => "NUMBER",
         }
     }
 }

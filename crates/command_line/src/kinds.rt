@@ -18,7 +18,8 @@ pub trait KnownNames {
         ensures { result ≡ is_among (names self.now) word.now };
 }
 
-fn word_of(alloc: Global, text: &str) -> Result<Word, AllocError>
+/// A word of its own for some bytes.
+pub(crate) fn word_of(alloc: Global, text: &str) -> Result<Word, AllocError>
     ensures { IfOk result (λ word. word ≡ text.now) }
 {
     Ok(Word::new(String::from_str(alloc, text)?))
@@ -58,8 +59,8 @@ fn are_known<K: KnownNames>(known: &K, names: &[Word]) -> bool
     known.has(first.text()) && are_known(known, further)
 }
 
-// Whether a name is one of some names.
-fn is_among(names: &[Word], word: &str) -> bool
+/// Whether a name is one of some names.
+pub(crate) fn is_among(names: &[Word], word: &str) -> bool
     ensures { result ≡ is_among names.now word.now }
 {
     names.iter().any(|name| word == name.text())

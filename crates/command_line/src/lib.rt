@@ -7,18 +7,23 @@ ghost use Rattle.command_line.specs.Words.{usage_name};
 
 mod help;
 mod kinds;
-mod requests;
+mod laws;
+mod make;
+mod request;
 mod table;
+mod values;
 mod words;
 
 pub use help::{command_help, fault_place, key_help, usage_help};
 pub use kinds::KnownNames;
+pub use laws::rows_name_files;
+pub use request::{AlignArgs, CheckArgs, ClaimsArgs, ReportArgs, Request, TrialArgs};
 use std::alloc::{AllocError, AllocFailed};
 use std::fmt;
 use std::marker::Model;
+pub use table::{Command, Key, KeyKind};
 use thiserror::Error;
 pub use words::read_words;
-use world_model::Switches;
 
 /// A word, seen as the list of its bytes.
 #[derive(Drop)]
@@ -76,56 +81,6 @@ impl WordList {
     }
 }
 
-/// What the words ask for.
-#[derive(Drop)]
-pub enum Request {
-    /// List the possible worlds of the problem in a file.
-    Align {
-        input: Word,
-        /// The file for the certificate.
-        cert: Option<Word>,
-        switches: Switches,
-        nodes: Option<u64>,
-        worlds: Option<u64>,
-        /// The file for the token of the cut.
-        token: Option<Word>,
-        /// The file whose token says where the listing begins.
-        resume: Option<Word>,
-    },
-    /// Check a certificate of the problem in a file.
-    Check {
-        input: Word,
-        cert: Word,
-        switches: Switches,
-    },
-    /// Tell which relations of each pair some possible world has.
-    Mir {
-        input: Word,
-        /// The file for the certificate.
-        cert: Option<Word>,
-        switches: Switches,
-    },
-    /// Find the least set of statements that are in conflict.
-    Conflict {
-        input: Word,
-        /// The file for the certificate.
-        cert: Option<Word>,
-        switches: Switches,
-    },
-    /// List the possible worlds, and report of them.
-    Report {
-        input: Word,
-        /// The names of the reports.
-        kinds: WordList,
-        switches: Switches,
-    },
-    /// Make a problem, list its worlds, and check the certificate of the listing.
-    Trial {
-        seed: u64,
-        size: u32,
-    },
-}
-
 /// What is wrong with the words.
 #[derive(Clone, Copy, Debug, PartialEq, Eq)]
 pub enum UsageKind {
@@ -136,6 +91,7 @@ pub enum UsageKind {
     KeyTwice,
     BadSwitch,
     BadNumber,
+    BadSet,
     ZeroBudget,
     EmptyName,
     UnknownKind,
@@ -158,6 +114,7 @@ impl UsageKind {
             UsageKind::KeyTwice => "KeyTwice",
             UsageKind::BadSwitch => "BadSwitch",
             UsageKind::BadNumber => "BadNumber",
+            UsageKind::BadSet => "BadSet",
             UsageKind::ZeroBudget => "ZeroBudget",
             UsageKind::EmptyName => "EmptyName",
             UsageKind::UnknownKind => "UnknownKind",
@@ -178,6 +135,8 @@ impl UsageKind {
             UsageKind::KeyTwice => "a key is given twice",
             UsageKind::BadSwitch => "a switch is neither on nor off",
             UsageKind::BadNumber => "a number is none, or is not one that may stand there",
+            UsageKind::BadSet =>
+                "a set of relations is empty, or has a byte that is no letter of one",
             UsageKind::ZeroBudget => "a limit is 0",
             UsageKind::EmptyName => "a file name is empty",
             UsageKind::UnknownKind => "there is no report of this kind",
@@ -221,48 +180,6 @@ impl<T: Drop> From<AllocFailed<T>> for WordsFault {
     fn from(_refused: AllocFailed<T>) -> Self {
         WordsFault::NoMemory
     }
-}
-
-/// A command of the command line.
-#[derive(Clone, Copy)]
-pub enum Command {
-    Align,
-    Check,
-    Mir,
-    Conflict,
-    Report,
-    Trial,
-}
-
-/// What a key's value is.
-#[derive(Clone, Copy)]
-pub enum KeyKind {
-    FileName,
-    OnOff,
-    /// A number that isn't 0.
-    Limit,
-    /// Names of reports, with commas between them.
-    ReportNames,
-    Number,
-    /// An even number from 14 to 256.
-    EvenSize,
-}
-
-/// A key of the command line.
-#[derive(Clone, Copy)]
-pub enum Key {
-    In,
-    Cert,
-    Nonempty,
-    Sibling,
-    Coverage,
-    Nodes,
-    Worlds,
-    Token,
-    Resume,
-    Kinds,
-    Seed,
-    Size,
 }
 
 /// A key with its value.

@@ -1,8 +1,57 @@
-//! The table of commands: their names and their keys.
+//! The table of commands: a row for each, with its keys and which of them name files that it reads or writes; and a row for each key.
 ghost use Rattle.std.specs.Prelude.{◌≡◌};
-ghost use Rattle.command_line.specs.Words.{row_of, all_commands, key_name, kind_of};
+ghost use Rattle.command_line.specs.Table.{row_of, all_commands, key_name, kind_of};
 
-use crate::{Command, Key, KeyKind};
+/// A command of the command line.
+#[derive(Clone, Copy)]
+pub enum Command {
+    Align,
+    Check,
+    Mir,
+    Conflict,
+    Report,
+    Trial,
+}
+
+/// A key of the command line.
+#[derive(Clone, Copy)]
+pub enum Key {
+    In,
+    Cert,
+    Nonempty,
+    Sibling,
+    Coverage,
+    Nodes,
+    Worlds,
+    Token,
+    Resume,
+    Kinds,
+    Seed,
+    Size,
+}
+
+/// What a key's value is.
+#[derive(Clone, Copy)]
+pub enum KeyKind {
+    /// `on` or `off`.
+    Switch,
+    /// The name of a file.
+    FileName,
+    /// Names of files, with commas between them.
+    FileNames,
+    /// Names of reports, with commas between them.
+    ReportNames,
+    /// Any bytes.
+    Text,
+    /// Letters of relations.
+    Letters,
+    /// A number that isn't 0.
+    Limit,
+    /// A number in a range.
+    Number { least: u64, most: u64 },
+    /// An even number in a range.
+    EvenNumber { least: u64, most: u64 },
+}
 
 static COMMANDS: [Command; 6] = [
     Command::Align,
@@ -13,13 +62,23 @@ static COMMANDS: [Command; 6] = [
     Command::Trial,
 ];
 
-static PROBLEM: [Key; 1] = [Key::In];
+static IN: [Key; 1] = [Key::In];
 
-static PROBLEM_AND_CERT: [Key; 2] = [Key::In, Key::Cert];
+static CERT: [Key; 1] = [Key::Cert];
 
-static PROBLEM_AND_KINDS: [Key; 2] = [Key::In, Key::Kinds];
+static IN_CERT: [Key; 2] = [Key::In, Key::Cert];
 
-static SEED_AND_SIZE: [Key; 2] = [Key::Seed, Key::Size];
+static IN_KINDS: [Key; 2] = [Key::In, Key::Kinds];
+
+static IN_RESUME: [Key; 2] = [Key::In, Key::Resume];
+
+static CERT_TOKEN: [Key; 2] = [Key::Cert, Key::Token];
+
+static SEED_SIZE: [Key; 2] = [Key::Seed, Key::Size];
+
+static SWITCHES: [Key; 3] = [Key::Nonempty, Key::Sibling, Key::Coverage];
+
+static CERT_SWITCHES: [Key; 4] = [Key::Cert, Key::Nonempty, Key::Sibling, Key::Coverage];
 
 static LISTING: [Key; 8] = [
     Key::Cert,
@@ -31,10 +90,6 @@ static LISTING: [Key; 8] = [
     Key::Token,
     Key::Resume,
 ];
-
-static SWITCHES: [Key; 3] = [Key::Nonempty, Key::Sibling, Key::Coverage];
-
-static CERT_AND_SWITCHES: [Key; 4] = [Key::Cert, Key::Nonempty, Key::Sibling, Key::Coverage];
 
 static NONE: [Key; 0] = [];
 
@@ -65,10 +120,10 @@ impl Command {
         ensures { result.now ≡ (row_of self).required }
     {
         match self {
-            Command::Align | Command::Mir | Command::Conflict => &PROBLEM,
-            Command::Check => &PROBLEM_AND_CERT,
-            Command::Report => &PROBLEM_AND_KINDS,
-            Command::Trial => &SEED_AND_SIZE,
+            Command::Align | Command::Mir | Command::Conflict => &IN,
+            Command::Check => &IN_CERT,
+            Command::Report => &IN_KINDS,
+            Command::Trial => &SEED_SIZE,
         }
     }
 
@@ -79,8 +134,31 @@ impl Command {
         match self {
             Command::Align => &LISTING,
             Command::Check | Command::Report => &SWITCHES,
-            Command::Mir | Command::Conflict => &CERT_AND_SWITCHES,
+            Command::Mir | Command::Conflict => &CERT_SWITCHES,
             Command::Trial => &NONE,
+        }
+    }
+
+    /// The keys of files that it reads.
+    pub fn reads(self) -> &'static [Key]
+        ensures { result.now ≡ (row_of self).reads }
+    {
+        match self {
+            Command::Align => &IN_RESUME,
+            Command::Check => &IN_CERT,
+            Command::Mir | Command::Conflict | Command::Report => &IN,
+            Command::Trial => &NONE,
+        }
+    }
+
+    /// The keys of files that it writes.
+    pub fn writes(self) -> &'static [Key]
+        ensures { result.now ≡ (row_of self).writes }
+    {
+        match self {
+            Command::Align => &CERT_TOKEN,
+            Command::Mir | Command::Conflict => &CERT,
+            Command::Check | Command::Report | Command::Trial => &NONE,
         }
     }
 }
@@ -112,11 +190,17 @@ impl Key {
     {
         match self {
             Key::In | Key::Cert | Key::Token | Key::Resume => KeyKind::FileName,
-            Key::Nonempty | Key::Sibling | Key::Coverage => KeyKind::OnOff,
+            Key::Nonempty | Key::Sibling | Key::Coverage => KeyKind::Switch,
             Key::Nodes | Key::Worlds => KeyKind::Limit,
             Key::Kinds => KeyKind::ReportNames,
-            Key::Seed => KeyKind::Number,
-            Key::Size => KeyKind::EvenSize,
+            Key::Seed => KeyKind::Number {
+                least: 0,
+                most: u64::MAX,
+            },
+            Key::Size => KeyKind::EvenNumber {
+                least: 14,
+                most: 256,
+            },
         }
     }
 }

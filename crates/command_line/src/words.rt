@@ -2,12 +2,14 @@
 ghost use Rattle.std.specs.Prelude.{◌≡◌, ◌<◌, ◌≤◌, not, length, [], Ok, Err, IfOk, IfSome, IfNone, map, find, bytes_eq, string_bytes, unwrap_or};
 ghost use Rattle.std.specs.List.{list_any};
 ghost use Rattle.std.specs.Option.{option_copied};
-ghost use Rattle.command_line.specs.Words.{row_of, key_name, same_key, command_named, is_equals, cut_word, key_among, key_in, is_switch, number_of, limit_fault, number_fault, size_of, size_fault, limit_of, lacks_token, share_value, has_same_name, value_fault, is_given, operand_of, operands_of, value_of, is_lacking, request_from, request_of, IfUsage};
+ghost use Rattle.command_line.specs.Table.{row_of, key_name, same_key, command_named};
+ghost use Rattle.command_line.specs.Words.{is_equals, cut_word, key_among, key_in, limit_of, lacks_token, is_among, file_names, has_same_name, is_given, operand_of, operands_of, value_of, is_lacking, request_from, request_of, IfUsage};
+ghost use Rattle.command_line.specs.Requests.{IsMade};
 
-use crate::kinds::{KnownNames, names_fault, split_names};
-use crate::requests::make_request;
-use crate::{Command, Key, KeyKind, Operand, Request, UsageKind, Word, WordsFault};
-use proof_text::read_number;
+use crate::kinds::{KnownNames, is_among};
+use crate::make::make_request;
+use crate::values::{names_by, number_of, value_fault};
+use crate::{Command, Key, Operand, Request, UsageKind, Word, WordsFault};
 use std::alloc::{AllocError, Global};
 
 impl Command {
@@ -21,9 +23,9 @@ impl Command {
             .copied()
     }
 
-    // Its key of this name.
+    /// Its key of this name.
     #[tactic(auto, using(crate::proofs::WordsLemmas::key_rules))]
-    fn key_named(self, name: &str) -> Option<Key>
+    pub fn key_named(self, name: &str) -> Option<Key>
         ensures { result ≡ key_in (row_of self) name.now }
     {
         match key_among(self.required(), name) {
@@ -71,72 +73,6 @@ fn cut_word(word: &str) -> Option<(&str, &str)>
     word.split_once('=')
 }
 
-// The number that a word is.
-fn number_of(word: &str) -> Option<u64>
-    ensures { result ≡ number_of word.now }
-{
-    read_number(word.as_bytes(), 0, u64::MAX)
-}
-
-/// The size that a word is.
-pub(crate) fn size_of(word: &str) -> Option<u64>
-    ensures value { result ≡ size_of word.now }
-    ensures within { IfSome result (λ size. size ≤ 256) }
-{
-    read_number(word.as_bytes(), 14, 256)
-}
-
-fn limit_fault(number: Option<u64>) -> Option<UsageKind>
-    ensures { result ≡ limit_fault number }
-{
-    match number {
-        None => Some(UsageKind::BadNumber),
-        Some(0) => Some(UsageKind::ZeroBudget),
-        Some(_) => None,
-    }
-}
-
-// What is wrong with a size.
-fn size_fault(size: Option<u64>) -> Option<UsageKind>
-    ensures { result ≡ size_fault size }
-{
-    match size {
-        Some(size) if size % 2 == 0 => None,
-        _ => Some(UsageKind::BadNumber),
-    }
-}
-
-// What is wrong with a number.
-fn number_fault(number: Option<u64>) -> Option<UsageKind>
-    ensures { result ≡ number_fault number }
-{
-    match number {
-        Some(_) => None,
-        None => Some(UsageKind::BadNumber),
-    }
-}
-
-// What is wrong with the value of a key.
-fn value_fault<K: KnownNames>(
-    alloc: Global,
-    known: &K,
-    kind: KeyKind,
-    value: &str,
-) -> Result<Option<UsageKind>, AllocError>
-    ensures { IfOk result (λ fault. fault ≡ value_fault (K.names known.now) kind value.now) }
-{
-    match kind {
-        KeyKind::OnOff if value == "on" || value == "off" => Ok(None),
-        KeyKind::OnOff => Ok(Some(UsageKind::BadSwitch)),
-        KeyKind::FileName if value.is_empty() => Ok(Some(UsageKind::EmptyName)),
-        KeyKind::FileName => Ok(None),
-        KeyKind::Limit => Ok(limit_fault(number_of(value))),
-        KeyKind::Number => Ok(number_fault(number_of(value))),
-        KeyKind::EvenSize => Ok(size_fault(size_of(value))),
-        KeyKind::ReportNames => Ok(names_fault(known, &split_names(alloc, value)?)),
-    }
-}
-
 fn is_given(operands: &[Operand], key: Key) -> bool
     ensures { result ≡ is_given operands.now key }
 {
@@ -168,26 +104,34 @@ fn lacks_token(operands: &[Operand]) -> bool
     is_limited && !is_given(operands, Key::Token)
 }
 
-// Whether two keys are given and have one value.
-fn share_value(operands: &[Operand], key: Key, other: Key) -> bool
-    ensures { result ≡ share_value operands.now key other }
+// The file names that an operand gives.
+fn file_names(alloc: Global, operand: &Operand) -> Result<Vec<Word>, AllocError>
+    ensures { IfOk result (λ names. names.items ≡ file_names operand.now) }
 {
-    match (value_of(operands, key), value_of(operands, other)) {
-        (Some(value), Some(other)) => value == other,
-        _ => false,
-    }
+    names_by(alloc, operand.key.kind(), operand.value.text())
 }
 
-// Whether two of the file names are one.
-fn has_same_name(operands: &[Operand]) -> bool
-    ensures { result ≡ has_same_name operands.now }
+// Whether one of some names is one of others.
+fn have_common(names: &[Word], others: &[Word]) -> bool
+    ensures { result ≡ list_any (is_among others.now) names.now }
 {
-    share_value(operands, Key::In, Key::Cert)
-        || share_value(operands, Key::In, Key::Token)
-        || share_value(operands, Key::In, Key::Resume)
-        || share_value(operands, Key::Cert, Key::Token)
-        || share_value(operands, Key::Cert, Key::Resume)
-        || share_value(operands, Key::Token, Key::Resume)
+    names.iter().any(|name| is_among(others, name.text()))
+}
+
+// Whether two operands give one file name.
+#[tactic(auto, using(crate::proofs::NameLemmas::name_rules))]
+fn has_same_name(alloc: Global, operands: &[Operand]) -> Result<bool, AllocError>
+    ensures { IfOk result (λ same. same ≡ has_same_name operands.now) }
+{
+    let mut earlier = Vec::new(alloc);
+    'operands: for operand in operands {
+        let mut names = file_names(alloc, operand)?;
+        if have_common(&names, &earlier) {
+            return Ok(true);
+        }
+        earlier.append(&mut names)?;
+    }
+    Ok(false)
 }
 
 // A further word after the operands before it.
@@ -254,14 +198,14 @@ fn request_from(
     if lacks_token(operands) {
         return Err(WordsFault::Usage(UsageKind::BudgetWithoutToken));
     }
-    if has_same_name(operands) {
+    if has_same_name(alloc, operands)? {
         return Err(WordsFault::Usage(UsageKind::SameName));
     }
     Ok(make_request(alloc, command, operands)?)
 }
 
-/// What the words after the program's name ask for, or the first of their faults. Reports are asked for by names that are known.
-pub fn read_words<K: KnownNames>(
+// The request of a command and further words, or the first fault.
+fn request_of<K: KnownNames>(
     alloc: Global,
     words: &[String],
     known: &K,
@@ -277,4 +221,17 @@ pub fn read_words<K: KnownNames>(
     };
     let operands = read_operands(alloc, known, command, further)?;
     request_from(alloc, command, &operands)
+}
+
+/// What the words after the program's name ask for, or the first of their faults. Reports are asked for by names that are known.
+pub fn read_words<K: KnownNames>(
+    alloc: Global,
+    words: &[String],
+    known: &K,
+) -> Result<Request, WordsFault>
+    ensures request { IfOk result (λ request. request_of (K.names known.now) (map string_bytes words.now) ≡ Ok request) }
+    ensures made { IfOk result (IsMade (K.names known.now)) }
+    ensures usage { IfUsage result (λ kind. request_of (K.names known.now) (map string_bytes words.now) ≡ Err kind) }
+{
+    request_of(alloc, words, known)
 }

@@ -2,11 +2,13 @@
 #![tactic(auto)]
 
 mod explain;
+mod files;
 mod help;
 mod line;
 mod nearest;
 mod unknown;
 mod usage;
+mod words;
 
 use align_top::{Status, run};
 use explain::explain;
@@ -44,7 +46,7 @@ fn no_words(error: io::Error) -> NoWords {
 }
 
 // The words after the program's name.
-fn words(rt: &HostRuntime) -> Result<Vec<String>, NoWords> {
+fn given_words(rt: &HostRuntime) -> Result<Vec<String>, NoWords> {
     let mut words = Vec::new(rt.alloc());
     let args = env::args(rt).map_err(no_words)?;
     for word in args.skip(1) {
@@ -77,7 +79,7 @@ fn main(rt: HostRuntime) -> ExitCode {
     let _first = fs::open(&rt, "/dev/null");
     let _second = fs::open(&rt, "/dev/null");
     let _third = fs::open(&rt, "/dev/null");
-    let words = match words(&rt) {
+    let words = match given_words(&rt) {
         Ok(words) => words,
         Err(fault) => return ExitCode::from(fault.code()),
     };

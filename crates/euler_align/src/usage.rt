@@ -1,8 +1,9 @@
 //! What is wrong with the words, at which word, and what to do about it, for people.
 
 use crate::nearest::nearest;
+use crate::words::{command_of, key_of, kind_of};
 use align_top::{
-    Command, Key, UsageKind, WordsFault, command_help, key_help, read_words, usage_help,
+    Command, Key, KeyKind, UsageKind, WordsFault, command_help, key_help, read_words, usage_help,
 };
 use std::alloc::{AllocError, Global};
 use std::io;
@@ -26,13 +27,6 @@ pub(crate) fn explain_program(rt: &impl Eprint, alloc: Global) -> io::Result<()>
     eprint!(rt;
         "euler_align reconciles two to eight classifications of the same things\n{help}the manual is `man euler_align`, where it is installed; in the repository docs/GUIDE.md shows how to use the program, and docs/FORMATS.md has every word and file\n"
     )
-}
-
-fn command_of(words: &[String]) -> Option<Command> {
-    match words.first() {
-        Some(word) => Command::named(word.as_str()),
-        None => None,
-    }
 }
 
 // Whether words have this first fault.
@@ -61,14 +55,6 @@ fn first_wrong<'a>(
         }
     }
     ""
-}
-
-// What stands before the equals sign of a word.
-fn key_of(word: &str) -> &str {
-    match word.split_once('=') {
-        Some((key, _)) => key,
-        None => word,
-    }
 }
 
 fn is_given(words: &[String], key: &str) -> bool {
@@ -103,19 +89,18 @@ fn wrong_word(
     }
 }
 
-// What numbers the key of a word takes.
-fn numbers_of(word: &str) -> &'static str {
-    if word.starts_with("size=") {
-        "give an even number from 14 to 256, without a leading zero"
-    } else if word.starts_with("seed=") {
-        "give a number from 0 to 18446744073709551615, without a leading zero"
-    } else {
-        "give a number from 1 to 18446744073709551615, without a leading zero"
-    }
+// What numbers a key of this kind takes.
+fn numbers_of(alloc: Global, kind: Option<KeyKind>) -> Result<String, AllocError> {
+    let (even, least, most) = match kind {
+        Some(KeyKind::EvenNumber { least, most }) => ("n even", least, most),
+        Some(KeyKind::Number { least, most }) => ("", least, most),
+        _ => ("", 1, u64::MAX),
+    };
+    format!(in alloc; "give a{even} number from {least} to {most}, without a leading zero")
 }
 
-// What to do about a fault of this kind at a word.
-fn advice(kind: UsageKind, word: &str) -> &'static str {
+// What to do about a fault of this kind, whatever the word.
+fn advice(kind: UsageKind) -> &'static str {
     match kind {
         UsageKind::NoCommand | UsageKind::UnknownCommand => "begin with one of these",
         UsageKind::NotOperand => {
@@ -124,7 +109,8 @@ fn advice(kind: UsageKind, word: &str) -> &'static str {
         UsageKind::UnknownKey => "take one of those above",
         UsageKind::KeyTwice => "give it once",
         UsageKind::BadSwitch => "write on or off",
-        UsageKind::BadNumber | UsageKind::ZeroBudget => numbers_of(word),
+        UsageKind::BadNumber | UsageKind::ZeroBudget => "give another number",
+        UsageKind::BadSet => "give one or more of the letters = > < x !",
         UsageKind::EmptyName => "write the file's name behind the equals sign",
         UsageKind::UnknownKind => {
             "give one or more of count, tally, seen, merge and json, with commas and no spaces between"
@@ -132,6 +118,19 @@ fn advice(kind: UsageKind, word: &str) -> &'static str {
         UsageKind::KindTwice => "name it once",
         UsageKind::MissingKey | UsageKind::BudgetWithoutToken => "add it",
         UsageKind::SameName => "give each a name of its own",
+    }
+}
+
+// What to do about a fault of this kind at a word.
+fn advice_at(
+    alloc: Global,
+    words: &[String],
+    kind: UsageKind,
+    word: &str,
+) -> Result<String, AllocError> {
+    match kind {
+        UsageKind::BadNumber | UsageKind::ZeroBudget => numbers_of(alloc, kind_of(words, word)),
+        _ => String::from_str(alloc, advice(kind)),
     }
 }
 
@@ -182,7 +181,7 @@ pub(crate) fn explain_fault(
     let name = meant(alloc, words, kind, word.as_str())?;
     let colon = if word.is_empty() { "" } else { ": " };
     if name.is_empty() {
-        let advice = advice(kind, word.as_str());
+        let advice = advice_at(alloc, words, kind, word.as_str())?;
         eprintln!(rt; "{word}{colon}{kind}; {advice}")
     } else {
         eprintln!(rt; "{word}{colon}{kind}; is it {name}?")

@@ -18,7 +18,7 @@ use Rattle.learn_solver.specs.declared.learner.Learner.{Learner}
 use Rattle.learn_solver.specs.Solving.{IsRefutation, AreConsistent}
 use Rattle.learn_solver.specs.Weights.{weight}
 use Rattle.learn_solver.specs.Guides.{IsNext}
-use Rattle.learn_solver.specs.Learners.{solver_state, guide_of, IsSound, IsClosed, Backjumps, backtracked, assumed}
+use Rattle.learn_solver.specs.Learners.{solver_state, guide_of, IsLearner, IsClosed, Backjumps, backtracked, assumed}
 use Rattle.learn_solver.proofs.TrailPlaces.{true-index, place-take, level-at, level-most, cut-at, places-few, decided-index, place_of-at}
 use Rattle.learn_solver.proofs.Cuts.{false-back, up_to-twice, assumed-past}
 use Rattle.learn_solver.proofs.AssumptionsInvariant.{own-assumptions, guided-all}
@@ -85,7 +85,7 @@ pub next-assumptions : (l : Learner) (lit : ℕ) → IsNext l.assumptions lit �
 next-assumptions l lit next = subst (Contains l.assumptions.lits) (sym next.at) (Contains-get_or l.assumptions.lits l.assumptions.holding 0 next.within)
 
 -- a closed clause refutes, where all levels begin with assumptions
-pub IsRefutation-guided : (l : Learner) (stands : Option ℕ) (id : ℕ) → IsSound l → IsTrail l.trail → l.trail.level ≤ l.assumptions.guided → ((lit : ℕ) → stands ≡ Some lit → Contains l.assumptions.lits (negation_of lit)) → IsClosed l.trail stands id → IsRefutation (solver_state l) l.assumptions.lits id
+pub IsRefutation-guided : (l : Learner) (stands : Option ℕ) (id : ℕ) → IsLearner l → IsTrail l.trail → l.trail.level ≤ l.assumptions.guided → ((lit : ℕ) → stands ≡ Some lit → Contains l.assumptions.lits (negation_of lit)) → IsClosed l.trail stands id → IsRefutation (solver_state l) l.assumptions.lits id
 IsRefutation-guided l stands id s f all standing c =
     IsRefutation-closed l l.assumptions.lits id c.at s c.within c.named (λ lit has. elim (c.closed lit has) [
       | inl stood ↦ standing lit stood
@@ -96,7 +96,7 @@ IsRefutation-guided l stands id s f all standing c =
     ])
 
 -- a false assumption was implied
-pub false-implied : (l : Learner) (lit : ℕ) → IsTrail l.trail → IsSound l → AreConsistent l.assumptions.lits → IsNext l.assumptions lit → is_false l.trail.places lit ≡ true → reason_of l.trail.places (variable_of lit) ≢ None
+pub false-implied : (l : Learner) (lit : ℕ) → IsTrail l.trail → IsLearner l → AreConsistent l.assumptions.lits → IsNext l.assumptions lit → is_false l.trail.places lit ≡ true → reason_of l.trail.places (variable_of lit) ≢ None
 false-implied l lit f s consistent next false_there none =
     let found = true-index l.trail.places (negation_of lit) false_there in
     let one : variable_of (place_at l.trail.places found.0).lit ≡ variable_of lit = ap variable_of found.2 ∙ variable_of-negation lit in

@@ -11,7 +11,7 @@ use Rattle.watch_arena.specs.declared.places.Place.{Place}
 use Rattle.watch_arena.specs.Places.{place_at, no_place, is_true, is_false, place_of, is_assumed, level_of}
 use Rattle.watch_arena.specs.Trails.{TrailState, IsTrail, places_up_to}
 use Rattle.conflict_clause.specs.Taught.{level_in}
-use Rattle.learn_solver.proofs.TrailPlaces.{true-index, place-take, true-take, true-within, place_of-none, level-at, level-most, IsCut, cut-at}
+use Rattle.learn_solver.proofs.TrailPlaces.{true-index, place-take, true-take, true-within, place_of-none, level-at, level-most, IsLevelEnd, cut-at}
 
 -- a literal true by places up to a level is so up to a higher one
 pub up_to-within : (t : TrailState) (low high lit : ℕ) → IsTrail t → low ≤ high → is_true (places_up_to t.places low) lit ≡ true → is_true (places_up_to t.places high) lit ≡ true
@@ -77,7 +77,7 @@ up_to-twice t low high f le = go t.places where
       ]
 
 -- where the places come past a level, the first one past it is assumed
-pub assumed-past : (t : TrailState) (level n : ℕ) → IsTrail t → IsCut t.places level n → level < t.level → (n < length t.places) × (is_assumed (place_at t.places n) ≡ true)
+pub assumed-past : (t : TrailState) (level n : ℕ) → IsTrail t → IsLevelEnd t.places level n → level < t.level → (n < length t.places) × (is_assumed (place_at t.places n) ≡ true)
 assumed-past t level n f cut lt =
     let within = cut.within in
     let all = f.level in

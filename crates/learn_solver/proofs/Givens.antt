@@ -11,13 +11,13 @@ use Rattle.learn_solver.specs.declared.learner.Learner.{Learner}
 use Rattle.learn_solver.specs.Solving.{FromOne, AddsGiven, IsSolver}
 use Rattle.learn_solver.specs.States.{state_of}
 use Rattle.learn_solver.specs.Guides.{IsGuided}
-use Rattle.learn_solver.specs.Learners.{solver_state, IsSound, AreRecords, AreNoted, guide_of}
+use Rattle.learn_solver.specs.Learners.{solver_state, IsLearner, AreRecords, AreNoted, guide_of}
 use Rattle.learn_solver.proofs.SameStates.{SameState-records}
 use Rattle.learn_solver.proofs.RecordState.{AreRecords-same, AreUpTo-same, AreUpTo-more, AreRecords-given, AreNoted-same, AreNoted-given, given-all, state-given}
 use Rattle.learn_solver.proofs.Idle.{idle_of-none, distinct-state, state-from_one, idle-derived, idle-distinct}
 
 -- what is so of a solver whose parts are sound
-pub IsSolver-sound : (l : Learner) → IsSound l → IsSolver (solver_state l)
+pub IsSolver-sound : (l : Learner) → IsLearner l → IsSolver (solver_state l)
 IsSolver-sound l s = record {
   follow = s.records.follow;
   distinct = distinct-state l.trail.records l.given s.records;
@@ -38,8 +38,8 @@ unfolding state_of
 given-count records given le = simp (length-map, length-take) (omega arith)
 
 -- one more given clause, among sound parts
-pub IsSound-given : (old new : Learner) (lits : List ℕ) (id : ℕ) → IsSound old → (state_of old.trail.records old.given).derived ≡ [] → id ≡ old.given + 1 → old.last ≤ new.last → id ≤ new.last → Adds old.trail new.trail lits id → new.given ≡ length new.trail.records → new.waiting.items ≡ old.waiting.items → new.variables ≡ old.variables → new.analyzer ≡ old.analyzer → length new.order ≡ length old.order → ((v : ℕ) → get_or old.order v false ≡ true → get_or new.order v false ≡ true) → ((lit : ℕ) → Contains lits lit → is_negative lit ≡ false → get_or new.order (variable_of lit) false ≡ true) → guide_of new ≡ guide_of old → IsSound new
-IsSound-given old new lits id s none fresh last_le id_le adds given waiting variables analyzer order kept noted guide =
+pub IsLearner-given : (old new : Learner) (lits : List ℕ) (id : ℕ) → IsLearner old → (state_of old.trail.records old.given).derived ≡ [] → id ≡ old.given + 1 → old.last ≤ new.last → id ≤ new.last → Adds old.trail new.trail lits id → new.given ≡ length new.trail.records → new.waiting.items ≡ old.waiting.items → new.variables ≡ old.variables → new.analyzer ≡ old.analyzer → length new.order ≡ length old.order → ((v : ℕ) → get_or old.order v false ≡ true → get_or new.order v false ≡ true) → ((lit : ℕ) → Contains lits lit → is_negative lit ≡ false → get_or new.order (variable_of lit) false ≡ true) → guide_of new ≡ guide_of old → IsLearner new
+IsLearner-given old new lits id s none fresh last_le id_le adds given waiting variables analyzer order kept noted guide =
     let most = given-all old.trail.records old.given none in
     let enough = s.records.enough in
     let count = adds.records.count in
@@ -60,7 +60,7 @@ IsSound-given old new lits id s none fresh last_le id_le adds given waiting vari
     }
 
 -- and it is all that is added
-pub AddsGiven-added : (old new : Learner) (lits : List ℕ) (id : ℕ) → IsSound old → (state_of old.trail.records old.given).derived ≡ [] → SameRecords (old.trail.records ++ new_record id lits ∷ []) new.trail.records → new.trail.variables ≡ old.trail.variables → new.given ≡ length new.trail.records → new.waiting.items ≡ old.waiting.items → AddsGiven (solver_state old) (solver_state new) lits
+pub AddsGiven-added : (old new : Learner) (lits : List ℕ) (id : ℕ) → IsLearner old → (state_of old.trail.records old.given).derived ≡ [] → SameRecords (old.trail.records ++ new_record id lits ∷ []) new.trail.records → new.trail.variables ≡ old.trail.variables → new.given ≡ length new.trail.records → new.waiting.items ≡ old.waiting.items → AddsGiven (solver_state old) (solver_state new) lits
 AddsGiven-added old new lits id s none records variables given waiting =
     let most = given-all old.trail.records old.given none in
     let enough = s.records.enough in

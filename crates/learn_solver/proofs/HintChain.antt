@@ -22,7 +22,7 @@ use Rattle.learn_solver.specs.declared.learner.Learner.{Learner}
 use Rattle.learn_solver.specs.Solving.{SolverState}
 use Rattle.learn_solver.specs.Hints.{Suffice, AddsLine}
 use Rattle.learn_solver.specs.States.{state_of, idle_of}
-use Rattle.learn_solver.specs.Learners.{solver_state, IsSound, AreRecords, IsStored}
+use Rattle.learn_solver.specs.Learners.{solver_state, IsLearner, AreRecords, IsStored}
 use Rattle.learn_solver.proofs.SameStates.{SameLits-permuted}
 use Rattle.learn_solver.proofs.RecordState.{live-at, HoldsRecords-state, fresh-free}
 
@@ -235,7 +235,7 @@ end-fault records given lits hints falses place r come le e =
     cc
 
 -- a clause that was stored is the live one of its id
-pub live-stored : (l : Learner) (lits clause : List ℕ) (at id : ℕ) → IsSound l → IsStored l.trail clause at → clause ≡ lits → id ≡ (record_at l.trail.records at).id → MatchOption (live_clause (solver_state l).state id) ⊥ (SameLits lits)
+pub live-stored : (l : Learner) (lits clause : List ℕ) (at id : ℕ) → IsLearner l → IsStored l.trail clause at → clause ≡ lits → id ≡ (record_at l.trail.records at).id → MatchOption (live_clause (solver_state l).state id) ⊥ (SameLits lits)
 live-stored l lits clause at id s stored same is =
     let found : live_clause (state_of l.trail.records l.given) id ≡ Some (record_at l.trail.records at).lits =
     ap (live_clause (state_of l.trail.records l.given)) is ∙ live-at l.trail.records l.given at s.records stored.within in
@@ -262,7 +262,7 @@ solver_state-held old new trail given waiting =
     ∙ ap (solver_state_by old.trail old.given) waiting
 
 -- the line of one derived clause more
-pub AddsLine-noted : (old new : Learner) (lits hints : List ℕ) (at id : ℕ) → IsSound old → Adds old.trail new.trail lits id → at ≡ length old.trail.records → id ≡ old.last + 1 → new.waiting.items ≡ old.waiting.items ++ Derive id lits hints ∷ [] → AddsLine (solver_state old) (solver_state new) lits hints (record_at new.trail.records at).id
+pub AddsLine-noted : (old new : Learner) (lits hints : List ℕ) (at id : ℕ) → IsLearner old → Adds old.trail new.trail lits id → at ≡ length old.trail.records → id ≡ old.last + 1 → new.waiting.items ≡ old.waiting.items ++ Derive id lits hints ∷ [] → AddsLine (solver_state old) (solver_state new) lits hints (record_at new.trail.records at).id
 AddsLine-noted old new lits hints at id s adds first fresh waiting =
     let there : record_at (old.trail.records ++ new_record id lits ∷ []) at ≡ new_record id lits =
     ap (record_at (old.trail.records ++ new_record id lits ∷ [])) first ∙ record_at-new old.trail.records (new_record id lits) in

@@ -19,7 +19,7 @@ use Rattle.learn_solver.specs.declared.learner.Learner.{Learner}
 use Rattle.learn_solver.specs.Solving.{IsModel, IsRefutation, IsClosedBy}
 use Rattle.learn_solver.specs.States.{state_of}
 use Rattle.learn_solver.specs.Noted.{AreAssigned}
-use Rattle.learn_solver.specs.Learners.{solver_state, IsSound, AreBits}
+use Rattle.learn_solver.specs.Learners.{solver_state, IsLearner, AreBits}
 use Rattle.learn_solver.proofs.RecordState.{live-at}
 use Rattle.learn_solver.proofs.TrailPlaces.{not_both, place_of-cases, place_of-found, true-or-false}
 
@@ -39,7 +39,7 @@ closed-hopeless state assumptions clause id follow named closed bits meets all =
     true≢false (sym other ∙ lit_true-negation bits (get_or clause found.0 0) ∙ ap not found.2)
 
 -- an id of such a record refutes
-pub IsRefutation-closed : (l : Learner) (assumptions : List ℕ) (id at : ℕ) → IsSound l → at < length l.trail.records → (record_at l.trail.records at).id ≡ id → IsClosedBy assumptions (record_at l.trail.records at).lits → IsRefutation (solver_state l) assumptions id
+pub IsRefutation-closed : (l : Learner) (assumptions : List ℕ) (id at : ℕ) → IsLearner l → at < length l.trail.records → (record_at l.trail.records at).id ≡ id → IsClosedBy assumptions (record_at l.trail.records at).lits → IsRefutation (solver_state l) assumptions id
 IsRefutation-closed l assumptions id at s within named closed =
     let state : State = state_of l.trail.records l.given in
     let found : live_clause (state_of l.trail.records l.given) id ≡ Some (record_at l.trail.records at).lits =
@@ -109,7 +109,7 @@ not_false-lit places (lit ∷ lits) h =
     ]
 
 -- the bits make each given clause true
-pub given-true : (l : Learner) (bits : List Bool) (at : ℕ) → IsTrail l.trail → IsSound l → IsPropagated l.trail → AreAssigned l.order l.trail.places → AreBits l.trail bits → at < l.given → clause_true bits (record_at l.trail.records at).lits ≡ true
+pub given-true : (l : Learner) (bits : List Bool) (at : ℕ) → IsTrail l.trail → IsLearner l → IsPropagated l.trail → AreAssigned l.order l.trail.places → AreBits l.trail bits → at < l.given → clause_true bits (record_at l.trail.records at).lits ≡ true
 given-true l bits at f s p assigned b lt =
     let enough = s.records.enough in
     let open_clause = p.no_false at (s.records.live at (omega arith)) in
@@ -130,7 +130,7 @@ given-state : (bits : List Bool) (records : List Record) (n : ℕ) → meets_all
 unfolding state_of
 given-state bits records n h = h
 
-pub IsModel-bits : (l : Learner) (assumptions : List ℕ) (bits : List Bool) → IsTrail l.trail → IsSound l → IsPropagated l.trail → AreAssigned l.order l.trail.places → AreBits l.trail bits → ((lit : ℕ) → Contains assumptions lit → is_true l.trail.places lit ≡ true) → IsModel (solver_state l) assumptions bits
+pub IsModel-bits : (l : Learner) (assumptions : List ℕ) (bits : List Bool) → IsTrail l.trail → IsLearner l → IsPropagated l.trail → AreAssigned l.order l.trail.places → AreBits l.trail bits → ((lit : ℕ) → Contains assumptions lit → is_true l.trail.places lit ≡ true) → IsModel (solver_state l) assumptions bits
 IsModel-bits l assumptions bits f s p assigned b all = record {
   counted = b.counted;
   given = given-state bits l.trail.records l.given (given-meets bits l.trail.records l.given s.records.enough (λ at lt. given-true l bits at f s p assigned b lt));

@@ -14,7 +14,7 @@ use Rattle.learn_solver.specs.declared.learner.Learner.{Learner}
 use Rattle.learn_solver.specs.Solving.{FromOne, GoesTo}
 use Rattle.learn_solver.specs.Guides.{Guide, IsGuided}
 use Rattle.learn_solver.specs.States.{state_of}
-use Rattle.learn_solver.specs.Learners.{solver_state, guide_of, IsSound, AreRecords, Steps, Backtracks}
+use Rattle.learn_solver.specs.Learners.{solver_state, guide_of, IsLearner, AreRecords, Steps, Backtracks}
 use Rattle.learn_solver.proofs.SameStates.{SameState-records}
 use Rattle.learn_solver.proofs.RecordState.{AreRecords-same, AreUpTo-same, AreUpTo-more, AreNoted-same, AreRecords-pushed, AreNoted-pushed, HoldsRecords-state, fresh-free, state-pushed, live-within}
 use Rattle.learn_solver.proofs.CallSequence.{GoesTo-same, GoesTo-trans}
@@ -44,8 +44,8 @@ same_state records other given more e h =
     subst (λ (rs : List Record). SameState (state_of records given) (state_of rs more)) (sym e)
     (subst (λ (n : ℕ). SameState (state_of records given) (state_of records n)) (sym h) (same-self (state_of records given)))
 
-pub IsSound-moved : (old new : Learner) → IsSound old → Keeps old new → IsGuided (guide_of new) → IsSound new
-IsSound-moved old new s k g = record {
+pub IsLearner-moved : (old new : Learner) → IsLearner old → Keeps old new → IsGuided (guide_of new) → IsLearner new
+IsLearner-moved old new s k g = record {
   variables = k.variables ∙ s.variables ∙ sym k.trail_variables;
   analyzer = k.analyzer ∙ s.analyzer ∙ sym k.trail_variables;
   order = ap length k.order ∙ s.order ∙ sym k.trail_variables;
@@ -56,24 +56,24 @@ IsSound-moved old new s k g = record {
   guided = g;
 }
 
-pub IsSound-kept : (old new : Learner) → IsSound old → Keeps old new → guide_of new ≡ guide_of old → IsSound new
-IsSound-kept old new s k e = IsSound-moved old new s k (subst IsGuided (sym e) s.guided)
+pub IsLearner-kept : (old new : Learner) → IsLearner old → Keeps old new → guide_of new ≡ guide_of old → IsLearner new
+IsLearner-kept old new s k e = IsLearner-moved old new s k (subst IsGuided (sym e) s.guided)
 
 pub GoesTo-kept : (old new : Learner) → Keeps old new → GoesTo (solver_state old) (solver_state new)
 GoesTo-kept old new k = GoesTo-same (solver_state old) (solver_state new) k.trail_variables k.waiting (same_state old.trail.records new.trail.records old.given new.given k.records k.given)
 
-pub Steps-moved : (old new : Learner) → IsSound old → Keeps old new → new.assumptions.lits ≡ old.assumptions.lits → IsGuided (guide_of new) → Steps old new
+pub Steps-moved : (old new : Learner) → IsLearner old → Keeps old new → new.assumptions.lits ≡ old.assumptions.lits → IsGuided (guide_of new) → Steps old new
 Steps-moved old new s k assumptions g = record {
-  sound = IsSound-moved old new s k g;
+  sound = IsLearner-moved old new s k g;
   goes = GoesTo-kept old new k;
   variables = k.trail_variables;
   assumptions = assumptions;
 }
 
-pub Steps-kept : (old new : Learner) → IsSound old → Keeps old new → guide_of new ≡ guide_of old → Steps old new
+pub Steps-kept : (old new : Learner) → IsLearner old → Keeps old new → guide_of new ≡ guide_of old → Steps old new
 Steps-kept old new s k e = Steps-moved old new s k (ap (λ (g : Guide). g.assumptions.lits) e) (subst IsGuided (sym e) s.guided)
 
-pub Steps-refl : (l : Learner) → IsSound l → Steps l l
+pub Steps-refl : (l : Learner) → IsLearner l → Steps l l
 Steps-refl l s = Steps-kept l l s (record { records = refl; trail_variables = refl; variables = refl; analyzer = refl; order = refl; given = refl; last = refl; waiting = refl }) refl
 
 -- a clause that live clauses give may be derived
@@ -96,7 +96,7 @@ one_line line zero d h lt = h
 one_line line (suc k) d h lt = absurd (omega arith)
 
 -- one derived clause more, with its line
-pub Steps-noted : (old new : Learner) (id : ℕ) (lits hints : List ℕ) → IsSound old → IsTaught old.trail lits hints → id ≡ old.last + 1 → new.last ≡ id → Adds old.trail new.trail lits id → new.variables ≡ old.variables → new.analyzer ≡ old.analyzer → new.order ≡ old.order → new.given ≡ old.given → new.waiting.items ≡ old.waiting.items ++ Derive id lits hints ∷ [] → guide_of new ≡ guide_of old → Steps old new
+pub Steps-noted : (old new : Learner) (id : ℕ) (lits hints : List ℕ) → IsLearner old → IsTaught old.trail lits hints → id ≡ old.last + 1 → new.last ≡ id → Adds old.trail new.trail lits id → new.variables ≡ old.variables → new.analyzer ≡ old.analyzer → new.order ≡ old.order → new.given ≡ old.given → new.waiting.items ≡ old.waiting.items ++ Derive id lits hints ∷ [] → guide_of new ≡ guide_of old → Steps old new
 Steps-noted old new id lits hints s taught fresh last adds variables analyzer order given waiting guide =
     let records : List Record = old.trail.records in
     let enough = s.records.enough in
@@ -137,7 +137,7 @@ Steps-noted old new id lits hints s taught fresh last adds variables analyzer or
     }
 
 -- the trail goes back to a level
-pub Steps-back : (old new : Learner) (level : ℕ) → IsSound old → IsTrail old.trail → level ≤ old.trail.level → Backtracks old new level → Steps old new
+pub Steps-back : (old new : Learner) (level : ℕ) → IsLearner old → IsTrail old.trail → level ≤ old.trail.level → Backtracks old new level → Steps old new
 Steps-back old new level s f le e = Steps-moved old new s (record {
   records = ap (λ (l : Learner). l.trail.records) e;
   trail_variables = ap (λ (l : Learner). l.trail.variables) e;
@@ -152,11 +152,11 @@ Steps-back old new level s f le e = Steps-moved old new s (record {
     (subst IsGuided (sym (ap guide_of e)) (IsGuided-back old.trail old.assumptions level f le s.guided))
 
 -- only the trail changes, and of it only places and level
-pub Steps-trail : (old : Learner) (t : TrailState) → IsSound old → t.records ≡ old.trail.records → t.variables ≡ old.trail.variables → IsGuided (guide_of (record old { trail = t })) → Steps old (record old { trail = t })
+pub Steps-trail : (old : Learner) (t : TrailState) → IsLearner old → t.records ≡ old.trail.records → t.variables ≡ old.trail.variables → IsGuided (guide_of (record old { trail = t })) → Steps old (record old { trail = t })
 Steps-trail old t s records variables g = Steps-moved old (record old { trail = t }) s (record { records = records; trail_variables = variables; variables = refl; analyzer = refl; order = refl; given = refl; last = refl; waiting = refl }) refl g
 
 -- only what is known of the assumptions changes
-pub Steps-holding : (old new : Learner) → IsSound old → new ≡ record old { assumptions = record old.assumptions { holding = new.assumptions.holding } } → IsGuided (guide_of new) → Steps old new
+pub Steps-holding : (old new : Learner) → IsLearner old → new ≡ record old { assumptions = record old.assumptions { holding = new.assumptions.holding } } → IsGuided (guide_of new) → Steps old new
 Steps-holding old new s e g = Steps-moved old new s (record {
   records = ap (λ (l : Learner). l.trail.records) e;
   trail_variables = ap (λ (l : Learner). l.trail.variables) e;

@@ -17,7 +17,7 @@ use Rattle.watch_arena.specs.Trails.{TrailState, IsTrail, IsCompacted}
 use Rattle.learn_solver.specs.declared.learner.Learner.{Learner}
 use Rattle.learn_solver.specs.States.{state_of, idle_of}
 use Rattle.learn_solver.specs.Guides.{IsGuided, by_trail}
-use Rattle.learn_solver.specs.Learners.{solver_state, guide_of, IsSound, Forgets}
+use Rattle.learn_solver.specs.Learners.{solver_state, guide_of, IsLearner, Forgets}
 use Rattle.learn_solver.specs.Solving.{FromOne, GoesTo, IsTidied, forgetting}
 use Rattle.learn_solver.proofs.SameStates.{SameState-records}
 use Rattle.learn_solver.proofs.RecordState.{AreRecords-same, AreUpTo-same, AreNoted-same}
@@ -27,7 +27,7 @@ use Rattle.learn_solver.proofs.RemainingRecords.{AreForgotten, AreForgotten-from
 
 -- what tidying came to
 pub record HasTidied (old new : Learner) : Type 0 where
-  pub sound : IsSound new
+  pub sound : IsLearner new
   pub kept : GoesTo (solver_state old) (solver_state new)
   pub tidied : IsTidied (solver_state old) (solver_state new)
 
@@ -41,7 +41,7 @@ one_line ids zero d h lt = λ j e below. h (get_or ids j e) (Contains-get_or ids
 one_line ids (suc k) d h lt = absurd (omega arith)
 
 -- where no clause is idle nothing is done
-pub HasTidied-none : (l : Learner) → IsSound l → (solver_state l).idle ≡ [] → HasTidied l l
+pub HasTidied-none : (l : Learner) → IsLearner l → (solver_state l).idle ≡ [] → HasTidied l l
 HasTidied-none l s none = record {
   sound = s;
   kept = GoesTo-same (solver_state l) (solver_state l) refl refl (same-self (solver_state l).state);
@@ -60,7 +60,7 @@ lits-renamed name [] = refl
 lits-renamed name (p ∷ places) = ap (λ (lits : List ℕ). p.lit ∷ lits) (lits-renamed name places)
 
 -- by its steps
-pub HasTidied-from : (old new : Learner) (start mid : TrailState) (ids : List ℕ) → IsSound old → start ≡ record old.trail { spare = start.spare } → ids ≡ (solver_state old).idle → 0 < length ids → Forgets start mid old.given → IsCompacted mid new.trail → new.variables ≡ old.variables → new.analyzer ≡ old.analyzer → new.order ≡ old.order → new.given ≡ old.given → new.last ≡ old.last → new.waiting.items ≡ old.waiting.items ++ Forget ids ∷ [] → IsTrail old.trail → IsTrail new.trail → guide_of new ≡ by_trail new.trail old.assumptions → HasTidied old new
+pub HasTidied-from : (old new : Learner) (start mid : TrailState) (ids : List ℕ) → IsLearner old → start ≡ record old.trail { spare = start.spare } → ids ≡ (solver_state old).idle → 0 < length ids → Forgets start mid old.given → IsCompacted mid new.trail → new.variables ≡ old.variables → new.analyzer ≡ old.analyzer → new.order ≡ old.order → new.given ≡ old.given → new.last ≡ old.last → new.waiting.items ≡ old.waiting.items ++ Forget ids ∷ [] → IsTrail old.trail → IsTrail new.trail → guide_of new ≡ by_trail new.trail old.assumptions → HasTidied old new
 HasTidied-from old new start mid ids s start_is ids_are some forgets compacts variables analyzer order given last waiting facts after_facts guide =
     let f : AreForgotten old.trail.places old.trail.records mid.records old.given =
     subst (λ (ps : List Place). AreForgotten ps old.trail.records mid.records old.given) (ap (λ (t : TrailState). t.places) start_is)

@@ -166,7 +166,7 @@ assumed-once t p q f lp lq ap_ aq e =
     ]
 
 -- the places up to a level are the first ones
-pub record IsCut (places : List Place) (level n : ℕ) : Type 0 where
+pub record IsLevelEnd (places : List Place) (level n : ℕ) : Type 0 where
   pub within : n ≤ length places
   pub same : places_up_to places level ≡ take n places
   pub up_to : (p : ℕ) → p < n → (place_at places p).level ≤ level
@@ -186,7 +186,7 @@ past-next : (q : Place) (places : List Place) (level n p : ℕ) → ((p : ℕ) �
 past-next q places level n zero rest le lt = absurd (omega arith)
 past-next q places level n (suc p) rest le lt = rest p (omega arith) (omega arith)
 
-cut-rising : (places : List Place) (level : ℕ) → ((p q : ℕ) → p ≤ q → q < length places → (place_at places p).level ≤ (place_at places q).level) → (n : ℕ) × IsCut places level n
+cut-rising : (places : List Place) (level : ℕ) → ((p q : ℕ) → p ≤ q → q < length places → (place_at places p).level ≤ (place_at places q).level) → (n : ℕ) × IsLevelEnd places level n
 cut-rising [] level rising = (0, record { within = omega arith; same = refl; up_to = λ p lt. absurd (omega arith); past = λ p le lt. absurd (omega arith) })
 cut-rising (q ∷ places) level rising =
     elim (cases_lt level q.level) [
@@ -208,7 +208,7 @@ cut-rising (q ∷ places) level rising =
           )
     ]
 
-pub cut-at : (t : TrailState) (level : ℕ) → IsTrail t → (n : ℕ) × IsCut t.places level n
+pub cut-at : (t : TrailState) (level : ℕ) → IsTrail t → (n : ℕ) × IsLevelEnd t.places level n
 cut-at t level f = cut-rising t.places level (λ p q le lt. levels-grow t p q f le lt)
 
 -- a literal is true exactly where it is that of its variable's place

@@ -56,7 +56,7 @@ pub record Forgets (old new : TrailState) (given : ℕ) : Type 0 where
   pub gone : (at : ℕ) → given ≤ at → at < length old.records → is_reason old.places at ≡ false → record_at new.records at ≡ forgotten (record_at old.records at)
 
 -- what is so of the parts at any time
-pub record IsSound (l : Learner) : Type 0 where
+pub record IsLearner (l : Learner) : Type 0 where
   pub variables : l.variables ≡ l.trail.variables
   pub analyzer : l.analyzer ≡ l.trail.variables
   pub order : length l.order ≡ l.trail.variables
@@ -68,7 +68,7 @@ pub record IsSound (l : Learner) : Type 0 where
 
 -- what each step keeps
 pub record Steps (old new : Learner) : Type 0 where
-  pub sound : IsSound new
+  pub sound : IsLearner new
   pub goes : GoesTo (solver_state old) (solver_state new)
   pub variables : new.trail.variables ≡ old.trail.variables
   pub assumptions : new.assumptions.lits ≡ old.assumptions.lits

@@ -16,6 +16,6 @@ abbrev pub AreBelow : List Bool → ℕ → Type 0
 AreBelow noted end = (variable : ℕ) → slice_index_or noted variable false ≡ true → variable < end
 
 -- what an order keeps
-pub record IsOrder (noted : List Bool) (end : ℕ) : Type 0 where
+pub record IsNotedBelow (noted : List Bool) (end : ℕ) : Type 0 where
   pub small : AreSmall noted
   pub below : AreBelow noted end

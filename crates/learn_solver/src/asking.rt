@@ -11,7 +11,7 @@ use std::alloc::AllocError;
 impl Learner {
     ghost use Rattle.learn_solver.specs.Solving.{GoesTo};
     ghost use Rattle.learn_solver.specs.Guides.{IsMarked, IsNext};
-    ghost use Rattle.learn_solver.specs.Learners.{solver_state, guide_of, IsSound, Reuses};
+    ghost use Rattle.learn_solver.specs.Learners.{solver_state, guide_of, IsLearner, Reuses};
 
     // Whether the next assumption is true by the levels that are known to begin with assumptions, or begins the next one.
     fn follows(&mut self, lit: Lit) -> bool
@@ -62,9 +62,9 @@ impl Learner {
 
     // Takes up a question where the last one left the trail. What the two agree on is compared, and not followed again.
     pub(crate) fn ask(&mut self, assumptions: &[Lit], more: &[Lit]) -> Result<(), AllocError>
-        requires sound { IsSound self.old }
+        requires sound { IsLearner self.old }
         requires range { AreInRange (assumptions.now ++ more.now) self.old.trail.variables }
-        ensures sound { IsSound self.new }
+        ensures sound { IsLearner self.new }
         ensures goes { GoesTo (solver_state self.old) (solver_state self.new) }
         ensures ok { OnOk result (self.new.assumptions.lits ≡ assumptions.now ++ more.now) }
     {

@@ -49,10 +49,10 @@ impl Drop for Learner {
 impl Learner {
     ghost use Rattle.learn_solver.specs.Solving.{AddsGiven};
     ghost use Rattle.learn_solver.specs.Hints.{AddsLine};
-    ghost use Rattle.learn_solver.specs.Learners.{solver_state, IsSound, Steps, Backtracks, IsStored, KeepsPlaces, KeepsRest};
+    ghost use Rattle.learn_solver.specs.Learners.{solver_state, IsLearner, Steps, Backtracks, IsStored, KeepsPlaces, KeepsRest};
 
     pub(crate) fn new(alloc: Global, variables: u32) -> Result<Learner, AllocError>
-        ensures sound { IfOk result (λ l. IsSound l) }
+        ensures sound { IfOk result (λ l. IsLearner l) }
         ensures empty { IfOk result (λ l. solver_state l ≡ record { variables = variables; state = first_state []; waiting = []; idle = []; assigned = [] }) }
     {
         Ok(Learner {
@@ -77,10 +77,10 @@ impl Learner {
 
     // Adds a given clause and answers its id. All memory is taken before anything changes.
     pub(crate) fn add(&mut self, lits: &[Lit]) -> Result<u64, AllocError>
-        requires sound { IsSound self.old }
+        requires sound { IsLearner self.old }
         requires range { AreInRange lits.now self.old.trail.variables }
         requires first { (solver_state self.old).state.derived ≡ [] }
-        ensures sound { IsSound self.new }
+        ensures sound { IsLearner self.new }
         ensures id { IfOk result (λ id. id ≡ length (solver_state self.old).state.given + 1) }
         ensures ok { OnOk result (AddsGiven (solver_state self.old) (solver_state self.new) lits.now) }
         ensures err { OnErr result (solver_state self.new ≡ solver_state self.old) }
@@ -111,7 +111,7 @@ impl Learner {
 
     // The trail goes back to a level.
     pub(crate) fn backtrack(&mut self, level: u32)
-        requires sound { IsSound self.old }
+        requires sound { IsLearner self.old }
         requires level { level ≤ self.old.trail.level }
         ensures steps { Steps self.old self.new }
         ensures back { Backtracks self.old self.new level }
@@ -145,7 +145,7 @@ impl Learner {
 
     // One derived clause more, with its line. All memory is taken before anything changes.
     pub(crate) fn add_derived(&mut self, lits: Clause, hints: Ids) -> Result<Ref, AllocError>
-        requires sound { IsSound self.old }
+        requires sound { IsLearner self.old }
         requires taught { IsTaught self.old.trail lits hints }
         ensures steps { Steps self.old self.new }
         ensures kept { KeepsPlaces self.old.trail self.new.trail }

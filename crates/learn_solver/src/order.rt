@@ -31,9 +31,9 @@ impl Model for Order {
 
     ghost view = { λ order. order.noted.items };
 
-    ghost use Rattle.learn_solver.specs.Noted.{IsOrder};
+    ghost use Rattle.learn_solver.specs.Noted.{IsNotedBelow};
 
-    ghost invariant = { λ order. IsOrder order.noted.items order.end };
+    ghost invariant = { λ order. IsNotedBelow order.noted.items order.end };
 }
 
 impl Order {

@@ -13,7 +13,7 @@ use lits_core::Lit;
 
 impl Learner {
     ghost use Rattle.learn_solver.specs.States.{is_reason};
-    ghost use Rattle.learn_solver.specs.Learners.{solver_state, IsSound};
+    ghost use Rattle.learn_solver.specs.Learners.{solver_state, IsLearner};
 
     // The number of the place of a literal's variable; none where it is unassigned.
     pub(crate) fn place_of(&self, lit: Lit) -> Option<usize>
@@ -124,7 +124,7 @@ impl Learner {
 
     // The number of the first record whose id is this or a later one, by halving; the number of records where there is none.
     fn first_from(&self, id: u64) -> usize
-        requires { IsSound self.now }
+        requires { IsLearner self.now }
         ensures within { result ≤ length self.now.trail.records }
         ensures before { (at : ℕ) → at < result → (record_at self.now.trail.records at).id < id }
         ensures from { (at : ℕ) → result ≤ at → at < length self.now.trail.records → id ≤ (record_at self.now.trail.records at).id }
@@ -144,7 +144,7 @@ impl Learner {
 
     // The record of the live clause with an id.
     pub(crate) fn find(&self, id: u64) -> Option<Ref>
-        requires { IsSound self.now }
+        requires { IsLearner self.now }
         ensures clause { MatchOption result (live_clause (solver_state self.now).state id ≡ None) (λ at. (at < length self.now.trail.records) × (live_clause (solver_state self.now).state id ≡ Some (record_at self.now.trail.records at).lits)) }
         ensures named { IfSome result (λ at. (record_at self.now.trail.records at).id ≡ id) }
     {
@@ -192,7 +192,7 @@ impl Learner {
 
     // How many derived clauses are the reason of no literal.
     pub(crate) fn idle(&self) -> u64
-        requires { IsSound self.now }
+        requires { IsLearner self.now }
         ensures { result ≡ length (solver_state self.now).idle }
     {
         let arena = self.trail.arena();
@@ -209,7 +209,7 @@ impl Learner {
 
     // Whether more derived clauses than so many are the reason of no literal. Where no more are there, none is looked at.
     pub(crate) fn has_more_idle(&self, most: u64) -> bool
-        requires { IsSound self.now }
+        requires { IsLearner self.now }
         ensures { result ≡ nat_lt most (length (solver_state self.now).idle) }
     {
         self.facts();

@@ -16,11 +16,11 @@ impl Learner {
     ghost use Rattle.learn_solver.specs.Solving.{GoesTo, AreConsistent};
     ghost use Rattle.learn_solver.specs.Answers.{IsAnswer};
     ghost use Rattle.learn_solver.specs.Guides.{IsNext};
-    ghost use Rattle.learn_solver.specs.Learners.{solver_state, IsSound, Steps, Backjumps, IsClosed, KeepsPlaces, KeepsRest, Serves, AreBits};
+    ghost use Rattle.learn_solver.specs.Learners.{solver_state, IsLearner, Steps, Backjumps, IsClosed, KeepsPlaces, KeepsRest, Serves, AreBits};
 
     // Learns from a conflict at a level, and goes back to where the learnt clause implies its first literal.
     fn learn(&mut self, at: Ref) -> Result<(), AllocError>
-        requires sound { IsSound self.old }
+        requires sound { IsLearner self.old }
         requires conflict { IsConflict self.old.trail at }
         requires at_the_level { (lit : ℕ) × Contains (record_at self.old.trail.records at).lits lit × (level_in self.old.trail.places lit ≡ self.old.trail.level) }
         requires level { 0 < self.old.trail.level }
@@ -40,7 +40,7 @@ impl Learner {
 
     // The id of a clause that assumed literals make false, which a conflict shows.
     fn analyze_final(&mut self, at: Ref) -> Result<u64, AllocError>
-        requires sound { IsSound self.old }
+        requires sound { IsLearner self.old }
         requires conflict { IsConflict self.old.trail at }
         ensures steps { Steps self.old self.new }
         ensures kept { KeepsPlaces self.old.trail self.new.trail }
@@ -58,7 +58,7 @@ impl Learner {
 
     // The id of a clause that assumed literals and this one, which is false, make false.
     fn analyze_final_lit(&mut self, lit: Lit) -> Result<u64, AllocError>
-        requires sound { IsSound self.old }
+        requires sound { IsLearner self.old }
         requires false_there { IsTrue (is_false self.old.trail.places lit) }
         requires implied { reason_of self.old.trail.places (variable_of lit) ≢ None }
         ensures steps { Steps self.old self.new }
@@ -81,7 +81,7 @@ impl Learner {
 
     // Looks into a conflict: learns from it, or answers where it rests on assumptions alone.
     fn resolve_conflict(&mut self, at: Ref) -> Result<Option<Answer>, AllocError>
-        requires sound { IsSound self.old }
+        requires sound { IsLearner self.old }
         requires conflict { IsConflict self.old.trail at }
         ensures steps { Steps self.old self.new }
         ensures served { IfOk result (Serves self.old self.new) }
@@ -101,7 +101,7 @@ impl Learner {
 
     // Unit propagation.
     fn propagate(&mut self) -> Option<Ref>
-        requires { IsSound self.old }
+        requires { IsLearner self.old }
         ensures steps { Steps self.old self.new }
         ensures kept { Propagates self.old.trail self.new.trail }
         ensures found { MatchOption result (IsPropagated self.new.trail) (λ at. IsConflict self.new.trail at) }
@@ -111,7 +111,7 @@ impl Learner {
 
     // Counts the assumptions that hold, up to the first that does not, which it answers.
     fn next_open(&mut self) -> Option<Lit>
-        requires sound { IsSound self.old }
+        requires sound { IsLearner self.old }
         requires range { AreInRange self.old.assumptions.lits self.old.trail.variables }
         ensures steps { Steps self.old self.new }
         ensures same { self.new ≡ record self.old { assumptions = record self.old.assumptions { holding = self.new.assumptions.holding } } }
@@ -129,7 +129,7 @@ impl Learner {
 
     // Makes the next assumption true on a level of its own.
     fn assume(&mut self, lit: Lit) -> Result<(), AllocError>
-        requires sound { IsSound self.old }
+        requires sound { IsLearner self.old }
         requires range { variable_of lit < self.old.trail.variables }
         requires unassigned { place_of self.old.trail.places (variable_of lit) ≡ None }
         requires next { IsNext self.old.assumptions lit }
@@ -160,7 +160,7 @@ impl Learner {
 
     // Decides a variable where all assumptions are true, or answers bits where no variable is left that has to be decided.
     fn decide(&mut self) -> Result<Option<Answer>, AllocError>
-        requires sound { IsSound self.old }
+        requires sound { IsLearner self.old }
         requires propagated { IsPropagated self.old.trail }
         requires holding { self.old.assumptions.holding ≡ length self.old.assumptions.lits }
         ensures steps { Steps self.old self.new }
@@ -182,7 +182,7 @@ impl Learner {
 
     // Makes the next assumption true, or answers where it is false.
     fn assume_next(&mut self, lit: Lit) -> Result<Option<Answer>, AllocError>
-        requires sound { IsSound self.old }
+        requires sound { IsLearner self.old }
         requires range { variable_of lit < self.old.trail.variables }
         requires next { IsNext self.old.assumptions lit }
         requires open { is_true self.old.trail.places lit ≡ false }
@@ -202,7 +202,7 @@ impl Learner {
 
     // One step where no clause is false or unit: an assumption or a decision, or an answer.
     fn extend(&mut self) -> Result<Option<Answer>, AllocError>
-        requires sound { IsSound self.old }
+        requires sound { IsLearner self.old }
         requires range { AreInRange self.old.assumptions.lits self.old.trail.variables }
         requires consistent { AreConsistent self.old.assumptions.lits }
         requires propagated { IsPropagated self.old.trail }
@@ -217,7 +217,7 @@ impl Learner {
 
     // One step of the search, which goes on after None.
     fn step(&mut self) -> Result<Option<Answer>, AllocError>
-        requires sound { IsSound self.old }
+        requires sound { IsLearner self.old }
         requires range { AreInRange self.old.assumptions.lits self.old.trail.variables }
         requires consistent { AreConsistent self.old.assumptions.lits }
         ensures steps { Steps self.old self.new }
@@ -231,10 +231,10 @@ impl Learner {
 
     // Searches for bits until there are some, or a clause shows that there are none.
     pub(crate) fn solve(&mut self, assumptions: &[Lit], more: &[Lit]) -> Result<Answer, AllocError>
-        requires sound { IsSound self.old }
+        requires sound { IsLearner self.old }
         requires range { AreInRange (assumptions.now ++ more.now) self.old.trail.variables }
         requires consistent { AreConsistent (assumptions.now ++ more.now) }
-        ensures sound { IsSound self.new }
+        ensures sound { IsLearner self.new }
         ensures goes { GoesTo (solver_state self.old) (solver_state self.new) }
         ensures answer { IfOk result (IsAnswer (solver_state self.new) (assumptions.now ++ more.now)) }
     {

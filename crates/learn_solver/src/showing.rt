@@ -11,12 +11,12 @@ use lits_core::{Clause, Hint, Ids, Lit};
 use std::alloc::AllocError;
 
 impl Learner {
-    ghost use Rattle.learn_solver.specs.Learners.{solver_state, IsSound, Steps};
+    ghost use Rattle.learn_solver.specs.Learners.{solver_state, IsLearner, Steps};
     ghost use Rattle.learn_solver.specs.Hints.{Suffice, AddsLine, Derives};
 
     // Adds a clause that hints show, with its line, and answers its id; none where they do not show it.
     pub(crate) fn derive(&mut self, lits: &[Lit], hints: &[u64]) -> Result<Option<u64>, AllocError>
-        requires sound { IsSound self.old }
+        requires sound { IsLearner self.old }
         requires range { AreInRange lits.now self.old.trail.variables }
         ensures steps { Steps self.old self.new }
         ensures derived { IfOk result (λ o. IfSome o (λ id. MatchOption (live_clause (solver_state self.new).state id) ⊥ (SameLits lits.now))) }
@@ -37,7 +37,7 @@ impl Learner {
 
     // Adds a clause that hints show, with its line, and answers its id.
     fn add_shown(&mut self, lits: &[Lit], hints: &[u64]) -> Result<u64, AllocError>
-        requires sound { IsSound self.old }
+        requires sound { IsLearner self.old }
         requires taught { IsTaught self.old.trail lits.now hints.now }
         ensures steps { Steps self.old self.new }
         ensures stored { IfOk result (λ id. MatchOption (live_clause (solver_state self.new).state id) ⊥ (SameLits lits.now)) }
@@ -52,7 +52,7 @@ impl Learner {
 
     // How many of the hints it takes to show a clause; none where they do not show it.
     fn shown_by(&self, lits: &[Lit], hints: &[u64]) -> Result<Option<usize>, AllocError>
-        requires sound { IsSound self.now }
+        requires sound { IsLearner self.now }
         requires range { AreInRange lits.now self.now.trail.variables }
         ensures within { IfOk result (λ o. IfSome o (λ count. count ≤ length hints.now)) }
         ensures enough { IfOk result (λ o. IfSome o (Suffice (solver_state self.now).state lits.now hints.now)) }

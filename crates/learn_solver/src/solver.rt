@@ -35,11 +35,11 @@ impl Model for Solver {
 
     ghost Value = { SolverState };
 
-    ghost use Rattle.learn_solver.specs.Learners.{solver_state, IsSound};
+    ghost use Rattle.learn_solver.specs.Learners.{solver_state, IsLearner};
 
     ghost view = { λ s. solver_state s.learner };
 
-    ghost invariant = { λ s. IsSound s.learner };
+    ghost invariant = { λ s. IsLearner s.learner };
 }
 
 impl Solver {

@@ -7,11 +7,11 @@ use std::alloc::AllocError;
 
 impl Learner {
     ghost use Rattle.learn_solver.specs.Solving.{GoesTo, IsTidied};
-    ghost use Rattle.learn_solver.specs.Learners.{solver_state, IsSound, Forgets};
+    ghost use Rattle.learn_solver.specs.Learners.{solver_state, IsLearner, Forgets};
 
     // The ids of the derived clauses that are the reason of no literal.
     fn idle_ids(&self) -> Result<Ids, AllocError>
-        requires { IsSound self.now }
+        requires { IsLearner self.now }
         ensures { IfOk result (λ ids. ids ≡ (solver_state self.now).idle) }
     {
         let mut ids = Vec::new(self.alloc);
@@ -27,7 +27,7 @@ impl Learner {
 
     // Those clauses are live no more.
     fn forget_idle(&mut self)
-        requires { IsSound self.old }
+        requires { IsLearner self.old }
         ensures same { self.new ≡ record self.old { trail = self.new.trail } }
         ensures forgets { Forgets self.old.trail self.new.trail self.old.given }
     {
@@ -43,8 +43,8 @@ impl Learner {
 
     // Forgets the idle clauses, with a line that says so. All memory is taken before anything changes.
     pub(crate) fn tidy(&mut self) -> Result<(), AllocError>
-        requires { IsSound self.old }
-        ensures sound { IsSound self.new }
+        requires { IsLearner self.old }
+        ensures sound { IsLearner self.new }
         ensures kept { GoesTo (solver_state self.old) (solver_state self.new) }
         ensures ok { OnOk result (IsTidied (solver_state self.old) (solver_state self.new)) }
         ensures err { OnErr result (solver_state self.new ≡ solver_state self.old) }

@@ -1,6 +1,7 @@
 -- What a listing comes to that words ask for, by the bytes that are read for it.
-use Rattle.std.proofs.Common.{◌≡◌, ℕ, ◌<◌, ◌≤◌, Bool, true, false, List, [], Option, None, Some, IfSome, IfOk, IfErr, Result, Ok, Err, length, take, refl, sym, ap, subst, ◌∙◌, inl, inr, ⊎_elim, arith, length-take, take_all}
+use Rattle.std.proofs.Common.{◌≡◌, ◌≢◌, ℕ, ◌<◌, ◌≤◌, Bool, true, false, List, [], Option, None, Some, IfSome, IfOk, IfErr, Result, Ok, Err, length, take, refl, sym, ap, subst, ◌∙◌, inl, inr, ⊎_elim, arith, length-take, take_all}
 use Rattle.std.specs.Prelude.{nat_lt, if◌then◌else◌, bytes_eq, unwrap_or, option_map}
+use Rattle.std.proofs.lemmas.Slice.Eq.{bytes_eq-Decides}
 use Rattle.std.proofs.lemmas.Bool.{ltb-true, lt-ltb, ltb-false}
 use Rattle.world_model.specs.declared.Switches.{Switches}
 use Rattle.rcc5_core.specs.declared.Rel.{Rel}
@@ -17,11 +18,11 @@ use Rattle.run_ends.specs.Reads.{AreHeld, AreFront, problem_by, problem_in, IsRe
 use Rattle.outer_store.specs.States.{StoreState, IsQuiet}
 use Rattle.run_ends.specs.Runs.{Answered, ending_of, IsEarlyEnd}
 use Rattle.run_ends.proofs.ReadLemmas.{text_cut}
-use Rattle.listing_run.specs.declared.Asking.{Asking}
-use Rattle.listing_run.specs.declared.Order.{Order}
-use Rattle.listing_run.specs.Output.{start_of, order_from, order_by, ComesTo, listing_names, IsListingAnswer}
-use Rattle.listing_run.specs.Steps.{start_by, start_in, token_end, IsStart, IsWithoutStart, IsAskable}
-use Rattle.listing_run.proofs.RequestLemmas.{one_bytes}
+use Rattle.command_line.specs.declared.request.AlignArgs.{AlignArgs}
+use Rattle.command_line.specs.Requests.{AreApart, IsAlign}
+use Rattle.listing_log.specs.declared.ListingPlan.{ListingPlan}
+use Rattle.listing_run.specs.Output.{start_of, plan_from, plan_by, ComesTo, listing_names, IsListingAnswer}
+use Rattle.listing_run.specs.Steps.{start_by, start_in, token_end, IsStart, IsWithoutStart}
 
 -- bytes that are cut behind the longest token are too long still
 token_cut : (p : Problem) (told : List ℕ) → token_result p (take 1048577 told) ≡ token_result p told
@@ -51,6 +52,14 @@ token_ended p bytes f s first end = by (kind_of f) first end
 
 pub ruleset token_rules = (token_said, token_ended)
 
+-- bytes that are not the same are told apart
+bytes_apart : (one other : List ℕ) → one ≢ other → bytes_eq one other ≡ false
+bytes_apart one other apart = by (bytes_eq one other) refl
+  where
+    by : (b : Bool) → bytes_eq one other ≡ b → bytes_eq one other ≡ false
+    by true e = absurd (apart ((bytes_eq-Decides one other).0 e))
+    by false e = e
+
 -- the bytes of names: what the store tells, and else these of one name and those of the others
 abbrev filled : Contents → List ℕ → List ℕ → List ℕ → List ℕ → List ℕ
 filled held input these those name = unwrap_or (held name) (if bytes_eq input name then these else those)
@@ -71,140 +80,140 @@ filled-front judge cut (Some all) bytes front = sym (ap judge front ∙ cut all)
 filled-input : (held : Contents) (input these those : List ℕ) (switches : Switches) → AreFront held input these
     → text_result (filled held input these those input) switches ≡ text_result these switches
 filled-input held input these those switches front =
-    ap (λ (b : Bool). text_result (unwrap_or (held input) (if b then these else those)) switches) (one_bytes input)
+    ap (λ (b : Bool). text_result (unwrap_or (held input) (if b then these else those)) switches) ((bytes_eq-Decides input input).1 refl)
     ∙ filled-front (λ bytes. text_result bytes switches) (λ told. text_cut told switches) (held input) these front
 
-filled-token : (p : Problem) (held : Contents) (input name these those : List ℕ) → bytes_eq input name ≡ false → AreFront held name those
+filled-token : (p : Problem) (held : Contents) (input name these those : List ℕ) → input ≢ name → AreFront held name those
     → token_result p (filled held input these those name) ≡ token_result p those
 filled-token p held input name these those apart front =
-    ap (λ (b : Bool). token_result p (unwrap_or (held name) (if b then these else those))) apart
+    ap (λ (b : Bool). token_result p (unwrap_or (held name) (if b then these else those))) (bytes_apart input name apart)
     ∙ filled-front (token_result p) (token_cut p) (held name) those front
 
--- an order by what comes of its text and of its token
-abbrev from_start : Problem → Option ℕ → Option ℕ → Result (List Rel) Status → Result Order Status
-from_start p nodes worlds (Ok start) = Ok (record { problem = p; start = start; nodes = nodes; worlds = worlds })
+-- a plan by what comes of its text and of its token
+abbrev from_start : Problem → Option ℕ → Option ℕ → Result (List Rel) Status → Result ListingPlan Status
+from_start p nodes worlds (Ok start) = Ok (record { problem = p; start = start; end = None; nodes = nodes; worlds = worlds })
 from_start p nodes worlds (Err s) = Err s
 
-abbrev from_problem : Result Problem Status → Option ℕ → Option ℕ → (Problem → Result (List Rel) Status) → Result Order Status
+abbrev from_problem : Result Problem Status → Option ℕ → Option ℕ → (Problem → Result (List Rel) Status) → Result ListingPlan Status
 from_problem (Ok p) nodes worlds start = from_start p nodes worlds (start p)
 from_problem (Err s) nodes worlds start = Err s
 
-by_start : (p : Problem) (nodes worlds : Option ℕ) (r : Result (List Rel) TokenKind) → order_from p nodes worlds r ≡ from_start p nodes worlds (start_by r)
+by_start : (p : Problem) (nodes worlds : Option ℕ) (r : Result (List Rel) TokenKind) → plan_from p nodes worlds r ≡ from_start p nodes worlds (start_by r)
 by_start p nodes worlds (Ok start) = refl
 by_start p nodes worlds (Err kind) = refl
 
 by_problem : (r : Result Problem (ℕ × TextKind)) (nodes worlds : Option ℕ) (token : Option (List ℕ))
-    → order_by r nodes worlds token ≡ from_problem (problem_by r) nodes worlds (λ p. start_by (start_of p token))
+    → plan_by r nodes worlds token ≡ from_problem (problem_by r) nodes worlds (λ p. start_by (start_of p token))
 by_problem (Ok p) nodes worlds token = by_start p nodes worlds (start_of p token)
 by_problem (Err fault) nodes worlds token = refl
 
 -- a request without a token to be read
-comes_plain : (held : Contents) (asking : Asking) (these : List ℕ) (outcome : Result Order Status) → AreFront held asking.input these
-    → from_problem (problem_in asking.switches these) asking.nodes asking.worlds (λ p. Ok []) ≡ outcome → ComesTo (record asking { resume = None }) held outcome
-comes_plain held asking these outcome front e = record {
-  bytes = filled held asking.input these [];
-  told = filled-told held asking.input these [];
+comes_plain : (held : Contents) (args : AlignArgs) (these : List ℕ) (outcome : Result ListingPlan Status) → AreFront held args.input these
+    → from_problem (problem_in args.switches these) args.nodes args.worlds (λ p. Ok []) ≡ outcome → ComesTo (record args { resume = None }) held outcome
+comes_plain held args these outcome front e = record {
+  bytes = filled held args.input these [];
+  told = filled-told held args.input these [];
   is =
-      ap (λ (r : Result Problem (ℕ × TextKind)). order_by r asking.nodes asking.worlds None) (filled-input held asking.input these [] asking.switches front)
-      ∙ by_problem (text_result these asking.switches) asking.nodes asking.worlds None
+      ap (λ (r : Result Problem (ℕ × TextKind)). plan_by r args.nodes args.worlds None) (filled-input held args.input these [] args.switches front)
+      ∙ by_problem (text_result these args.switches) args.nodes args.worlds None
       ∙ e;
 }
 
 -- and with one
-comes_resumed : (held : Contents) (asking : Asking) (these name those : List ℕ) (outcome : Result Order Status)
-    → bytes_eq asking.input name ≡ false → AreFront held asking.input these → AreFront held name those
-    → from_problem (problem_in asking.switches these) asking.nodes asking.worlds (λ p. start_in p those) ≡ outcome → ComesTo (record asking { resume = Some name }) held outcome
-comes_resumed held asking these name those outcome apart front behind e = record {
-  bytes = filled held asking.input these those;
-  told = filled-told held asking.input these those;
+comes_resumed : (held : Contents) (args : AlignArgs) (these name those : List ℕ) (outcome : Result ListingPlan Status)
+    → args.input ≢ name → AreFront held args.input these → AreFront held name those
+    → from_problem (problem_in args.switches these) args.nodes args.worlds (λ p. start_in p those) ≡ outcome → ComesTo (record args { resume = Some name }) held outcome
+comes_resumed held args these name those outcome apart front behind e = record {
+  bytes = filled held args.input these those;
+  told = filled-told held args.input these those;
   is =
-      ap (λ (r : Result Problem (ℕ × TextKind)). order_by r asking.nodes asking.worlds (Some (filled held asking.input these those name))) (filled-input held asking.input these those asking.switches front)
-      ∙ by (text_result these asking.switches)
+      ap (λ (r : Result Problem (ℕ × TextKind)). plan_by r args.nodes args.worlds (Some (filled held args.input these those name))) (filled-input held args.input these those args.switches front)
+      ∙ by (text_result these args.switches)
       ∙ e;
 }
   where
-    by : (r : Result Problem (ℕ × TextKind)) → order_by r asking.nodes asking.worlds (Some (filled held asking.input these those name)) ≡ from_problem (problem_by r) asking.nodes asking.worlds (λ p. start_in p those)
-    by (Ok p) = ap (order_from p asking.nodes asking.worlds) (filled-token p held asking.input name these those apart behind) ∙ by_start p asking.nodes asking.worlds (token_result p those)
+    by : (r : Result Problem (ℕ × TextKind)) → plan_by r args.nodes args.worlds (Some (filled held args.input these those name)) ≡ from_problem (problem_by r) args.nodes args.worlds (λ p. start_in p those)
+    by (Ok p) = ap (plan_from p args.nodes args.worlds) (filled-token p held args.input name these those apart behind) ∙ by_start p args.nodes args.worlds (token_result p those)
     by (Err fault) = refl
 
 -- a request whose problem and start are found
-pub comes_ok : (held : Contents) (asking : Asking) (p : Problem) (start : List Rel) → IsAskable asking → ComesOf held asking.input (problem_in asking.switches) (Ok p)
-    → IsStart held p asking.resume start → ComesTo asking held (Ok (record { problem = p; start = start; nodes = asking.nodes; worlds = asking.worlds }))
-comes_ok held asking p start askable problem begun = by asking.resume askable.apart begun
+pub comes_ok : (held : Contents) (args : AlignArgs) (p : Problem) (start : List Rel) → IsAlign args → ComesOf held args.input (problem_in args.switches) (Ok p)
+    → IsStart held p args.resume start → ComesTo args held (Ok (record { problem = p; start = start; end = None; nodes = args.nodes; worlds = args.worlds }))
+comes_ok held args p start align problem begun = by args.resume align.apart begun
   where
-    by : (resume : Option (List ℕ)) → IfSome resume (λ name. bytes_eq asking.input name ≡ false) → IsStart held p resume start
-        → ComesTo (record asking { resume = resume }) held (Ok (record { problem = p; start = start; nodes = asking.nodes; worlds = asking.worlds }))
+    by : (resume : Option (List ℕ)) → AreApart (Some args.input) resume → IsStart held p resume start
+        → ComesTo (record args { resume = resume }) held (Ok (record { problem = p; start = start; end = None; nodes = args.nodes; worlds = args.worlds }))
     by None apart empty =
-        comes_plain held asking problem.bytes _ problem.front
-        (ap (λ r. from_problem r asking.nodes asking.worlds (λ p. Ok [])) problem.judged ∙ ap (λ (q : List Rel). from_start p asking.nodes asking.worlds (Ok q)) (sym empty))
+        comes_plain held args problem.bytes _ problem.front
+        (ap (λ r. from_problem r args.nodes args.worlds (λ p. Ok [])) problem.judged ∙ ap (λ (q : List Rel). from_start p args.nodes args.worlds (Ok q)) (sym empty))
     by (Some name) apart of_token =
-        comes_resumed held asking problem.bytes name of_token.bytes _ apart problem.front of_token.front
-        (ap (λ r. from_problem r asking.nodes asking.worlds (λ p. start_in p of_token.bytes)) problem.judged ∙ ap (from_start p asking.nodes asking.worlds) of_token.judged)
+        comes_resumed held args problem.bytes name of_token.bytes _ apart problem.front of_token.front
+        (ap (λ r. from_problem r args.nodes args.worlds (λ p. start_in p of_token.bytes)) problem.judged ∙ ap (from_start p args.nodes args.worlds) of_token.judged)
 
 -- one whose text is refused
 first_bytes : (told : Option (List ℕ)) → IfSome told (λ all. take 1048577 (unwrap_or told []) ≡ take 1048577 all)
 first_bytes None = tt
 first_bytes (Some all) = refl
 
-comes_refused : (held : Contents) (asking : Asking) (s : Status) → IsAskable asking → ComesOf held asking.input (problem_in asking.switches) (Err s) → ComesTo asking held (Err s)
-comes_refused held asking s askable problem = by asking.resume askable.apart
+comes_refused : (held : Contents) (args : AlignArgs) (s : Status) → IsAlign args → ComesOf held args.input (problem_in args.switches) (Err s) → ComesTo args held (Err s)
+comes_refused held args s align problem = by args.resume align.apart
   where
-    by : (resume : Option (List ℕ)) → IfSome resume (λ name. bytes_eq asking.input name ≡ false) → ComesTo (record asking { resume = resume }) held (Err s)
-    by None apart = comes_plain held asking problem.bytes _ problem.front (ap (λ r. from_problem r asking.nodes asking.worlds (λ p. Ok [])) problem.judged)
+    by : (resume : Option (List ℕ)) → AreApart (Some args.input) resume → ComesTo (record args { resume = resume }) held (Err s)
+    by None apart = comes_plain held args problem.bytes _ problem.front (ap (λ r. from_problem r args.nodes args.worlds (λ p. Ok [])) problem.judged)
     by (Some name) apart =
         let those = take 1048577 (unwrap_or (held name) []) in
-        comes_resumed held asking problem.bytes name those _ apart problem.front (first_bytes (held name))
-        (ap (λ r. from_problem r asking.nodes asking.worlds (λ p. start_in p those)) problem.judged)
+        comes_resumed held args problem.bytes name those _ apart problem.front (first_bytes (held name))
+        (ap (λ r. from_problem r args.nodes args.worlds (λ p. start_in p those)) problem.judged)
 
 -- one whose token is refused
-comes_unstarted : (held : Contents) (asking : Asking) (name : List ℕ) (p : Problem) (s : Status) → bytes_eq asking.input name ≡ false
-    → ComesOf held asking.input (problem_in asking.switches) (Ok p) → ComesOf held name (start_in p) (Err s) → ComesTo (record asking { resume = Some name }) held (Err s)
-comes_unstarted held asking name p s apart problem of_token =
-    comes_resumed held asking problem.bytes name of_token.bytes _ apart problem.front of_token.front
-    (ap (λ r. from_problem r asking.nodes asking.worlds (λ p. start_in p of_token.bytes)) problem.judged ∙ ap (from_start p asking.nodes asking.worlds) of_token.judged)
+comes_unstarted : (held : Contents) (args : AlignArgs) (name : List ℕ) (p : Problem) (s : Status) → args.input ≢ name
+    → ComesOf held args.input (problem_in args.switches) (Ok p) → ComesOf held name (start_in p) (Err s) → ComesTo (record args { resume = Some name }) held (Err s)
+comes_unstarted held args name p s apart problem of_token =
+    comes_resumed held args problem.bytes name of_token.bytes _ apart problem.front of_token.front
+    (ap (λ r. from_problem r args.nodes args.worlds (λ p. start_in p of_token.bytes)) problem.judged ∙ ap (from_start p args.nodes args.worlds) of_token.judged)
 
 -- a refusal is an answer
-err_same : (a b : Status) (x : Result Order Status) → x ≡ Err a → x ≡ Err b → a ≡ b
+err_same : (a b : Status) (x : Result ListingPlan Status) → x ≡ Err a → x ≡ Err b → a ≡ b
 err_same a b x p q = cc
 
-refused_start : (p : Problem) (nodes worlds : Option ℕ) (r : Result (List Rel) TokenKind) (s : Status) → order_from p nodes worlds r ≡ Err s → ending_of s ≡ Answered
+refused_start : (p : Problem) (nodes worlds : Option ℕ) (r : Result (List Rel) TokenKind) (s : Status) → plan_from p nodes worlds r ≡ Err s → ending_of s ≡ Answered
 refused_start p nodes worlds (Ok start) s e = cc
 refused_start p nodes worlds (Err kind) s e = ap ending_of (sym (err_same (status.RefusedToken kind) s (Err (status.RefusedToken kind)) refl e))
 
-refused_text : (r : Result Problem (ℕ × TextKind)) (nodes worlds : Option ℕ) (token : Option (List ℕ)) (s : Status) → order_by r nodes worlds token ≡ Err s → ending_of s ≡ Answered
+refused_text : (r : Result Problem (ℕ × TextKind)) (nodes worlds : Option ℕ) (token : Option (List ℕ)) (s : Status) → plan_by r nodes worlds token ≡ Err s → ending_of s ≡ Answered
 refused_text (Ok p) nodes worlds token s e = refused_start p nodes worlds (start_of p token) s e
 refused_text (Err f) nodes worlds token s e = ap ending_of (sym (err_same (status.RefusedText f.0 f.1) s (Err (status.RefusedText f.0 f.1)) refl e))
 
 -- a listing that is refused, whose last line is all that is put
-refused : (asking : Asking) (s : Status) (one other : StoreState) → ComesTo asking one.held (Err s) → IsQuiet one other → IsEarlyEnd (listing_names asking) (IsListingAnswer asking) s one other
-refused asking s one other comes quiet = inl (
+refused : (args : AlignArgs) (s : Status) (one other : StoreState) → ComesTo args one.held (Err s) → IsQuiet one other → IsEarlyEnd (listing_names args) (IsListingAnswer args) s one other
+refused args s one other comes quiet = inl (
   record { outcome = Err s; comes = comes; answer = (refl, refl, refl) },
-  refused_text (text_result (comes.bytes asking.input) asking.switches) asking.nodes asking.worlds (option_map comes.bytes asking.resume) s comes.is,
+  refused_text (text_result (comes.bytes args.input) args.switches) args.nodes args.worlds (option_map comes.bytes args.resume) s comes.is,
   quiet,
 )
 
 -- a listing that ends before its start is read
-pub ends_without_problem : (one other : StoreState) (asking : Asking) (s : Status) → IsAskable asking → IsWithout asking.input (problem_in asking.switches) s one other
-    → IsEarlyEnd (listing_names asking) (IsListingAnswer asking) s one other
-ends_without_problem one other asking s askable end = ⊎_elim
-    (λ judged. refused asking s one other (comes_refused one.held asking s askable judged.0) judged.1)
+pub ends_without_problem : (one other : StoreState) (args : AlignArgs) (s : Status) → IsAlign args → IsWithout args.input (problem_in args.switches) s one other
+    → IsEarlyEnd (listing_names args) (IsListingAnswer args) s one other
+ends_without_problem one other args s align end = ⊎_elim
+    (λ judged. refused args s one other (comes_refused one.held args s align judged.0) judged.1)
     (λ unread. ⊎_elim
-    (λ failed. inr (inl (failed.0, record { name = asking.input; named = (0, omega arith, refl); rose = failed.1 })))
+    (λ failed. inr (inl (failed.0, record { name = args.input; named = (0, omega arith, refl); rose = failed.1 })))
     (λ starved. inr (inr starved))
     unread)
     end
 
 -- and one that ends without its start
-pub ends_without_start : (one mid other : StoreState) (asking : Asking) (p : Problem) (s : Status) → IsAskable asking → mid ≡ one
-    → ComesOf one.held asking.input (problem_in asking.switches) (Ok p) → IsWithoutStart p asking.resume s mid other → IsEarlyEnd (listing_names asking) (IsListingAnswer asking) s one other
-ends_without_start one mid other asking p s askable same problem end =
-    by asking.resume askable.apart (subst (λ (state : StoreState). IsWithoutStart p asking.resume s state other) same end)
+pub ends_without_start : (one mid other : StoreState) (args : AlignArgs) (p : Problem) (s : Status) → IsAlign args → mid ≡ one
+    → ComesOf one.held args.input (problem_in args.switches) (Ok p) → IsWithoutStart p args.resume s mid other → IsEarlyEnd (listing_names args) (IsListingAnswer args) s one other
+ends_without_start one mid other args p s align same problem end =
+    by args.resume align.apart (subst (λ (state : StoreState). IsWithoutStart p args.resume s state other) same end)
   where
-    by : (resume : Option (List ℕ)) → IfSome resume (λ name. bytes_eq asking.input name ≡ false) → IsWithoutStart p resume s one other
-        → IsEarlyEnd (listing_names (record asking { resume = resume })) (IsListingAnswer (record asking { resume = resume })) s one other
+    by : (resume : Option (List ℕ)) → AreApart (Some args.input) resume → IsWithoutStart p resume s one other
+        → IsEarlyEnd (listing_names (record args { resume = resume })) (IsListingAnswer (record args { resume = resume })) s one other
     by None apart end = absurd end
     by (Some name) apart end = ⊎_elim
-        (λ judged. refused (record asking { resume = Some name }) s one other (comes_unstarted one.held asking name p s apart problem judged.0) judged.1)
+        (λ judged. refused (record args { resume = Some name }) s one other (comes_unstarted one.held args name p s apart problem judged.0) judged.1)
         (λ unread. ⊎_elim
         (λ failed. inr (inl (failed.0, record { name = name; named = (1, omega arith, refl); rose = failed.1 })))
         (λ starved. inr (inr starved))

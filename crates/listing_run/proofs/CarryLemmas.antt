@@ -1,4 +1,4 @@
--- How an order is carried out, by its parts.
+-- How a plan is carried out, by its parts.
 use Rattle.std.proofs.Common.{◌≡◌, ℕ, Bool, true, false, List, [], ◌∷◌, ◌++◌, Option, None, Some, Result, Ok, Err, length, refl, sym, ap, subst, ◌∙◌, inl, inr, ⊎_elim, arith}
 use Rattle.std.specs.Prelude.{◌==◌, ◌&&◌, if◌then◌else◌, flat_map, option_map, IfSome, IsTrue, is_some, Contains, IfOk}
 use Rattle.std.specs.Option.{option_to_list}
@@ -9,25 +9,30 @@ use Rattle.outer_store.specs.declared.fault.StoreFault.TheVariants.{Failed, NoMe
 use Rattle.outer_store.specs.Bytes.{GrownInPart, added}
 use Rattle.outer_store.specs.Contents.{Contents, OthersKept, emptied}
 use Rattle.outer_store.specs.Faults.{Counts, Rose, IfFailed}
-use Rattle.outer_store.proofs.BytesLemmas.{added-added, GrownInPart-after}
+use Rattle.outer_store.proofs.BytesLemmas.{added-added, GrownInPart-longer, GrownInPart-after}
 use Rattle.rcc5_core.specs.declared.Rel.{Rel}
 use Rattle.world_model.specs.Problem.{Problem}
-use Rattle.world_model.specs.Listing.{IsListing}
+use Rattle.world_model.specs.Listing.{is_before_end, IsListing}
+use Rattle.world_model.specs.Node.{IsCut}
 use Rattle.run_ends.specs.declared.Status.{Status}
 use Rattle.run_ends.specs.declared.Status.TheVariants as status
 use Rattle.run_ends.specs.Ends.{world_line, complete_line}
 use Rattle.outer_store.specs.States.{StoreState, SinkState, IsQuiet}
-use Rattle.run_ends.specs.Runs.{File, HasFailed, AreKeptBut, IsHeld, AreWritten, Answered, ending_of, IsWriteCause, IsByCause, IsPutPart, IsCarriedOut, LeavesPiece}
+use Rattle.run_ends.specs.Runs.{File, file_under, HasFailed, AreKeptBut, IsHeld, AreWritten, Answered, ending_of, IsWriteCause, IsByCause, IsPutPart, IsCarriedOut, LeavesPiece}
 use Rattle.run_ends.proofs.EndLemmas.{none_written}
-use Rattle.listing_run.specs.declared.Order.{Order}
+use Rattle.command_line.specs.Requests.{AreApart}
+use Rattle.listing_log.specs.declared.ListingPlan.{ListingPlan}
+use Rattle.listing_log.specs.declared.Stop.{Stop}
+use Rattle.listing_log.specs.declared.Stop.TheVariants as stop
+use Rattle.listing_log.specs.Plans.{IsStopOf, stop_place}
+use Rattle.listing_log.specs.Putting.{IsPutPartly}
+use Rattle.listing_log.specs.Logged.{IsCertLeft, IsListedWith}
+use Rattle.listing_log.proofs.EndLemmas.{endless_stop}
 use Rattle.resume_token.specs.Token.{token_text}
-use Rattle.run_ends.specs.Runs.{file_under}
 use Rattle.world_model.specs.Saturated.{count_of}
-use Rattle.listing_run.specs.Certs.{IsListingCert}
+use Rattle.part_rules.specs.Certs.{IsListingCert}
 use Rattle.listing_run.specs.Output.{last_line, listing_text, listing_end, token_under, written_names}
-use Rattle.listing_run.specs.Logged.{IsCertLeft, IsListedWith}
-use Rattle.listing_run.specs.Putting.{IsPutPartly}
-use Rattle.listing_run.specs.Steps.{status_at, AreApart, IsCutEnded, IsEnded, order_answers}
+use Rattle.listing_run.specs.Steps.{cut_of, status_at, IsCutEnded, IsEnded, plan_answers}
 use Rattle.listing_run.proofs.WrittenLemmas.{is_first, kept_more_left, kept_twice, failed_left, failed_right, written_both, files_apart, token_since}
 
 -- what is made empty and then added to holds what was added
@@ -112,34 +117,52 @@ none_certified (Some name) held P = by (held name)
     by None = tt
     by (Some bytes) = tt
 
--- a first part of a listing is one of its answer
-partly : (order : Order) (cert token : Option (List ℕ)) (store : StoreState) (old new : SinkState) → IsPutPartly order old.bytes new.bytes → IsPutPart (order_answers order cert token) store old new
-partly order cert token store old new part = record {
-  text = listing_text part.cut part.worlds;
+-- where nothing ends a plan, its listing stops at its cut
+pub stop_cut : (plan : ListingPlan) (stop : Stop) → plan.end ≡ None → IsStopOf plan stop → IsCut plan.problem plan.start plan.nodes plan.worlds (cut_of stop)
+stop_cut plan (stop.Cut node) endless is = is.0
+stop_cut plan (stop.End last) endless is = λ m from spent. is.0 m from (ap (is_before_end m) endless) spent
+
+place_cut : (plan : ListingPlan) (stop : Stop) → plan.end ≡ None → IsStopOf plan stop → stop_place stop ≡ cut_of stop
+place_cut plan (stop.Cut node) endless is = refl
+place_cut plan (stop.End node) endless is = endless_stop plan.problem plan.start plan.end node endless is.1
+
+-- a first part of the text of a listing is one of its answer
+partly_text : (plan : ListingPlan) (cert token : Option (List ℕ)) (store : StoreState) (old new : SinkState) (cut : Option (List Rel)) (worlds : List (List Rel)) → IsCut plan.problem plan.start plan.nodes plan.worlds cut
+    → IsListing plan.problem plan.start cut worlds → GrownInPart old.bytes new.bytes (listing_text cut worlds) → IsPutPart (plan_answers plan cert token) store old new
+partly_text plan cert token store old new cut worlds cut_is exactly part = record {
+  text = listing_text cut worlds;
   of_answer = inl (
-    listing_end order.start part.cut part.worlds,
-    file_under cert None ++ token_under order.problem token part.cut store.held,
+    listing_end plan.start cut worlds,
+    file_under cert None ++ token_under plan.problem token cut store.held,
     record {
-      cut = part.cut;
-      cut_is = part.cut_is;
-      worlds = part.worlds;
-      exactly = part.exactly;
+      cut = cut;
+      cut_is = cut_is;
+      worlds = worlds;
+      exactly = exactly;
       put = refl;
       ended = refl;
       bytes = None;
-      certified = none_certified cert store.held (IsListingCert order.problem order.start part.cut part.worlds);
+      certified = none_certified cert store.held (IsListingCert plan.problem plan.start cut worlds);
       written = refl;
     },
   );
-  part = part.part;
+  part = part;
 }
 
+-- and so is a first part of its worlds' lines
+partly : (plan : ListingPlan) (cert token : Option (List ℕ)) (store : StoreState) (old new : SinkState) → plan.end ≡ None → IsPutPartly plan old.bytes new.bytes → IsPutPart (plan_answers plan cert token) store old new
+partly plan cert token store old new endless part =
+    let cut = cut_of part.stop in
+    partly_text plan cert token store old new cut part.worlds (stop_cut plan part.stop endless part.stop_is)
+    (subst (λ at. IsListing plan.problem plan.start at part.worlds) (place_cut plan part.stop endless part.stop_is) part.exactly)
+    (GrownInPart-longer old.bytes new.bytes (flat_map world_line part.worlds) (last_line cut (count_of part.worlds)) part.part)
+
 -- a listing that stops at a refused put or write, or for want of memory
-stopped_by : (fault : StoreFault) (order : Order) (cert token : Option (List ℕ)) (store store' : StoreState) (old new : SinkState) → IsListedWith order cert (Err fault) store store' old new
-    → IsCarriedOut (order_answers order cert token) (Err fault) (written_names cert token) store store' old new
-stopped_by Failed order cert token store store' old new listed = record {
+stopped_by : (fault : StoreFault) (plan : ListingPlan) (cert token : Option (List ℕ)) (store store' : StoreState) (old new : SinkState) → plan.end ≡ None → IsListedWith plan cert (Err fault) store store' old new
+    → IsCarriedOut (plan_answers plan cert token) (Err fault) (written_names cert token) store store' old new
+stopped_by Failed plan cert token store store' old new endless listed = record {
   done = tt;
-  refused = partly order cert token store old new listed.err;
+  refused = partly plan cert token store old new endless listed.err;
   by_cause = record {
     cause = ⊎_elim
         (λ put. inl put)
@@ -148,19 +171,19 @@ stopped_by Failed order cert token store store' old new listed = record {
     kept = kept_more_left (option_to_list cert) (option_to_list token) store.held store'.held listed.kept;
   };
 }
-stopped_by NoMemory order cert token store store' old new listed = record {
+stopped_by NoMemory plan cert token store store' old new endless listed = record {
   done = tt;
-  refused = partly order cert token store old new listed.err;
+  refused = partly plan cert token store old new endless listed.err;
   by_cause = record {
     cause = listed.cause;
     kept = kept_more_left (option_to_list cert) (option_to_list token) store.held store'.held listed.kept;
   };
 }
 
-pub stopped : (r : Result Status StoreFault) (fault : StoreFault) (order : Order) (cert token : Option (List ℕ)) (store store' : StoreState) (old new : SinkState) → r ≡ Err fault
-    → IsListedWith order cert (Err fault) store store' old new → IsCarriedOut (order_answers order cert token) r (written_names cert token) store store' old new
-stopped r fault order cert token store store' old new e listed =
-    subst (λ x. IsCarriedOut (order_answers order cert token) x (written_names cert token) store store' old new) (sym e) (stopped_by fault order cert token store store' old new listed)
+pub stopped : (r : Result Status StoreFault) (fault : StoreFault) (plan : ListingPlan) (cert token : Option (List ℕ)) (store store' : StoreState) (old new : SinkState) → r ≡ Err fault → plan.end ≡ None
+    → IsListedWith plan cert (Err fault) store store' old new → IsCarriedOut (plan_answers plan cert token) r (written_names cert token) store store' old new
+stopped r fault plan cert token store store' old new e endless listed =
+    subst (λ x. IsCarriedOut (plan_answers plan cert token) x (written_names cert token) store store' old new) (sym e) (stopped_by fault plan cert token store store' old new endless listed)
 
 -- what the name of a certificate holds
 abbrev bytes_of : Option (List ℕ) → Contents → Option (List ℕ)
@@ -190,14 +213,18 @@ certified p from to worlds (Some name) old new exactly left = by (old name) (new
     by None b h = tt
     by (Some held) b h = subst (λ (told : Option (List ℕ)). IfSome told (IsListingCert p from to worlds)) (sym h.1) (h.2 worlds exactly)
 
--- a listing that is put to its cut and written, and then ended
-pub carried : (r : Result Status StoreFault) (order : Order) (cert token : Option (List ℕ)) (cut : Option (List Rel)) (count : ℕ) (store mid store' : StoreState) (old between new : SinkState)
-    → AreApart cert token → IsListedWith order cert (Ok (record { count = count; cut = cut })) store mid old between → IsEnded r order cut count token mid store' between new
-    → IsCarriedOut (order_answers order cert token) r (written_names cert token) store store' old new
-carried (Ok s) order cert token cut count store mid store' old between new two with_cert ended =
-    let p = order.problem in
+-- a listing that is put to its stop and written, and then ended
+pub carried : (r : Result Status StoreFault) (plan : ListingPlan) (cert token : Option (List ℕ)) (stop : Stop) (count : ℕ) (store mid store' : StoreState) (old between new : SinkState)
+    → plan.end ≡ None → AreApart cert token → IsListedWith plan cert (Ok (record { count = count; stop = stop })) store mid old between → IsEnded r plan (cut_of stop) count token mid store' between new
+    → IsCarriedOut (plan_answers plan cert token) r (written_names cert token) store store' old new
+carried (Ok s) plan cert token stop count store mid store' old between new endless two with_cert ended =
+    let p = plan.problem in
+    let cut = cut_of stop in
     let listed = with_cert.ok in
-    let is : s ≡ listing_end order.start cut listed.worlds = ended.status ∙ status_counted order.start cut listed.worlds count listed.counted in
+    let at_cut = place_cut plan stop endless listed.stop_is in
+    let exactly : IsListing p plan.start cut listed.worlds = subst (λ at. IsListing p plan.start at listed.worlds) at_cut listed.exactly in
+    let left : IsCertLeft p plan.start cut cert store.held mid.held = subst (λ at. IsCertLeft p plan.start at cert store.held mid.held) at_cut with_cert.left in
+    let is : s ≡ listing_end plan.start cut listed.worlds = ended.status ∙ status_counted plan.start cut listed.worlds count listed.counted in
     let token_written : AreWritten (token_under p token cut store.held) mid.held store'.held =
     subst (λ (files : List File). AreWritten files mid.held store'.held) (token_since p cert token cut store.held mid.held two with_cert.kept) ended.written in
     record {
@@ -206,46 +233,42 @@ carried (Ok s) order cert token cut count store mid store' old between new two w
         files = file_under cert (bytes_of cert mid.held) ++ token_under p token cut store.held;
         asked = record {
           cut = cut;
-          cut_is = listed.cut_is;
+          cut_is = stop_cut plan stop endless listed.stop_is;
           worlds = listed.worlds;
-          exactly = listed.exactly;
+          exactly = exactly;
           put = refl;
           ended = is;
           bytes = bytes_of cert mid.held;
-          certified = certified p order.start cut listed.worlds cert store.held mid.held listed.exactly with_cert.left;
+          certified = certified p plan.start cut listed.worlds cert store.held mid.held exactly left;
           written = refl;
         };
-        answered = ap ending_of is ∙ listed_ending order.start cut listed.worlds;
+        answered = ap ending_of is ∙ listed_ending plan.start cut listed.worlds;
         put = ended.put ∙ ap (λ told. added told (last_line cut count)) listed.put
             ∙ added-added old.bytes (flat_map world_line listed.worlds) (last_line cut count)
             ∙ ap (λ (n : ℕ). added old.bytes (flat_map world_line listed.worlds ++ last_line cut n)) listed.counted;
         written = written_both (file_under cert (bytes_of cert mid.held)) (token_under p token cut store.held) store.held mid.held store'.held
             (files_apart p cert token (bytes_of cert mid.held) cut store.held two)
-            (cert_written p order.start cut cert store.held mid.held with_cert.left with_cert.kept) token_written;
+            (cert_written p plan.start cut cert store.held mid.held left with_cert.kept) token_written;
       };
       refused = tt;
       by_cause = by_cause_from (Ok s) cert token store mid store' old between new with_cert.cause.0 with_cert.cause.1 with_cert.kept ended.by_cause;
     }
-carried (Err fault) order cert token cut count store mid store' old between new two with_cert ended =
+carried (Err fault) plan cert token stop count store mid store' old between new endless two with_cert ended =
+    let cut = cut_of stop in
     let listed = with_cert.ok in
     record {
       done = tt;
-      refused = partly order cert token store old new (record {
-        cut = cut;
-        worlds = listed.worlds;
-        cut_is = listed.cut_is;
-        exactly = listed.exactly;
-        part =
-            GrownInPart-after old.bytes between.bytes new.bytes (flat_map world_line listed.worlds) (last_line cut (count_of listed.worlds)) listed.put
-            (subst (λ (n : ℕ). GrownInPart between.bytes new.bytes (last_line cut n)) listed.counted ended.refused);
-      });
+      refused = partly_text plan cert token store old new cut listed.worlds (stop_cut plan stop endless listed.stop_is)
+          (subst (λ at. IsListing plan.problem plan.start at listed.worlds) (place_cut plan stop endless listed.stop_is) listed.exactly)
+          (GrownInPart-after old.bytes between.bytes new.bytes (flat_map world_line listed.worlds) (last_line cut (count_of listed.worlds)) listed.put
+          (subst (λ (n : ℕ). GrownInPart between.bytes new.bytes (last_line cut n)) listed.counted ended.refused));
       by_cause = by_cause_from (Err fault) cert token store mid store' old between new with_cert.cause.0 with_cert.cause.1 with_cert.kept ended.by_cause;
     }
 
 -- a whole listing is ended by its last line
-pub ended_whole : (r : Result Status StoreFault) (order : Order) (count : ℕ) (token : Option (List ℕ)) (store : StoreState) (old new : SinkState) → IfOk r (λ s. s ≡ status_at order.start None count)
-    → LeavesPiece r (complete_line count) old new → IsEnded r order None count token store store old new
-ended_whole r order count token store old new status put = record {
+pub ended_whole : (r : Result Status StoreFault) (plan : ListingPlan) (count : ℕ) (token : Option (List ℕ)) (store : StoreState) (old new : SinkState) → IfOk r (λ s. s ≡ status_at plan.start None count)
+    → LeavesPiece r (complete_line count) old new → IsEnded r plan None count token store store old new
+ended_whole r plan count token store old new status put = record {
   status = status;
   put = put.ok;
   written = if_any r (subst (λ (files : List File). AreWritten files store.held store.held) (none_under token) (none_written store.held store.held refl));
@@ -253,7 +276,7 @@ ended_whole r order count token store old new status put = record {
   by_cause = record { cause = by r put.cause; kept = λ name apart. refl };
 }
   where
-    none_under : (token : Option (List ℕ)) → [] ≡ token_under order.problem token None store.held
+    none_under : (token : Option (List ℕ)) → [] ≡ token_under plan.problem token None store.held
     none_under None = refl
     none_under (Some name) = refl
 
@@ -268,9 +291,9 @@ ended_whole r order count token store old new status put = record {
     by (Err NoMemory) cause = ((refl, refl), cause)
 
 -- and one that is cut, by the token of the cut besides
-pub ended_cut : (r : Result Status StoreFault) (order : Order) (cut : List Rel) (count : ℕ) (name : List ℕ) (store store' : StoreState) (old new : SinkState)
-    → IsCutEnded r order.problem cut count name store store' old new → IsEnded r order (Some cut) count (Some name) store store' old new
-ended_cut r order cut count name store store' old new ended = record {
+pub ended_cut : (r : Result Status StoreFault) (plan : ListingPlan) (cut : List Rel) (count : ℕ) (name : List ℕ) (store store' : StoreState) (old new : SinkState)
+    → IsCutEnded r plan.problem cut count name store store' old new → IsEnded r plan (Some cut) count (Some name) store store' old new
+ended_cut r plan cut count name store store' old new ended = record {
   status = ended.status;
   put = ended.put;
   written = by r ended.written;
@@ -281,15 +304,15 @@ ended_cut r order cut count name store store' old new ended = record {
     kept : AreKeptBut (name ∷ []) store.held store'.held
     kept other apart = ended.others other (λ e. apart (subst (Contains (name ∷ [])) (sym e) (is_first name [])))
 
-    tells : (told : Option (List ℕ)) → IfSome told (λ _. IsTrue (is_some (option_map (λ _. token_text order.problem cut) told)))
+    tells : (told : Option (List ℕ)) → IfSome told (λ _. IsTrue (is_some (option_map (λ _. token_text plan.problem cut) told)))
     tells None = tt
     tells (Some bytes) = refl
 
-    by : (r : Result Status StoreFault) → IfOk r (λ _. store'.held name ≡ option_map (λ _. token_text order.problem cut) (store.held name))
-        → IfOk r (λ _. AreWritten (token_under order.problem (Some name) (Some cut) store.held) store.held store'.held)
+    by : (r : Result Status StoreFault) → IfOk r (λ _. store'.held name ≡ option_map (λ _. token_text plan.problem cut) (store.held name))
+        → IfOk r (λ _. AreWritten (token_under plan.problem (Some name) (Some cut) store.held) store.held store'.held)
     by (Ok s) written = record {
       each =
-          All-cons (IsHeld store.held store'.held) (record { name = name; bytes = option_map (λ _. token_text order.problem cut) (store.held name) }) [] (written, tells (store.held name))
+          All-cons (IsHeld store.held store'.held) (record { name = name; bytes = option_map (λ _. token_text plan.problem cut) (store.held name) }) [] (written, tells (store.held name))
           (All-nil (IsHeld store.held store'.held));
       others = kept;
     }

@@ -5,16 +5,16 @@ use Rattle.run_ends.specs.declared.Status.{Status}
 use Rattle.outer_store.specs.States.{StoreState, SinkState}
 use Rattle.run_ends.specs.Runs.{IsCarriedOut}
 use Rattle.run_ends.proofs.EndLemmas.{carried_as}
-use Rattle.listing_run.specs.declared.Asking.{Asking}
-use Rattle.listing_run.specs.declared.Order.{Order}
+use Rattle.command_line.specs.declared.request.AlignArgs.{AlignArgs}
+use Rattle.listing_log.specs.declared.ListingPlan.{ListingPlan}
 use Rattle.listing_run.specs.Output.{ComesTo, IsListingAnswer, written_names}
-use Rattle.listing_run.specs.Steps.{order_answers}
+use Rattle.listing_run.specs.Steps.{plan_answers}
 
--- an order that is carried out is what its words asked for, behind reads that left the store as it was
-pub listing_carried : (asking : Asking) (order : Order) (r : Result Status StoreFault) (one mid other : StoreState) (old new : SinkState) → mid ≡ one → ComesTo asking one.held (Ok order)
-    → IsCarriedOut (order_answers order asking.cert asking.token) r (written_names asking.cert asking.token) mid other old new
-    → IsCarriedOut (IsListingAnswer asking) r (written_names asking.cert asking.token) one other old new
-listing_carried asking order r one mid other old new same comes carried =
-    carried_as (order_answers order asking.cert asking.token) (IsListingAnswer asking) r (written_names asking.cert asking.token) one other old new
-    (λ s text files listed. record { outcome = Ok order; comes = comes; answer = listed })
-    (subst (λ (state : StoreState). IsCarriedOut (order_answers order asking.cert asking.token) r (written_names asking.cert asking.token) state other old new) same carried)
+-- a plan that is carried out is what its words asked for, behind reads that left the store as it was
+pub listing_carried : (args : AlignArgs) (plan : ListingPlan) (r : Result Status StoreFault) (one mid other : StoreState) (old new : SinkState) → mid ≡ one → ComesTo args one.held (Ok plan)
+    → IsCarriedOut (plan_answers plan args.cert args.token) r (written_names args.cert args.token) mid other old new
+    → IsCarriedOut (IsListingAnswer args) r (written_names args.cert args.token) one other old new
+listing_carried args plan r one mid other old new same comes carried =
+    carried_as (plan_answers plan args.cert args.token) (IsListingAnswer args) r (written_names args.cert args.token) one other old new
+    (λ s text files listed. record { outcome = Ok plan; comes = comes; answer = listed })
+    (subst (λ (state : StoreState). IsCarriedOut (plan_answers plan args.cert args.token) r (written_names args.cert args.token) state other old new) same carried)

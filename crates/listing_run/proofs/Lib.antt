@@ -1,13 +1,5 @@
 pub mod AskedLemmas
 pub mod CarryLemmas
-pub mod CertNodes
-pub mod CertifiedLemmas
 pub mod ChainLemmas
-pub mod CutLemmas
 pub mod EndLemmas
-pub mod ListingLemmas
-pub mod LoggedLemmas
-pub mod PlaceLemmas
-pub mod RequestLemmas
-pub mod TableLemmas
 pub mod WrittenLemmas

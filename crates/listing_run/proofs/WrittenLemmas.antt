@@ -9,10 +9,9 @@ use Rattle.outer_store.specs.Faults.{Counts}
 use Rattle.rcc5_core.specs.declared.Rel.{Rel}
 use Rattle.world_model.specs.Problem.{Problem}
 use Rattle.resume_token.specs.Token.{token_text}
-use Rattle.run_ends.specs.Runs.{File, HasFailed, AreKeptBut, IsHeld, AreWritten}
-use Rattle.run_ends.specs.Runs.{file_under}
+use Rattle.run_ends.specs.Runs.{File, HasFailed, AreKeptBut, IsHeld, AreWritten, file_under}
 use Rattle.listing_run.specs.Output.{token_under}
-use Rattle.listing_run.specs.Steps.{AreApart}
+use Rattle.command_line.specs.Requests.{AreApart}
 
 -- no name stands in an empty list, and one alone in a list of one
 pub in_none : (name : List ℕ) → Contains [] name → ⊥

@@ -1,6 +1,3 @@
-pub mod Certs
 pub mod Output
-pub mod Putting
-pub mod Steps
 pub mod Resuming
-pub mod Logged
+pub mod Steps

@@ -15,11 +15,12 @@ use Rattle.run_ends.specs.declared.Status.{Status}
 use Rattle.run_ends.specs.declared.Status.TheVariants.{Done, RefusedText, Cut, NoWorld, RefusedToken}
 use Rattle.run_ends.specs.Ends.{line_of, world_line, complete_line, end_line}
 use Rattle.run_ends.specs.Reads.{AreHeld}
-use Rattle.run_ends.specs.Runs.{File, Names}
-use Rattle.run_ends.specs.Runs.{file_under}
-use Rattle.listing_run.specs.declared.Asking.{Asking}
-use Rattle.listing_run.specs.declared.Order.{Order}
-use Rattle.listing_run.specs.Certs.{IsListingCert}
+use Rattle.run_ends.specs.Runs.{File, file_under}
+use Rattle.command_line.specs.declared.request.AlignArgs.{AlignArgs}
+use Rattle.command_line.specs.declared.request.Request.TheVariants.{Align}
+use Rattle.command_line.specs.Requests.{Names, names_of}
+use Rattle.listing_log.specs.declared.ListingPlan.{ListingPlan}
+use Rattle.part_rules.specs.Certs.{IsListingCert}
 
 -- the last line of a listing of so many worlds that stopped before its end
 abbrev pub cut_line : ℕ → List ℕ
@@ -48,52 +49,52 @@ token_under p (Some name) None held = []
 token_under p (Some name) (Some cut) held = record { name = name; bytes = option_map (λ _. token_text p cut) (held name) } ∷ []
 
 -- the listing up to the cut is what is put; the token of the cut is what is written, and its certificate, under a name that told its bytes
-pub record IsListed (order : Order) (cert token : Option (List ℕ)) (held : Contents) (status : Status) (text : List ℕ) (files : List File) : Type 0 where
+pub record IsListed (plan : ListingPlan) (cert token : Option (List ℕ)) (held : Contents) (status : Status) (text : List ℕ) (files : List File) : Type 0 where
   pub cut : Option (List Rel)
-  pub cut_is : IsCut order.problem order.start order.nodes order.worlds cut
+  pub cut_is : IsCut plan.problem plan.start plan.nodes plan.worlds cut
   pub worlds : List (List Rel)
-  pub exactly : IsListing order.problem order.start cut worlds
+  pub exactly : IsListing plan.problem plan.start cut worlds
   pub put : text ≡ listing_text cut worlds
-  pub ended : status ≡ listing_end order.start cut worlds
+  pub ended : status ≡ listing_end plan.start cut worlds
   pub bytes : Option (List ℕ)
-  pub certified : IfSome cert (λ name. IfSome (held name) (λ _. IfSome bytes (IsListingCert order.problem order.start cut worlds)))
-  pub written : files ≡ file_under cert bytes ++ token_under order.problem token cut held
+  pub certified : IfSome cert (λ name. IfSome (held name) (λ _. IfSome bytes (IsListingCert plan.problem plan.start cut worlds)))
+  pub written : files ≡ file_under cert bytes ++ token_under plan.problem token cut held
 
 -- the start of a listing: the position of the token, if one is given, and else the empty one
 abbrev pub start_of : Problem → Option (List ℕ) → Result (List Rel) TokenKind
 start_of p None = Ok []
 start_of p (Some token) = token_result p token
 
--- an order from a problem's start, or how a run ends whose token is refused
-abbrev pub order_from : Problem → Option ℕ → Option ℕ → Result (List Rel) TokenKind → Result Order Status
-order_from p nodes worlds (Ok start) = Ok (record { problem = p; start = start; nodes = nodes; worlds = worlds })
-order_from p nodes worlds (Err kind) = Err (RefusedToken kind)
+-- what is to be listed of a problem from a start on, or how a run ends whose token is refused
+abbrev pub plan_from : Problem → Option ℕ → Option ℕ → Result (List Rel) TokenKind → Result ListingPlan Status
+plan_from p nodes worlds (Ok start) = Ok (record { problem = p; start = start; end = None; nodes = nodes; worlds = worlds })
+plan_from p nodes worlds (Err kind) = Err (RefusedToken kind)
 
--- an order from a text and a token, or how a run ends whose text is refused
-abbrev pub order_by : Result Problem (ℕ × TextKind) → Option ℕ → Option ℕ → Option (List ℕ) → Result Order Status
-order_by (Ok p) nodes worlds token = order_from p nodes worlds (start_of p token)
-order_by (Err fault) nodes worlds token = Err (RefusedText fault.0 fault.1)
+-- what is to be listed by a text and a token, or how a run ends whose text is refused
+abbrev pub plan_by : Result Problem (ℕ × TextKind) → Option ℕ → Option ℕ → Option (List ℕ) → Result ListingPlan Status
+plan_by (Ok p) nodes worlds token = plan_from p nodes worlds (start_of p token)
+plan_by (Err fault) nodes worlds token = Err (RefusedText fault.0 fault.1)
 
--- what comes of an order: its listing; and of a refusal: its last line
-abbrev pub IsOrderAnswer : Result Order Status → Option (List ℕ) → Option (List ℕ) → Contents → Status → List ℕ → List File → Type 0
-IsOrderAnswer (Ok order) cert token held status text files = IsListed order cert token held status text files
-IsOrderAnswer (Err refusal) cert token held status text files = (status ≡ refusal) × (text ≡ end_line refusal) × (files ≡ [])
+-- what comes of a plan: its listing; and of a refusal: its last line
+abbrev pub IsPlanAnswer : Result ListingPlan Status → Option (List ℕ) → Option (List ℕ) → Contents → Status → List ℕ → List File → Type 0
+IsPlanAnswer (Ok plan) cert token held status text files = IsListed plan cert token held status text files
+IsPlanAnswer (Err refusal) cert token held status text files = (status ≡ refusal) × (text ≡ end_line refusal) × (files ≡ [])
 
--- what a listing comes to that is asked for: an order, or how the run ends that is refused, where its names hold what the store tells
-pub record ComesTo (asking : Asking) (held : Contents) (outcome : Result Order Status) : Type 0 where
+-- what a listing comes to that is asked for: a plan, or how the run ends that is refused, where its names hold what the store tells
+pub record ComesTo (args : AlignArgs) (held : Contents) (outcome : Result ListingPlan Status) : Type 0 where
   pub bytes : List ℕ → List ℕ
   pub told : AreHeld bytes held
-  pub is : order_by (text_result (bytes asking.input) asking.switches) asking.nodes asking.worlds (option_map bytes asking.resume) ≡ outcome
+  pub is : plan_by (text_result (bytes args.input) args.switches) args.nodes args.worlds (option_map bytes args.resume) ≡ outcome
 
 -- the answers to it
-pub record IsListingAnswer (asking : Asking) (held : Contents) (status : Status) (text : List ℕ) (files : List File) : Type 0 where
-  pub outcome : Result Order Status
-  pub comes : ComesTo asking held outcome
-  pub answer : IsOrderAnswer outcome asking.cert asking.token held status text files
+pub record IsListingAnswer (args : AlignArgs) (held : Contents) (status : Status) (text : List ℕ) (files : List File) : Type 0 where
+  pub outcome : Result ListingPlan Status
+  pub comes : ComesTo args held outcome
+  pub answer : IsPlanAnswer outcome args.cert args.token held status text files
 
--- the names that a listing reads and writes
+-- the names that a listing writes, and those that it reads besides
 abbrev pub written_names : Option (List ℕ) → Option (List ℕ) → List (List ℕ)
 written_names cert token = option_to_list cert ++ option_to_list token
 
-abbrev pub listing_names : Asking → Names
-listing_names asking = record { read = asking.input ∷ option_to_list asking.resume; written = written_names asking.cert asking.token }
+abbrev pub listing_names : AlignArgs → Names
+listing_names args = names_of (Align args)

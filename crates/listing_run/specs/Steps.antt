@@ -1,5 +1,5 @@
--- The steps of a listing: an order is read, and then carried out.
-use Rattle.std.specs.Prelude.{◌≡◌, ◌≢◌, ℕ, ◌==◌, ◌&&◌, if◌then◌else◌, bytes_eq, false, List, [], ◌∷◌, length, Option, None, Some, option_map, IfSome, IfNone, IfOk, OnErr, Result, Ok, Err, ⊤}
+-- The steps of a listing: a plan is read, and then carried out.
+use Rattle.std.specs.Prelude.{◌≡◌, ℕ, ◌==◌, ◌&&◌, if◌then◌else◌, List, [], ◌∷◌, length, Option, None, Some, option_map, IfNone, IfOk, OnErr, Result, Ok, Err}
 use Rattle.std.specs.Option.{option_to_list}
 use Rattle.outer_store.specs.Bytes.{GrownInPart, added}
 use Rattle.outer_store.specs.Contents.{Contents, OthersKept}
@@ -15,10 +15,12 @@ use Rattle.run_ends.specs.declared.Status.TheVariants.{Done, Cut, NoWorld, Refus
 use Rattle.run_ends.specs.Reads.{ComesOf, IsWithout}
 use Rattle.outer_store.specs.States.{StoreState, SinkState, IsQuiet}
 use Rattle.run_ends.specs.Runs.{Answers, AreWritten, IsWriteCause, IsByCause}
-use Rattle.listing_run.specs.declared.Asking.{Asking}
-use Rattle.listing_run.specs.declared.Order.{Order}
+use Rattle.command_line.specs.Requests.{AreApart}
+use Rattle.listing_log.specs.declared.ListingPlan.{ListingPlan}
+use Rattle.listing_log.specs.declared.Stop.{Stop}
+use Rattle.listing_log.specs.declared.Stop.TheVariants as stop
+use Rattle.listing_log.specs.Plans.{IsPlan}
 use Rattle.listing_run.specs.Output.{token_under, IsListed, cut_line, last_line}
-use Rattle.listing_run.specs.Putting.{IsOrder}
 
 -- a start, or how a run ends whose token is refused
 abbrev pub start_by : Result (List Rel) TokenKind → Result (List Rel) Status
@@ -42,25 +44,18 @@ abbrev pub IsWithoutStart : Problem → Option (List ℕ) → Status → StoreSt
 IsWithoutStart p None status one other = ⊥
 IsWithoutStart p (Some name) status one other = IsWithout name (start_in p) status one other
 
--- two names, where both are given, are not one
-abbrev pub AreApart : Option (List ℕ) → Option (List ℕ) → Type 0
-AreApart None other = ⊤
-AreApart (Some name) None = ⊤
-AreApart (Some name) (Some other) = name ≢ other
-
--- a listing that words can ask for: the token that it reads is not its problem, a limit has a token to be written, and the files
--- that it writes are two
-pub record IsAskable (asking : Asking) : Type 0 where
-  pub apart : IfSome asking.resume (λ name. bytes_eq asking.input name ≡ false)
-  pub limited : IfNone asking.token ((asking.nodes ≡ None) × (asking.worlds ≡ None))
-  pub two : AreApart asking.cert asking.token
-
--- an order that can be carried out, with the names for its certificate and its token
-pub record IsListingReady (order : Order) (cert token : Option (List ℕ)) : Type 0 where
-  pub as_read : IsAsRead order.problem
-  pub within : IsOrder order
-  pub limited : IfNone token ((order.nodes ≡ None) × (order.worlds ≡ None))
+-- a plan without an end that can be carried out, with the names for its certificate and its token
+pub record IsListingReady (plan : ListingPlan) (cert token : Option (List ℕ)) : Type 0 where
+  pub as_read : IsAsRead plan.problem
+  pub is_plan : IsPlan plan
+  pub endless : plan.end ≡ None
+  pub limited : IfNone token ((plan.nodes ≡ None) × (plan.worlds ≡ None))
   pub two : AreApart cert token
+
+-- the cut, by where the listing of such a plan stops
+abbrev pub cut_of : Stop → Option (List Rel)
+cut_of (stop.Cut node) = Some node
+cut_of (stop.End _) = None
 
 -- a good end by the count of worlds
 abbrev pub status_at : List Rel → Option (List Rel) → ℕ → Status
@@ -77,13 +72,13 @@ pub record IsCutEnded (result : Result Status StoreFault) (p : Problem) (cut : L
   pub cause : IfFailed result (IsWriteCause (name ∷ []) store store' sink sink') (IsQuiet store store' × (sink'.faults ≡ sink.faults))
 
 -- the token of the cut is written, if there is one, and the last line put
-pub record IsEnded (result : Result Status StoreFault) (order : Order) (cut : Option (List Rel)) (count : ℕ) (name : Option (List ℕ)) (store store' : StoreState) (sink sink' : SinkState) : Type 0 where
-  pub status : IfOk result (λ status. status ≡ status_at order.start cut count)
+pub record IsEnded (result : Result Status StoreFault) (plan : ListingPlan) (cut : Option (List Rel)) (count : ℕ) (name : Option (List ℕ)) (store store' : StoreState) (sink sink' : SinkState) : Type 0 where
+  pub status : IfOk result (λ status. status ≡ status_at plan.start cut count)
   pub put : IfOk result (λ _. sink'.bytes ≡ added sink.bytes (last_line cut count))
-  pub written : IfOk result (λ _. AreWritten (token_under order.problem name cut store.held) store.held store'.held)
+  pub written : IfOk result (λ _. AreWritten (token_under plan.problem name cut store.held) store.held store'.held)
   pub refused : OnErr result (GrownInPart sink.bytes sink'.bytes (last_line cut count))
   pub by_cause : IsByCause result (option_to_list name) store store' sink sink'
 
--- the answers of an order with these names for its files
-abbrev pub order_answers : Order → Option (List ℕ) → Option (List ℕ) → Answers
-order_answers order cert token held status text files = IsListed order cert token held status text files
+-- the answers of a plan with these names for its files
+abbrev pub plan_answers : ListingPlan → Option (List ℕ) → Option (List ℕ) → Answers Status
+plan_answers plan cert token held status text files = IsListed plan cert token held status text files

@@ -1,4 +1,4 @@
-//! An order carried out: its listing, the token of its cut, and the last line.
+//! A plan carried out: its listing, the token of its cut, and the last line.
 ghost use Rattle.std.specs.Prelude.{◌≡◌, ◌≤◌, ◌++◌, [], ◌∷◌, length, None, Some, option_map, string_bytes, IfOk, IfNone, OnOk};
 ghost use Rattle.outer_store.specs.Bytes.{GrownInPart, added};
 ghost use Rattle.outer_store.specs.Contents.{OthersKept};
@@ -11,13 +11,11 @@ ghost use Rattle.listing_run.specs.Output.{cut_line, written_names};
 ghost use Rattle.run_ends.specs.Ends.{complete_line};
 ghost use Rattle.outer_store.specs.States.{IsQuiet};
 ghost use Rattle.run_ends.specs.Runs.{LeavesPiece, IsCarriedOut};
-ghost use Rattle.listing_run.specs.Steps.{status_at, IsListingReady, IsCutEnded, IsEnded, order_answers};
+ghost use Rattle.listing_run.specs.Steps.{cut_of, status_at, IsListingReady, IsCutEnded, IsEnded, plan_answers};
 
-use crate::Order;
-use crate::certified::put_listing;
-use crate::listing::Listed;
 use command_line::Word;
 use constraint_set::Problem;
+use listing_log::{Listed, ListingPlan, Stop, put_listing};
 use outer_store::{Sink, Store, StoreFault};
 use rcc5_core::Position;
 use resume_token::print_token;
@@ -109,43 +107,43 @@ fn end_listing<S: Store, W: Sink>(
     alloc: Global,
     store: &mut S,
     out: &mut W,
-    order: &Order,
+    plan: &ListingPlan,
     token: &Option<Word>,
     listed: Listed,
 ) -> Result<Status, StoreFault>
-    requires limited { IfNone token.now ((order.now.nodes ≡ None) × (order.now.worlds ≡ None)) }
-    requires as_read { IsAsRead order.now.problem }
-    requires cut { IsCut order.now.problem order.now.start order.now.nodes order.now.worlds listed.cut }
-    ensures { IsEnded result order.now listed.cut listed.count token.now (S.state store.old) (S.state store.new) (W.state out.old) (W.state out.new) }
+    requires limited { IfNone token.now ((plan.now.nodes ≡ None) × (plan.now.worlds ≡ None)) }
+    requires as_read { IsAsRead plan.now.problem }
+    requires cut { IsCut plan.now.problem plan.now.start plan.now.nodes plan.now.worlds (cut_of listed.stop) }
+    ensures { IsEnded result plan.now (cut_of listed.stop) listed.count token.now (S.state store.old) (S.state store.new) (W.state out.old) (W.state out.new) }
 {
-    match (listed.cut, token) {
-        (None, _) => end_whole(alloc, out, &order.start, listed.count),
-        (Some(cut), Some(name)) => end_cut(
+    match (listed.stop, token) {
+        (Stop::End(_), _) => end_whole(alloc, out, &plan.start, listed.count),
+        (Stop::Cut(cut), Some(name)) => end_cut(
             alloc,
             store,
             out,
-            &order.problem,
+            &plan.problem,
             name.text(),
             cut,
             listed.count,
         ),
-        (Some(_), None) => unreachable!(),
+        (Stop::Cut(_), None) => unreachable!(),
     }
 }
 
-/// Puts the listing of an order and writes its certificate, if one is asked for; then writes the token of its cut, if there is
+/// Puts the listing of a plan and writes its certificate, if one is asked for; then writes the token of its cut, if there is
 /// one, and puts the last line.
 pub(crate) fn carry_out<S: Store, W: Sink>(
     alloc: Global,
     store: &mut S,
     out: &mut W,
-    order: &Order,
+    plan: &ListingPlan,
     cert: &Option<Word>,
     token: &Option<Word>,
 ) -> Result<Status, StoreFault>
-    requires { IsListingReady order.now cert.now token.now }
-    ensures { IsCarriedOut (order_answers order.now cert.now token.now) result (written_names cert.now token.now) (S.state store.old) (S.state store.new) (W.state out.old) (W.state out.new) }
+    requires { IsListingReady plan.now cert.now token.now }
+    ensures { IsCarriedOut (plan_answers plan.now cert.now token.now) result (written_names cert.now token.now) (S.state store.old) (S.state store.new) (W.state out.old) (W.state out.new) }
 {
-    let listed = put_listing(alloc, store, out, order, cert)?;
-    end_listing(alloc, store, out, order, token, listed)
+    let listed = put_listing(alloc, store, out, plan, cert)?;
+    end_listing(alloc, store, out, plan, token, listed)
 }

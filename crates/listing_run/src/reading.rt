@@ -1,16 +1,17 @@
-//! The order that words ask for: its problem and its start are read from files.
+//! What is to be listed, as words ask for it: the problem and the start are read from files.
 ghost use Rattle.std.specs.Prelude.{◌≡◌, Ok, IfOk, IfErr, OnOk};
 ghost use Rattle.constraint_set.specs.Facts.{IsAsRead};
 ghost use Rattle.resume_token.specs.Token.{token_result, kind_of};
 ghost use Rattle.outer_store.specs.States.{IsQuiet};
 ghost use Rattle.run_ends.specs.Runs.{IsEarlyEnd};
 ghost use Rattle.run_ends.specs.Reads.{IsRefused, ComesOf, IsWithout};
+ghost use Rattle.command_line.specs.Requests.{IsAlign};
 ghost use Rattle.listing_run.specs.Output.{ComesTo, listing_names, IsListingAnswer};
-ghost use Rattle.listing_run.specs.Steps.{start_in, token_end, IsStart, IsWithoutStart, IsAskable, IsListingReady};
+ghost use Rattle.listing_run.specs.Steps.{start_in, token_end, IsStart, IsWithoutStart, IsListingReady};
 
-use crate::{Asking, Order};
-use command_line::Word;
+use command_line::{AlignArgs, Word};
 use constraint_set::Problem;
+use listing_log::ListingPlan;
 use outer_store::Store;
 use rcc5_core::Position;
 use resume_token::{TokenFault, read_token};
@@ -80,25 +81,26 @@ fn start_of<S: Store>(
     }
 }
 
-/// The order that is asked for, or how the run ends without it. The problem is judged before the token is read.
-pub(crate) fn order_of<S: Store>(
+/// The plan that is asked for, or how the run ends without it. The problem is judged before the token is read.
+pub(crate) fn plan_of<S: Store>(
     alloc: Global,
     store: &mut S,
-    asking: &Asking,
-) -> Result<Order, Status>
-    requires { IsAskable asking.now }
-    ensures order { IfOk result (λ order. ComesTo asking.now (S.state store.old).held (Ok order)) }
-    ensures ready { IfOk result (λ order. IsListingReady order asking.now.cert asking.now.token) }
+    args: &AlignArgs,
+) -> Result<ListingPlan, Status>
+    requires { IsAlign args.now }
+    ensures plan { IfOk result (λ plan. ComesTo args.now (S.state store.old).held (Ok plan)) }
+    ensures ready { IfOk result (λ plan. IsListingReady plan args.now.cert args.now.token) }
     ensures quiet { OnOk result (IsQuiet (S.state store.old) (S.state store.new)) }
-    ensures ended { IfErr result (λ status. IsEarlyEnd (listing_names asking.now) (IsListingAnswer asking.now) status (S.state store.old) (S.state store.new)) }
+    ensures ended { IfErr result (λ status. IsEarlyEnd (listing_names args.now) (IsListingAnswer args.now) status (S.state store.old) (S.state store.new)) }
     ensures kept { (S.state store.new).held ≡ (S.state store.old).held }
 {
-    let problem = problem_under(alloc, store, asking.input.text(), asking.switches)?;
-    let start = start_of(alloc, store, &problem, &asking.resume)?;
-    Ok(Order {
+    let problem = problem_under(alloc, store, args.input.text(), args.switches)?;
+    let start = start_of(alloc, store, &problem, &args.resume)?;
+    Ok(ListingPlan {
         problem,
         start,
-        nodes: asking.nodes,
-        worlds: asking.worlds,
+        end: None,
+        nodes: args.nodes,
+        worlds: args.worlds,
     })
 }

@@ -39,7 +39,7 @@ GrownInPart-after old mid new piece more first h = record {
   grown = h.grown ∙ ap (λ told. added told h.part) first ∙ added-added old piece h.part;
 }
 
--- the same, where the next put may have been refused
+-- a whole piece, and then a part of the next where its put was refused
 pub GrownInPart-after_err : {T E : Type 0} (r : Result T E) (old mid new : Option (List ℕ)) (piece more : List ℕ) → mid ≡ added old piece → OnErr r (GrownInPart mid new more) → OnErr r (GrownInPart old new (piece ++ more))
 GrownInPart-after_err (Ok v) old mid new piece more first h = h
 GrownInPart-after_err (Err e) old mid new piece more first h = GrownInPart-after old mid new piece more first h
@@ -61,7 +61,7 @@ IsFrontOf-read (Some all) bytes buffer n room front copies =
     let size : length (bytes ++ take n buffer) ≡ length bytes + n = omega (arith, length-append bytes (take n buffer), length-take n buffer) in
     longer ∙ ap (λ size. take size all) (sym size)
 
--- the same at a turn of a loop, by what a read and a push ensure
+-- a turn of a loop that reads makes the front longer, by what a read and a push ensure
 pub IsFrontOf-turn : (told now : Option (List ℕ)) (bytes longer buffer : List ℕ) (place n : ℕ) → n ≤ length buffer → IsFrontOf bytes told → place ≡ length bytes → IfSome told (λ all. Copies (drop place all) n buffer) → now ≡ told → longer ≡ bytes ++ take n buffer → IsFrontOf longer now
 IsFrontOf-turn told now bytes longer buffer place n room front at copies kept pushed =
     let here = subst (λ at. IfSome told (λ all. Copies (drop at all) n buffer)) at copies in

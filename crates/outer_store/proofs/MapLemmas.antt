@@ -108,7 +108,7 @@ others_of-insert old new name x inserted other apart =
     ∙ ap (λ (o : Option (List ℕ)). Some (unwrap_or o []))
     (get-insert nat_list_cmp_total old name x other ∙ other_choice (eq_by_cmp (slice_cmp nat_cmp) other name) x (get old other) (λ is. apart (same_name other name is)))
 
--- the same for files that did not change
+-- files that did not change keep what other names hold
 pub others_of-kept : (old new : Files) (name : List ℕ) → new ≡ old → OthersKept name (told old) (told new)
 others_of-kept old new name kept other apart = ap (λ files. told files other) kept
 

@@ -18,7 +18,7 @@ SentInPart-more old mid new piece rest n sent more = record {
   grown = Appends-joins old mid new sent.part (take n rest) sent.grown more;
 }
 
--- the same, with the rest cut as a slice is
+-- one more write, where the rest is what a slice cuts of it
 pub SentInPart-cut : (old mid new : Option (List ℕ)) (piece rest : List ℕ) (n : ℕ) → SentInPart old mid piece rest → Appends mid new (take n rest) → SentInPart old new piece (take (length rest - n) (drop n rest))
 SentInPart-cut old mid new piece rest n sent more =
     subst (λ left. SentInPart old new piece left) (sym (take_all (length rest - n) (drop n rest) (omega (arith, length-drop n rest)))) (SentInPart-more old mid new piece rest n sent more)

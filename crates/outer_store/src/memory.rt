@@ -45,7 +45,7 @@ impl MemoryStore {
         MemoryStore::in_steps(alloc, failing, usize::MAX)
     }
 
-    /// The same, where a read copies at most `step` bytes.
+    /// A store with no names, of which a read copies at most `step` bytes. The calls whose numbers are listed fail.
     pub fn in_steps(alloc: Global, failing: Vec<u64>, step: usize) -> Self
         requires { 1 ≤ step }
         ensures { result ≡ fresh_memory failing.items step }

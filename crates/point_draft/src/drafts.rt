@@ -108,7 +108,7 @@ impl Desk {
         None
     }
 
-    // The same of one concept.
+    // The first part of a concept that may have the point, if none of its parts has it.
     fn open_part(&self, concept: u32) -> Option<u32> {
         for number in &self.rules.covers_of.get(concept as usize)?.list {
             let cover = self.rules.covers.get(*number as usize)?;

@@ -63,7 +63,7 @@ impl Given {
         Ok(next)
     }
 
-    // The same, each that the children of a concept lie apart.
+    // From an id on, each that two children of a concept lie apart. Answers the next one.
     fn number_apart(&mut self, problem: &Problem, first: u64) -> Result<u64, AllocError> {
         let mut next = first;
         for concept in 0..problem.concept_count() {
@@ -76,7 +76,7 @@ impl Given {
         Ok(next)
     }
 
-    // The same, each that the children of a concept cover it.
+    // From an id on, each that the children of a concept cover it. Answers the next one.
     fn number_covered(&mut self, problem: &Problem, first: u64) -> Result<u64, AllocError> {
         let mut next = first;
         for concept in 0..problem.concept_count() {
@@ -88,7 +88,7 @@ impl Given {
         Ok(next)
     }
 
-    // The same, those of each sum.
+    // From an id on, those of each sum.
     fn number_sums(&mut self, problem: &Problem, first: u64) -> Result<(), AllocError> {
         problem.facts();
         let mut next = first;

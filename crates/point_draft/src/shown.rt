@@ -226,7 +226,7 @@ impl Story {
         }
     }
 
-    // The same of a clash, and of each mark that it rests on, the last one first.
+    // Tells why there is a clash, and why each mark stands that it rests on, the last one first.
     fn tell_all(&mut self, terms: &Terms, clash: Mark) -> Result<(), AllocError> {
         self.tell(terms, clash)?;
         self.rests.set(clash.concept as usize);

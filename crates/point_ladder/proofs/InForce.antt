@@ -6,7 +6,7 @@ use Rattle.rcc5_core.specs.declared.Rel.{Rel}
 use Rattle.world_model.specs.Problem.{Problem}
 use Rattle.world_model.specs.Alive.{problem_at}
 use Rattle.point_ladder.specs.declared.stretches.Stretch.{Stretch}
-use Rattle.point_ladder.specs.Stretches.{stretch_at, HasFrames, IsCut}
+use Rattle.point_ladder.specs.Stretches.{stretch_at, HasFrames, IsCutBack}
 use Rattle.point_ladder.specs.Ladders.{IsFrame}
 
 -- the frame in force
@@ -98,7 +98,7 @@ frames_pushed q points line after stretches len new has same begins frame = reco
     ]
 
 -- a shorter path
-pub frames_cut : (q : Problem) (points : List (List Bool)) (line : List Rel) (old new : List Stretch) (len less : ℕ) → HasFrames q points line old len → less ≤ len → IsCut old new less → HasFrames q points line new less
+pub frames_cut : (q : Problem) (points : List (List Bool)) (line : List Rel) (old new : List Stretch) (len less : ℕ) → HasFrames q points line old len → less ≤ len → IsCutBack old new less → HasFrames q points line new less
 frames_cut q points line old new len less has fewer cut = record {
   some = some;
   first = from_of 0 some ∙ has.first;

@@ -21,7 +21,7 @@ use Rattle.point_ladder.specs.declared.bounds.Bounds.{Bounds}
 use Rattle.point_ladder.specs.declared.ladder.Ladder.TheInside.{Inside}
 use Rattle.point_ladder.specs.declared.stretches.Stretch.{Stretch}
 use Rattle.point_ladder.specs.Bounds.{bound_to, HoldsPoints, IsAliveIn, AreBounds}
-use Rattle.point_ladder.specs.Stretches.{stretch_at, HasFrames, IsCut, AreNexts, IsLadder}
+use Rattle.point_ladder.specs.Stretches.{stretch_at, HasFrames, IsCutBack, AreNexts, IsLadder}
 use Rattle.point_ladder.specs.Ladders.{IsAliveFrame, LeadsOn, IsNarrowed, IsFrame, ShowsPair, IsAlong}
 use Rattle.world_model.proofs.Narrowed.{forced_only}
 use Rattle.point_ladder.proofs.Narrower.{IsNext, narrowings_of, next_is_narrower, point_before, refused_is_dead}
@@ -267,7 +267,7 @@ goes_here s next d is alive small read = goes_along q s.line.items s.len next lo
     fits = let on = (is.nexts_are.onward s.len small).1 in let counted = is.sets_are.counted in let lined = is.lined in omega (arith, on, at, counted, lined)
 
 -- what a ladder keeps where its path is cut
-pub keeps_cut : (s : Inside) (len : ℕ) (stretches : List Stretch) → Keeps s → len ≤ s.len → IsCut s.stretches.items stretches len →
+pub keeps_cut : (s : Inside) (len : ℕ) (stretches : List Stretch) → Keeps s → len ≤ s.len → IsCutBack s.stretches.items stretches len →
     IsLadder s.problem (problem_of s) s.sets.items s.rows s.line.items len s.nexts.items stretches s.alive
 keeps_cut s len stretches is fewer cut = record {
   sets_are = is.sets_are;

@@ -34,7 +34,7 @@ pub record IsInForce (stretches : List Stretch) (len i : ℕ) : Type 0 where
   pub last : i + 1 < length stretches → len < (stretch_at stretches (i + 1)).from
 
 -- the first of some stretches, up to the last that begins at a length or before
-pub record IsCut (old new : List Stretch) (len : ℕ) : Type 0 where
+pub record IsCutBack (old new : List Stretch) (len : ℕ) : Type 0 where
   pub fewer : length new ≤ length old
   pub begins : new ≡ take (length new) old
   pub low : 0 < length new → (stretch_at new (length new - 1)).from ≤ len

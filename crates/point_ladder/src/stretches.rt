@@ -1,6 +1,6 @@
 //! Stretches of a path, along each of which one frame is in force.
 ghost use Rattle.std.specs.Prelude.{◌≡◌, ◌<◌, length};
-ghost use Rattle.point_ladder.specs.Stretches.{stretch_at, IsCut, IsInForce};
+ghost use Rattle.point_ladder.specs.Stretches.{stretch_at, IsCutBack, IsInForce};
 
 use crate::frame::Frame;
 
@@ -13,7 +13,7 @@ pub(crate) struct Stretch {
 
 // Drops those that begin past a length.
 pub(crate) fn cut(stretches: &mut Vec<Stretch>, len: usize)
-    ensures { IsCut stretches.old.items stretches.new.items len }
+    ensures { IsCutBack stretches.old.items stretches.new.items len }
 {
     while stretches.len() > 0 {
         let last = stretches.len() - 1;

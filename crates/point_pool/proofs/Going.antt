@@ -23,7 +23,7 @@ use Rattle.point_pool.proofs.Serving.{all_from_places}
 open_allows : PositionsNarrow → (p : Problem) (m : List Rel) (k : ℕ) → IsOpen p m → k < length m → not (is_empty_set (allowed (problem_at p m) (pair_at p k))) ≡ true
 open_allows law p m k o h = ap (λ set. not (is_empty_set set)) (allowed_inside law p m k o h) ∙ ap not (only_some (get_or m k Equals))
 
--- the same at a longer prefix, which need not be open
+-- so does each pair of an open prefix at a longer one, which need not be open
 front_allows : PositionsNarrow → (p : Problem) (m front : List Rel) (k : ℕ) → front ≡ take (length front) m → length front ≤ length m → IsOpen p front → k < length front →
     not (is_empty_set (allowed (problem_at p m) (pair_at p k))) ≡ true
 front_allows law p m front k same fits o h =

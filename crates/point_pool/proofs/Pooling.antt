@@ -454,7 +454,7 @@ pool_new law w start so trees lists numbered slotted none all = record {
   watched = λ number within needed. inl (all number within needed);
 }
 
--- the same of its parts
+-- parts that are set up for a problem make a pool of it
 pub pool_made : PositionsNarrow → (w : Pool) (p : Problem) → w.cursor ≡ record { problem = p; path = [] } → AreStarted p w.points.items w.depths.items →
     All (λ bits. IsTrue (meets_trees p bits)) w.points.items → length w.serves.items ≡ length w.points.items → length w.witness.items ≡ need_count p → length w.slots.items ≡ need_count p →
     w.struck.items ≡ [] → ((number : ℕ) → number < need_count p → is_needed (problem_at p []) number ≡ true → Contains w.waiting number) → IsPool w

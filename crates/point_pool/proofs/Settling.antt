@@ -86,7 +86,7 @@ seen_named p need range = subst (λ x. IsNeed p x) (numbered_need p need range).
 pub cursor_from : (s : CursorState) (p : Problem) (m : List Rel) → s.problem ≡ p → s.path ≡ m → s ≡ record { problem = p; path = m }
 cursor_from s p m problem path = ap (λ (q : Problem). record s { problem = q }) problem ∙ ap (λ (n : List Rel). record { problem = p; path = n }) path
 
--- the same answers at the prefix that was asked about
+-- what a pool without open needs answers, at the prefix that was asked about
 pub alive_at : (w : Pool) (p : Problem) (m : List Rel) → w.cursor ≡ record { problem = p; path = m } → IsPool w → w.waiting ≡ [] → all_allow (problem_at p m) ≡ true → IsAlive (problem_at p m)
 alive_at w p m same is none allow =
     subst (λ s. IsAlive (problem_at s.problem s.path)) same (settled_alive w is none (subst (λ s. all_allow (problem_at s.problem s.path) ≡ true) (sym same) allow))

@@ -8,6 +8,6 @@ use Rattle.world_model.specs.Problem.{Problem, concept_count, pair_count}
 abbrev pub AvoidsPair : Problem → List Bool → ℕ → ℕ → Type 0
 AvoidsPair p bits x y = (k : ℕ) → k < pair_count p → (pair_at p k ≡ (x, y)) ⊎ (pair_at p k ≡ (y, x)) → IsTrue (avoids_at p bits k)
 
--- the same of all pairs of a concept
+-- bits are in no forced-empty region of any pair of a concept
 abbrev pub AvoidsPairsOf : Problem → List Bool → ℕ → Type 0
 AvoidsPairsOf p bits x = (y : ℕ) → y < concept_count p → AvoidsPair p bits x y

@@ -89,7 +89,7 @@ impl Pool {
         })
     }
 
-    /// The same points at another problem of the shape, at its empty prefix; or as it is, if at this problem.
+    /// A pool of these points at another problem of the shape, at its empty prefix; or as it is, if at this problem.
     pub fn moved_to(self, alloc: Global, problem: &Problem) -> Result<Pool, AllocError>
         requires pool { IsPool self }
         requires shape { SameShape self.cursor.problem problem.now }

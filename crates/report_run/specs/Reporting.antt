@@ -13,7 +13,8 @@ use Rattle.world_watch.specs.Steps.{Texts}
 use Rattle.run_ends.specs.declared.Status.{Status}
 use Rattle.run_ends.specs.declared.Status.TheVariants.{Done, RefusedText, NoWorld}
 use Rattle.run_ends.specs.Ends.{line_of, in_lines, complete_line, end_line}
-use Rattle.run_ends.specs.Runs.{File, Names}
+use Rattle.command_line.specs.Requests.{Names}
+use Rattle.run_ends.specs.Runs.{File}
 
 -- a watcher as a run sees it: its name, and what it would report of a problem after a further list of worlds
 pub record Watched : Type 0 where

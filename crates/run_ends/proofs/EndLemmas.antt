@@ -11,7 +11,8 @@ use Rattle.run_ends.specs.declared.Status.{Status}
 use Rattle.run_ends.specs.declared.Status.TheVariants as status
 use Rattle.run_ends.specs.Ends.{end_line, IsLastPut}
 use Rattle.outer_store.specs.States.{StoreState, SinkState}
-use Rattle.run_ends.specs.Runs.{File, Answers, Names, IsHeld, AreWritten, AreKeptBut, IsAskedText, IsPutInPart, IsInterrupted, IsRunBy, IsRunOf, IsEarlyEnd, IsPutPart, IsCarriedOut}
+use Rattle.command_line.specs.Requests.{Names}
+use Rattle.run_ends.specs.Runs.{File, Answers, IsHeld, AreWritten, AreKeptBut, IsAskedText, IsPutInPart, IsInterrupted, IsRunBy, IsRunOf, IsEarlyEnd, IsPutPart, IsCarriedOut}
 
 pub GrownInPart-all : (old new : Option (List ℕ)) (piece : List ℕ) → new ≡ added old piece → GrownInPart old new piece
 GrownInPart-all old new piece e = subst (GrownInPart old new) (append-nil piece) (GrownInPart-whole old new piece [] e)
@@ -25,7 +26,7 @@ pub none_written : (held held' : Contents) → held' ≡ held → AreWritten [] 
 none_written held held' e = record { each = All-nil (IsHeld held held'); others = all_kept [] held held' e }
 
 -- a first part of a text that is asked for, and then of the line that memory was wanting
-put_in_part : (answers : Answers) (held : Contents) (text : List ℕ) (old mid new : Option (List ℕ))
+put_in_part : (answers : Answers Status) (held : Contents) (text : List ℕ) (old mid new : Option (List ℕ))
     → IsAskedText answers held text → GrownInPart old mid text → GrownInPart mid new (end_line status.NoMemory) → IsPutInPart answers held old new
 put_in_part answers held text old mid new asked begun ended = record {
   text = text;
@@ -33,7 +34,7 @@ put_in_part answers held text old mid new asked begun ended = record {
   cut = record { between = mid; begun = begun; ended = ended };
 }
 
-nothing_put : (answers : Answers) (held : Contents) (old new : Option (List ℕ)) → GrownInPart old new (end_line status.NoMemory) → IsPutInPart answers held old new
+nothing_put : (answers : Answers Status) (held : Contents) (old new : Option (List ℕ)) → GrownInPart old new (end_line status.NoMemory) → IsPutInPart answers held old new
 nothing_put answers held old new part = record {
   text = [];
   of_answer = inr refl;
@@ -41,7 +42,7 @@ nothing_put answers held old new part = record {
 }
 
 -- the last line of a status that has this one, put whole, refused or starved: each way has its end
-ends : (names : Names) (answers : Answers) (s r : Status) (one other : StoreState) (old new : SinkState)
+ends : (names : Names) (answers : Answers Status) (s r : Status) (one other : StoreState) (old new : SinkState)
     → IsLastPut s r (end_line s) old new
     → (new.bytes ≡ added old.bytes (end_line s) → new.faults ≡ old.faults → IsRunOf names answers s one other old new)
     → (GrownInPart old.bytes new.bytes (end_line s) → IsInterrupted names answers one other old new) → other.held ≡ one.held
@@ -62,7 +63,7 @@ ends names answers s r one other old new last whole part kept = ⊎_elim
     last
 
 -- a run that ends before anything is put
-pub run_early : (names : Names) (answers : Answers) (s r : Status) (one other : StoreState) (old new : SinkState) → IsEarlyEnd names answers s one other → other.held ≡ one.held
+pub run_early : (names : Names) (answers : Answers Status) (s r : Status) (one other : StoreState) (old new : SinkState) → IsEarlyEnd names answers s one other → other.held ≡ one.held
     → IsLastPut s r (end_line s) old new → IsRunOf names answers r one other old new
 run_early names answers s r one other old new early kept last = ⊎_elim
     (λ refused. ends names answers s r one other old new last
@@ -100,7 +101,7 @@ run_early names answers s r one other old new early kept last = ⊎_elim
     early
 
 -- a run that puts its answer
-pub run_done : (names : Names) (answers : Answers) (s : Status) (one other : StoreState) (old new : SinkState)
+pub run_done : (names : Names) (answers : Answers Status) (s : Status) (one other : StoreState) (old new : SinkState)
     → IsCarriedOut answers (Ok s) names.written one other old new → IsRunOf names answers s one other old new
 run_done names answers s one other old new carried =
     let done = carried.done in
@@ -114,12 +115,12 @@ run_done names answers s one other old new carried =
       no_put_failed = carried.by_cause.cause.1;
     })
 
-partly : (answers : Answers) (one : StoreState) (old mid : SinkState) (new : Option (List ℕ)) → IsPutPart answers one old mid
+partly : (answers : Answers Status) (one : StoreState) (old mid : SinkState) (new : Option (List ℕ)) → IsPutPart answers one old mid
     → GrownInPart mid.bytes new (end_line status.NoMemory) → IsPutInPart answers one.held old.bytes new
 partly answers one old mid new part ended = put_in_part answers one.held part.text old.bytes mid.bytes new part.of_answer part.part ended
 
 -- one whose put or write is refused
-pub run_refused : (names : Names) (answers : Answers) (one other : StoreState) (old new : SinkState)
+pub run_refused : (names : Names) (answers : Answers Status) (one other : StoreState) (old new : SinkState)
     → IsCarriedOut answers (Err fault.Failed) names.written one other old new → IsRunOf names answers status.WriteFault one other old new
 run_refused names answers one other old new carried =
     let put = partly answers one old new new.bytes carried.refused (GrownInPart-kept new.bytes new.bytes (end_line status.NoMemory) refl) in
@@ -132,7 +133,7 @@ run_refused names answers one other old new carried =
     }
 
 -- and one that finds no memory
-pub run_starved : (names : Names) (answers : Answers) (r : Status) (one other : StoreState) (old mid new : SinkState)
+pub run_starved : (names : Names) (answers : Answers Status) (r : Status) (one other : StoreState) (old mid new : SinkState)
     → IsCarriedOut answers (Err fault.NoMemory) names.written one other old mid
     → IsLastPut status.NoMemory r (end_line status.NoMemory) mid new → IsRunOf names answers r one other old new
 run_starved names answers r one other old mid new carried last =
@@ -159,7 +160,7 @@ run_starved names answers r one other old mid new carried last =
     last
 
 -- what answers one question answers another
-pub carried_as : (answers others : Answers) (r : Result Status StoreFault) (names : List (List ℕ)) (one other : StoreState) (old new : SinkState)
+pub carried_as : (answers others : Answers Status) (r : Result Status StoreFault) (names : List (List ℕ)) (one other : StoreState) (old new : SinkState)
     → ((s : Status) (text : List ℕ) (files : List File) → answers one.held s text files → others one.held s text files)
     → IsCarriedOut answers r names one other old new → IsCarriedOut others r names one other old new
 carried_as answers others (Ok s) names one other old new answer carried = record {

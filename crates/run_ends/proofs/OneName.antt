@@ -1,5 +1,5 @@
 -- What a run leaves that writes one name alone.
-use Rattle.std.proofs.Common.{◌≡◌, ℕ, List, [], ◌∷◌, Contains, refl, sym, subst, arith}
+use Rattle.std.proofs.Common.{ℕ, List, [], ◌∷◌, Contains, refl, sym, subst, arith}
 use Rattle.outer_store.specs.Contents.{Contents, OthersKept}
 use Rattle.outer_store.specs.Faults.{Counts, Rose}
 use Rattle.run_ends.specs.Runs.{HasFailed, AreKeptBut}

@@ -11,7 +11,8 @@ use Rattle.run_ends.specs.declared.Status.TheVariants as status
 use Rattle.run_ends.specs.Ends.{end_line}
 use Rattle.run_ends.specs.Reads.{problem_by, problem_in, ComesOf, IsWithout}
 use Rattle.outer_store.specs.States.{StoreState}
-use Rattle.run_ends.specs.Runs.{Answers, Names, ending_of, IsEarlyEnd}
+use Rattle.command_line.specs.Requests.{Names}
+use Rattle.run_ends.specs.Runs.{Answers, ending_of, IsEarlyEnd}
 use Rattle.run_ends.proofs.ReadLemmas.{text_cut}
 
 -- bytes that agree with what is told of a name, and what they say
@@ -47,7 +48,7 @@ said_err (Ok q) s e = cc
 said_err (Err f) s e = (f, refl, sym (err_same (status.RefusedText f.0 f.1) s (Err (status.RefusedText f.0 f.1)) refl e))
 
 -- a run that has no problem: it answers the fault of the text, or a read failed, or memory was wanting
-pub without_text : (names : Names) (answers : Answers) (input : List ℕ) (switches : Switches) (s : Status) (one other : StoreState) → Contains names.read input
+pub without_text : (names : Names) (answers : Answers Status) (input : List ℕ) (switches : Switches) (s : Status) (one other : StoreState) → Contains names.read input
     → ((fault : ℕ × TextKind) → SaysText (one.held input) switches (Err fault) → answers one.held (status.RefusedText fault.0 fault.1) (end_line (status.RefusedText fault.0 fault.1)) [])
     → IsWithout input (problem_in switches) s one other → IsEarlyEnd names answers s one other
 without_text names answers input switches s one other named refusal end = ⊎_elim

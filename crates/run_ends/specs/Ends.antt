@@ -13,10 +13,16 @@ use Rattle.cert_reader.specs.declared.fault.CertTextKind.{CertTextKind}
 use Rattle.cert_reader.specs.declared.fault.CertTextKind.TheVariants as cert
 use Rattle.cert_rules.specs.declared.RejectKind.{RejectKind}
 use Rattle.cert_rules.specs.declared.RejectKind.TheVariants as reject
+use Rattle.part_rules.specs.declared.PartKind.{PartKind}
+use Rattle.part_rules.specs.declared.PartKind.TheVariants as part
+use Rattle.proof_text.specs.Words.{position_word}
+use Rattle.cert_text.specs.Lines.{end_word}
 use Rattle.command_line.specs.declared.UsageKind.{UsageKind}
 use Rattle.command_line.specs.Words.{usage_name}
+use Rattle.run_ends.specs.declared.PairKind.{PairKind}
+use Rattle.run_ends.specs.declared.PairKind.TheVariants as pair
 use Rattle.run_ends.specs.declared.Status.{Status}
-use Rattle.run_ends.specs.declared.Status.TheVariants.{Done, RefusedText, Usage, ReadFault, WriteFault, Cut, NoWorld, RefusedToken, RefusedCert, Rejected, NoMemory, Consistent}
+use Rattle.run_ends.specs.declared.Status.TheVariants.{Done, RefusedText, Usage, ReadFault, WriteFault, Cut, NoWorld, RefusedToken, RefusedCert, Rejected, NoMemory, Consistent, RefusedPair, TooMany, NotEntailed, EmptyPart, PartRefused, Gap}
 
 -- the exit code of a status
 abbrev pub code_of : Status → ℕ
@@ -32,6 +38,12 @@ code_of (RefusedCert line kind) = 7
 code_of (Rejected line kind) = 8
 code_of NoMemory = 9
 code_of Consistent = 10
+code_of (RefusedPair kind) = 12
+code_of TooMany = 13
+code_of NotEntailed = 14
+code_of EmptyPart = 15
+code_of (PartRefused part line kind) = 16
+code_of (Gap from to) = 17
 
 -- a line: its words, and its end
 abbrev pub line_of : List ℕ → List ℕ
@@ -101,6 +113,14 @@ reject_name reject.PairNotEmpty = codes "PairNotEmpty"
 reject_name reject.BranchTooDeep = codes "BranchTooDeep"
 reject_name reject.WrongSubject = codes "WrongSubject"
 
+abbrev pub pair_name : PairKind → List ℕ
+pair_name pair.UnknownConcept = codes "UnknownConcept"
+pair_name pair.SameConcept = codes "SameConcept"
+
+abbrev pub part_name : PartKind → List ℕ
+part_name (part.Text kind) = cert_name kind
+part_name (part.Rejected kind) = reject_name kind
+
 -- what is said of a refused text, token or certificate, of a rejected line, and of words that are no request
 abbrev pub refused_words : ℕ → TextKind → List ℕ
 refused_words line kind = codes "refused " ++ (decimal line ++ (codes " " ++ text_name kind))
@@ -117,6 +137,16 @@ rejected_words line kind = codes "rejected " ++ (decimal line ++ (codes " " ++ r
 abbrev pub usage_words : UsageKind → List ℕ
 usage_words kind = codes "usage " ++ usage_name kind
 
+-- what is said of words that name no pair, of a part whose certificate is refused, and of a gap between parts
+abbrev pub pair_words : PairKind → List ℕ
+pair_words kind = codes "pair " ++ pair_name kind
+
+abbrev pub part_words : ℕ → ℕ → PartKind → List ℕ
+part_words part line kind = codes "refused part " ++ (decimal part ++ (codes " " ++ (decimal line ++ (codes " " ++ part_name kind))))
+
+abbrev pub gap_line : List Rel → Option (List Rel) → List ℕ
+gap_line from to = line_of (codes "gap " ++ (position_word from ++ 32 ∷ end_word to))
+
 -- the line that a status puts last: nothing, where the command has put its own last line, or nothing further is put
 abbrev pub end_line : Status → List ℕ
 end_line Done = []
@@ -131,6 +161,12 @@ end_line (RefusedCert line kind) = line_of (cert_words line kind)
 end_line (Rejected line kind) = line_of (rejected_words line kind)
 end_line NoMemory = line_of (codes "no memory")
 end_line Consistent = []
+end_line (RefusedPair kind) = line_of (pair_words kind)
+end_line TooMany = line_of (codes "too many")
+end_line NotEntailed = line_of (codes "not entailed")
+end_line EmptyPart = line_of (codes "empty part")
+end_line (PartRefused part line kind) = line_of (part_words part line kind)
+end_line (Gap from to) = gap_line from to
 
 -- the last line is put and the status answered; or its put was refused; or memory was wanting
 abbrev pub IsLastPut : Status → Status → List ℕ → SinkState → SinkState → Type 0

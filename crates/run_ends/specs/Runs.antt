@@ -5,8 +5,9 @@ use Rattle.outer_store.specs.Contents.{Contents}
 use Rattle.outer_store.specs.Faults.{Counts, Rose, IfFailed}
 use Rattle.outer_store.specs.States.{StoreState, SinkState, IsQuiet}
 use Rattle.outer_store.specs.declared.fault.StoreFault.{StoreFault}
+use Rattle.command_line.specs.Requests.{Names}
 use Rattle.run_ends.specs.declared.Status.{Status}
-use Rattle.run_ends.specs.declared.Status.TheVariants.{Done, RefusedText, Usage, ReadFault, WriteFault, Cut, NoWorld, RefusedToken, RefusedCert, Rejected, NoMemory, Consistent}
+use Rattle.run_ends.specs.declared.Status.TheVariants.{Done, RefusedText, Usage, ReadFault, WriteFault, Cut, NoWorld, RefusedToken, RefusedCert, Rejected, NoMemory, Consistent, RefusedPair, TooMany, NotEntailed, EmptyPart, PartRefused, Gap}
 use Rattle.run_ends.specs.Ends.{end_line}
 
 -- the four ways in which a run ends: it answers, a read failed, a write failed, or memory was wanting
@@ -30,6 +31,12 @@ ending_of (RefusedCert line kind) = Answered
 ending_of (Rejected line kind) = Answered
 ending_of NoMemory = Starved
 ending_of Consistent = Answered
+ending_of (RefusedPair kind) = Answered
+ending_of TooMany = Answered
+ending_of NotEntailed = Answered
+ending_of EmptyPart = Answered
+ending_of (PartRefused part line kind) = Answered
+ending_of (Gap from to) = Answered
 
 -- what a call leaves on a sink: what is so after Ok, and after a fault; and a failed put has its cause
 pub record Leaves {T : Type 0} (result : Result T StoreFault) (done : T → Type 0) (refused : Type 0) (old new : SinkState) : Type 0 where
@@ -52,14 +59,10 @@ abbrev pub file_under : Option (List ℕ) → Option (List ℕ) → List File
 file_under None bytes = []
 file_under (Some name) bytes = record { name = name; bytes = bytes } ∷ []
 
--- the answers of a command: the status, the text that is put and the files that are written, by what is told of what names hold
-abbrev pub Answers : Type 1
-Answers = Contents → Status → List ℕ → List File → Type 0
-
--- a command: the names that it reads, and those that it may write
-pub record Names : Type 0 where
-  pub read : List (List ℕ)
-  pub written : List (List ℕ)
+-- the answers of a command, by what is told of what names hold: a status of some type, the text that is put and the files that are
+-- written
+abbrev pub Answers : Type 0 → Type 1
+Answers S = Contents → S → List ℕ → List File → Type 0
 
 -- the count of one of some names rose
 pub record HasFailed (names : List (List ℕ)) (before now : Counts) : Type 0 where
@@ -87,17 +90,17 @@ pub record IsCutShort (old new : Option (List ℕ)) (text : List ℕ) : Type 0 w
   pub ended : GrownInPart between new (end_line NoMemory)
 
 -- the text of an answer, or nothing
-abbrev pub IsAskedText : Answers → Contents → List ℕ → Type 0
-IsAskedText answers held text = ((status : Status) × (files : List File) × answers held status text files) ⊎ (text ≡ [])
+abbrev pub IsAskedText : {S : Type 0} → Answers S → Contents → List ℕ → Type 0
+IsAskedText {S = S} answers held text = ((status : S) × (files : List File) × answers held status text files) ⊎ (text ≡ [])
 
 -- an answer's text, or nothing, cut short
-pub record IsPutInPart (answers : Answers) (held : Contents) (old new : Option (List ℕ)) : Type 0 where
+pub record IsPutInPart {S : Type 0} (answers : Answers S) (held : Contents) (old new : Option (List ℕ)) : Type 0 where
   pub text : List ℕ
   pub of_answer : IsAskedText answers held text
   pub cut : IsCutShort old new text
 
 -- the answer is put whole and its files are written, and no call failed
-pub record IsAnswered (names : Names) (answers : Answers) (status : Status) (store store' : StoreState) (sink sink' : SinkState) : Type 0 where
+pub record IsAnswered {S : Type 0} (names : Names) (answers : Answers S) (status : S) (store store' : StoreState) (sink sink' : SinkState) : Type 0 where
   pub text : List ℕ
   pub files : List File
   pub asked : answers store.held status text files
@@ -114,45 +117,46 @@ pub record IsReadEnd (names : Names) (store store' : StoreState) (sink sink' : S
   pub no_put_failed : sink'.faults ≡ sink.faults
 
 -- a read failed, and a first part of the line that says so is put; or no call of the store failed, and the answer is put in part
-abbrev pub IsInterrupted : Names → Answers → StoreState → StoreState → SinkState → SinkState → Type 0
+abbrev pub IsInterrupted : {S : Type 0} → Names → Answers S → StoreState → StoreState → SinkState → SinkState → Type 0
 IsInterrupted names answers store store' sink sink' =
     (HasFailed names.read store.reads store'.reads × GrownInPart sink.bytes sink'.bytes (end_line ReadFault))
     ⊎ (IsQuiet store store' × IsPutInPart answers store.held sink.bytes sink'.bytes)
 
 -- a put failed
-abbrev pub IsPutFailed : Names → Answers → StoreState → StoreState → SinkState → SinkState → Type 0
+abbrev pub IsPutFailed : {S : Type 0} → Names → Answers S → StoreState → StoreState → SinkState → SinkState → Type 0
 IsPutFailed names answers store store' sink sink' = Rose sink.faults sink'.faults × IsInterrupted names answers store store' sink sink'
 
 -- a write of a name failed, when the answer was put in part; nothing is told of the counts of reads and of other names then, since a
 -- store may have one count for all
-pub record IsFileFailed (names : Names) (answers : Answers) (store store' : StoreState) (sink sink' : SinkState) : Type 0 where
+pub record IsFileFailed {S : Type 0} (names : Names) (answers : Answers S) (store store' : StoreState) (sink sink' : SinkState) : Type 0 where
   pub failed : HasFailed names.written store.writes store'.writes
   pub put : IsPutInPart answers store.held sink.bytes sink'.bytes
   pub no_put_failed : sink'.faults ≡ sink.faults
 
 -- a put failed, or a write of a name
-pub record IsWriteEnd (names : Names) (answers : Answers) (store store' : StoreState) (sink sink' : SinkState) : Type 0 where
+pub record IsWriteEnd {S : Type 0} (names : Names) (answers : Answers S) (store store' : StoreState) (sink sink' : SinkState) : Type 0 where
   pub cause : IsPutFailed names answers store store' sink sink' ⊎ IsFileFailed names answers store store' sink sink'
   pub kept : AreKeptBut names.written store.held store'.held
 
 -- memory was wanting
-pub record IsStarvedEnd (names : Names) (answers : Answers) (store store' : StoreState) (sink sink' : SinkState) : Type 0 where
+pub record IsStarvedEnd {S : Type 0} (names : Names) (answers : Answers S) (store store' : StoreState) (sink sink' : SinkState) : Type 0 where
   pub no_put_failed : sink'.faults ≡ sink.faults
   pub put : IsInterrupted names answers store store' sink sink'
   pub kept : AreKeptBut names.written store.held store'.held
 
--- what a run over a store and a sink does, by the way in which it ends: what it put and wrote, and which calls failed in it
-abbrev pub IsRunBy : Ending → Names → Answers → Status → StoreState → StoreState → SinkState → SinkState → Type 0
+-- what a run over a store and a sink does, by the way in which it ends, whatever the type of its status: what it put and wrote, and
+-- which calls failed in it
+abbrev pub IsRunBy : {S : Type 0} → Ending → Names → Answers S → S → StoreState → StoreState → SinkState → SinkState → Type 0
 IsRunBy Answered names answers status store store' sink sink' = IsAnswered names answers status store store' sink sink'
 IsRunBy ReadFailed names answers status store store' sink sink' = IsReadEnd names store store' sink sink'
 IsRunBy WriteFailed names answers status store store' sink sink' = IsWriteEnd names answers store store' sink sink'
 IsRunBy Starved names answers status store store' sink sink' = IsStarvedEnd names answers store store' sink sink'
 
-abbrev pub IsRunOf : Names → Answers → Status → StoreState → StoreState → SinkState → SinkState → Type 0
+abbrev pub IsRunOf : Names → Answers Status → Status → StoreState → StoreState → SinkState → SinkState → Type 0
 IsRunOf names answers status store store' sink sink' = IsRunBy (ending_of status) names answers status store store' sink sink'
 
 -- why a run ends before anything is put: its answer is a last line alone, a read failed, or memory was wanting
-abbrev pub IsEarlyEnd : Names → Answers → Status → StoreState → StoreState → Type 0
+abbrev pub IsEarlyEnd : Names → Answers Status → Status → StoreState → StoreState → Type 0
 IsEarlyEnd names answers status one other =
     (answers one.held status (end_line status) [] × (ending_of status ≡ Answered) × IsQuiet one other)
     ⊎ (((status ≡ ReadFault) × HasFailed names.read one.reads other.reads) ⊎ ((status ≡ NoMemory) × IsQuiet one other))
@@ -168,7 +172,7 @@ pub record IsByCause (result : Result Status StoreFault) (names : List (List ℕ
   pub kept : AreKeptBut names store.held store'.held
 
 -- an answer is put and its files are written
-pub record IsPutWhole (answers : Answers) (status : Status) (store store' : StoreState) (sink sink' : SinkState) : Type 0 where
+pub record IsPutWhole (answers : Answers Status) (status : Status) (store store' : StoreState) (sink sink' : SinkState) : Type 0 where
   pub text : List ℕ
   pub files : List File
   pub asked : answers store.held status text files
@@ -177,13 +181,13 @@ pub record IsPutWhole (answers : Answers) (status : Status) (store store' : Stor
   pub written : AreWritten files store.held store'.held
 
 -- a first part of an answer's text is put, or nothing
-pub record IsPutPart (answers : Answers) (store : StoreState) (sink sink' : SinkState) : Type 0 where
+pub record IsPutPart {S : Type 0} (answers : Answers S) (store : StoreState) (sink sink' : SinkState) : Type 0 where
   pub text : List ℕ
   pub of_answer : IsAskedText answers store.held text
   pub part : GrownInPart sink.bytes sink'.bytes text
 
 -- an answer is put and written, or a first part of its text, or nothing, is put
-pub record IsCarriedOut (answers : Answers) (result : Result Status StoreFault) (names : List (List ℕ)) (store store' : StoreState) (sink sink' : SinkState) : Type 0 where
+pub record IsCarriedOut (answers : Answers Status) (result : Result Status StoreFault) (names : List (List ℕ)) (store store' : StoreState) (sink sink' : SinkState) : Type 0 where
   pub done : IfOk result (λ status. IsPutWhole answers status store store' sink sink')
   pub refused : OnErr result (IsPutPart answers store sink sink')
   pub by_cause : IsByCause result names store store' sink sink'

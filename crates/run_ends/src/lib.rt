@@ -14,18 +14,31 @@ use cleantax_text::TextKind;
 use command_line::UsageKind;
 pub use help::text_help;
 pub use lines::put_lines;
-pub use names::{cert_name, reject_name, text_name, token_name};
+pub use names::{cert_name, pair_name, part_name, reject_name, text_name, token_name};
+use part_rules::PartKind;
 pub use put::{put_complete, put_end, put_line};
 use rcc5_core::Position;
 pub use read::{TEXT_LIMIT, read_front};
 use resume_token::TokenKind;
 pub use texts::{bytes_under, problem_under};
 
+/// Why two words name no pair of concepts.
+#[derive(Clone, Copy, Debug, PartialEq, Eq)]
+pub enum PairKind {
+    /// One of them names no concept.
+    UnknownConcept,
+    /// Both name one concept.
+    SameConcept,
+}
+
 /// How a run ended.
 #[derive(Drop)]
 pub enum Status {
     Done,
-    RefusedText { line: u32, kind: TextKind },
+    RefusedText {
+        line: u32,
+        kind: TextKind,
+    },
     Usage(UsageKind),
     ReadFault,
     WriteFault,
@@ -33,9 +46,33 @@ pub enum Status {
     Cut(Position),
     NoWorld,
     RefusedToken(TokenKind),
-    RefusedCert { line: u64, kind: CertTextKind },
-    Rejected { line: u64, kind: RejectKind },
+    RefusedCert {
+        line: u64,
+        kind: CertTextKind,
+    },
+    Rejected {
+        line: u64,
+        kind: RejectKind,
+    },
     NoMemory,
     /// Nothing is in conflict.
     Consistent,
+    RefusedPair(PairKind),
+    /// There are more articulations than all conflicts are looked for among.
+    TooMany,
+    /// The statements don't say what was to be explained.
+    NotEntailed,
+    /// The end of a part isn't above its start.
+    EmptyPart,
+    /// The certificate of a part, by its number from 1, is refused.
+    PartRefused {
+        part: u64,
+        line: u64,
+        kind: PartKind,
+    },
+    /// No part covers what lies from one position on and below another, or to the end.
+    Gap {
+        from: Position,
+        to: Option<Position>,
+    },
 }

@@ -1,11 +1,12 @@
 //! The exit code of a status, and how faults are printed.
 ghost use Rattle.std.specs.Prelude.{◌≡◌};
-ghost use Rattle.run_ends.specs.Ends.{code_of, text_name, token_name, cert_name, reject_name};
+ghost use Rattle.run_ends.specs.Ends.{code_of, text_name, token_name, cert_name, reject_name, pair_name, part_name};
 
-use crate::Status;
+use crate::{PairKind, Status};
 use cert_reader::CertTextKind;
 use cert_rules::RejectKind;
 use cleantax_text::TextKind;
+use part_rules::PartKind;
 use resume_token::TokenKind;
 
 impl Status {
@@ -25,6 +26,12 @@ impl Status {
             Status::Rejected { .. } => 8,
             Status::NoMemory => 9,
             Status::Consistent => 10,
+            Status::RefusedPair(_) => 12,
+            Status::TooMany => 13,
+            Status::NotEntailed => 14,
+            Status::EmptyPart => 15,
+            Status::PartRefused { .. } => 16,
+            Status::Gap { .. } => 17,
         }
     }
 }
@@ -99,5 +106,25 @@ pub fn reject_name(kind: RejectKind) -> &'static str
         RejectKind::PairNotEmpty => "PairNotEmpty",
         RejectKind::BranchTooDeep => "BranchTooDeep",
         RejectKind::WrongSubject => "WrongSubject",
+    }
+}
+
+/// The name of a pair's fault, as it is printed.
+pub fn pair_name(kind: PairKind) -> &'static str
+    ensures { result.now ≡ pair_name kind }
+{
+    match kind {
+        PairKind::UnknownConcept => "UnknownConcept",
+        PairKind::SameConcept => "SameConcept",
+    }
+}
+
+/// The name of why the certificate of a part is refused, as it is printed.
+pub fn part_name(kind: PartKind) -> &'static str
+    ensures { result.now ≡ part_name kind }
+{
+    match kind {
+        PartKind::Text(kind) => cert_name(kind),
+        PartKind::Rejected(kind) => reject_name(kind),
     }
 }

@@ -2,15 +2,21 @@
 ghost use Rattle.std.specs.Prelude.{◌≡◌, ◌≤◌, ◌++◌, [], ◌∷◌, codes, decimal, string_bytes, IfOk, OnOk, OnErr};
 ghost use Rattle.outer_store.specs.Bytes.{GrownInPart, added};
 ghost use Rattle.outer_store.specs.Faults.{Rose, IfFailed};
-ghost use Rattle.run_ends.specs.Ends.{line_of, refused_words, usage_words, token_words, cert_words, rejected_words, complete_line, end_line, IsLastPut};
+ghost use Rattle.cert_text.specs.Lines.{end_word};
+ghost use Rattle.run_ends.specs.Ends.{line_of, refused_words, usage_words, token_words, cert_words, rejected_words, pair_words, part_words, gap_line, complete_line, end_line, IsLastPut};
 ghost use Rattle.run_ends.specs.Runs.{LeavesPiece};
 
-use crate::{Status, cert_name, reject_name, text_name, token_name};
+use crate::{
+    PairKind, Status, cert_name, pair_name, part_name, reject_name, text_name, token_name,
+};
 use cert_reader::CertTextKind;
 use cert_rules::RejectKind;
+use cert_text::put_position;
 use cleantax_text::TextKind;
 use command_line::UsageKind;
 use outer_store::{Sink, StoreFault};
+use part_rules::PartKind;
+use rcc5_core::Position;
 use resume_token::TokenKind;
 use std::alloc::{AllocError, Global};
 
@@ -129,6 +135,72 @@ fn rejected_words(alloc: Global, line: u64, kind: RejectKind) -> Result<String, 
     format!(in alloc; "rejected {line} {name}")
 }
 
+fn put_pair_fault<W: Sink>(alloc: Global, out: &mut W, kind: PairKind) -> Result<(), StoreFault>
+    ensures { LeavesPiece result (line_of (pair_words kind)) (W.state out.old) (W.state out.new) }
+{
+    let words = pair_words(alloc, kind)?;
+    put_line(alloc, out, words.as_bytes())
+}
+
+fn pair_words(alloc: Global, kind: PairKind) -> Result<String, AllocError>
+    ensures { IfOk result (λ words. string_bytes words ≡ pair_words kind) }
+{
+    let name = pair_name(kind);
+    format!(in alloc; "pair {name}")
+}
+
+fn put_part_fault<W: Sink>(
+    alloc: Global,
+    out: &mut W,
+    part: u64,
+    line: u64,
+    kind: PartKind,
+) -> Result<(), StoreFault>
+    ensures { LeavesPiece result (line_of (part_words part line kind)) (W.state out.old) (W.state out.new) }
+{
+    let words = part_words(alloc, part, line, kind)?;
+    put_line(alloc, out, words.as_bytes())
+}
+
+fn part_words(alloc: Global, part: u64, line: u64, kind: PartKind) -> Result<String, AllocError>
+    ensures { IfOk result (λ words. string_bytes words ≡ part_words part line kind) }
+{
+    let name = part_name(kind);
+    format!(in alloc; "refused part {part} {line} {name}")
+}
+
+// The end of a gap, behind a space.
+fn put_gap_end(line: &mut Vec<u8>, to: &Option<Position>) -> Result<(), AllocError>
+    ensures { OnOk result (line.new.items ≡ line.old.items ++ 32 ∷ end_word to.now) }
+{
+    match to {
+        None => line.extend_from_slice(b" -"),
+        Some(to) => put_position(line, to),
+    }
+}
+
+fn gap_line(alloc: Global, from: &Position, to: &Option<Position>) -> Result<Vec<u8>, AllocError>
+    ensures { IfOk result (λ line. line.items ≡ gap_line from.now to.now) }
+{
+    let mut line = Vec::from_slice(alloc, b"gap")?;
+    put_position(&mut line, from)?;
+    put_gap_end(&mut line, to)?;
+    line.push(b'\n')?;
+    Ok(line)
+}
+
+fn put_gap<W: Sink>(
+    alloc: Global,
+    out: &mut W,
+    from: &Position,
+    to: &Option<Position>,
+) -> Result<(), StoreFault>
+    ensures { LeavesPiece result (gap_line from.now to.now) (W.state out.old) (W.state out.new) }
+{
+    let line = gap_line(alloc, from, to)?;
+    out.put(&line)
+}
+
 // A line that is known beforehand takes no memory.
 fn put_end_line<W: Sink>(alloc: Global, out: &mut W, status: &Status) -> Result<(), StoreFault>
     ensures { LeavesPiece result (end_line status.now) (W.state out.old) (W.state out.new) }
@@ -143,6 +215,12 @@ fn put_end_line<W: Sink>(alloc: Global, out: &mut W, status: &Status) -> Result<
         Status::Usage(kind) => put_usage(alloc, out, *kind),
         Status::ReadFault => out.put(b"read fault\n"),
         Status::NoMemory => out.put(b"no memory\n"),
+        Status::RefusedPair(kind) => put_pair_fault(alloc, out, *kind),
+        Status::TooMany => out.put(b"too many\n"),
+        Status::NotEntailed => out.put(b"not entailed\n"),
+        Status::EmptyPart => out.put(b"empty part\n"),
+        Status::PartRefused { part, line, kind } => put_part_fault(alloc, out, *part, *line, *kind),
+        Status::Gap { from, to } => put_gap(alloc, out, from, to),
     }
 }
 

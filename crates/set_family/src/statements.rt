@@ -19,7 +19,7 @@ impl Family {
         self.passes(problem)
     }
 
-    // The same, test by test.
+    // Whether it meets the problem, test by test.
     fn passes(&self, problem: &Problem) -> bool
         ensures { result ≡ (fits_concepts problem.now self.now && list_all (rules_at problem.now self.now) (concepts problem.now) && list_all (articulation_holds self.now) (kept_articulations problem.now) && list_all (holds self.now) problem.now.narrowings) }
     {

@@ -51,7 +51,7 @@ fn forget(solver: &mut Solver, book: &mut Book) -> Result<Option<u64>, AllocErro
     Ok(Some(forgotten))
 }
 
-/// The same after each hundredth question, and nothing after the others.
+/// Forgets the idle clauses after each hundredth question, and none after the others.
 fn forget_in_turn(
     question: u32,
     solver: &mut Solver,

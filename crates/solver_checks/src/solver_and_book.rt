@@ -226,7 +226,7 @@ fn a_book_accepts_the_lines_of_a_refutation(rt: HostRuntime) -> Result<(), Fail>
     Ok(())
 }
 
-// The same where the clauses that are idle are forgotten after the first answer.
+// A refutation where the clauses that are idle are forgotten after the first answer.
 fn forget(alloc: Global, solver: &mut Solver, book: &mut Book) -> Result<String, AllocError>
     requires { solver.old.variables ≡ 22 }
 {

@@ -87,7 +87,7 @@ fn forget(trail: &mut Trail, at: Ref) -> bool
     true
 }
 
-// The same with the third clause forgotten: 2 and 3 are implied, each by its clause.
+// A chain whose third clause is forgotten: 2 and 3 are implied, each by its clause.
 fn shorter_chain_on(alloc: Global, trail: &mut Trail) -> Result<String, AllocError>
     requires places { trail.old.places ≡ [] }
     requires variables { trail.old.variables ≡ 4 }

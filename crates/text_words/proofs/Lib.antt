@@ -1,3 +1,4 @@
 pub mod LineLemmas
 pub mod TokenLemmas
+pub mod BlankLemmas
 pub mod WordLemmas

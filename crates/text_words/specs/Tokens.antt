@@ -1,5 +1,5 @@
 -- A text as lines, and a line as tokens.
-use Rattle.std.specs.Prelude.{ℕ, ◌==◌, Bool, ◌||◌, List, [], ◌∷◌, ◌++◌, drop, if◌then◌else◌, nat_eq, codes}
+use Rattle.std.specs.Prelude.{ℕ, ◌==◌, Bool, ◌||◌, List, [], ◌∷◌, ◌++◌, drop, filter, length, if◌then◌else◌, nat_eq, nat_lt, codes}
 use Rattle.std.specs.List.{list_any, slice_split, before_first, starts_with}
 
 -- the bytes EF BB BF, which may stand before a text
@@ -61,3 +61,7 @@ tokens_after word (b ∷ bs) =
 -- the tokens of a line
 abbrev pub tokens_of : List ℕ → List Token
 tokens_of line = tokens_after [] (bare line)
+
+-- the words of a line: what stands between blanks and isn't empty
+abbrev pub words_in : List ℕ → List (List ℕ)
+words_in line = filter (λ word. nat_lt 0 (length word)) (slice_split is_blank line)

@@ -1,10 +1,11 @@
 -- Names, references and the words for relations.
-use Rattle.std.specs.Prelude.{ℕ, ◌==◌, nat_le, Bool, not, ◌&&◌, List, [], ◌∷◌, length, Option, Some, None, option_map, option_and_then, find, if◌then◌else◌, bytes_eq, codes}
+use Rattle.std.specs.Prelude.{ℕ, ◌==◌, nat_le, Bool, not, ◌&&◌, List, [], ◌∷◌, length, Option, Some, None, option_map, option_and_then, is_some, find, if◌then◌else◌, ◌||◌, bytes_eq, codes}
 use Rattle.std.specs.List.{list_all, list_any, before_first, after_first}
 use Rattle.rcc5_core.specs.declared.Rel.{Rel}
 use Rattle.rcc5_core.specs.declared.Rel.TheVariants.{Equals, Includes, IncludedIn, Overlaps, Disjoint}
 use Rattle.rcc5_core.specs.declared.RelSet.{RelSet}
-use Rattle.rcc5_core.specs.RelationSet.{no_rels, adding}
+use Rattle.rcc5_core.specs.Relation.{letter_of, with_letter, is_in}
+use Rattle.rcc5_core.specs.RelationSet.{no_rels, adding, rels_that}
 
 -- whether a byte may stand in a name: not 00 to 1F and not 7F
 abbrev pub is_name_byte : ℕ → Bool
@@ -45,6 +46,15 @@ relation_of_word word = option_map (λ entry. entry.1) (find (λ entry. bytes_eq
 abbrev pub set_of_words : List (List ℕ) → Option RelSet
 set_of_words [] = Some no_rels
 set_of_words (word ∷ words) = option_and_then (λ rel. option_map (λ set. adding set rel) (set_of_words words)) (relation_of_word word)
+
+-- whether a byte is the letter of a relation
+abbrev pub is_letter : ℕ → Bool
+is_letter byte = is_some (with_letter byte)
+
+-- the set of the relations whose letters a word has: one at least, and no other byte
+abbrev pub set_of_letters : List ℕ → Option RelSet
+set_of_letters word =
+    if (length word == 0) || not (list_all is_letter word) then None else Some (rels_that (λ rel. is_in (letter_of rel) word))
 
 -- the references of words, if each is one
 abbrev pub references_of : List (List ℕ) → Option (List (List ℕ × List ℕ))

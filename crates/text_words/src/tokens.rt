@@ -1,7 +1,7 @@
-//! The tokens of a line, from the left.
-ghost use Rattle.std.specs.Prelude.{◌≡◌, ◌<◌, ◌≤◌, ◌||◌, ◌∷◌, [], length, IfSome, MatchOption};
+//! The tokens of a line, and its words, from the left.
+ghost use Rattle.std.specs.Prelude.{◌≡◌, ◌<◌, ◌≤◌, ◌||◌, ◌∷◌, [], length, IfSome, IfNone, MatchOption};
 ghost use Rattle.std.specs.List.{position_or_len};
-ghost use Rattle.text_words.specs.Tokens.{is_blank, is_bracket, tokens_after};
+ghost use Rattle.text_words.specs.Tokens.{is_blank, is_bracket, tokens_after, words_in};
 ghost use Rattle.text_words.specs.Views.{token_of, ends_word, is_no_blank, StartsToken};
 
 /// A bracket, or a word.
@@ -39,9 +39,17 @@ fn blank_len(line: &[u8]) -> usize
     line.iter().take_while(|b| is_blank(**b)).count()
 }
 
-#[tactic(auto, using(crate::proofs::TokenLemmas::token_rules))]
+// How many bytes stand before the first blank.
+fn run_len(line: &[u8]) -> usize
+    ensures { result ≡ position_or_len is_blank line.now }
+{
+    line.iter().take_while(|b| !is_blank(**b)).count()
+}
+
+#[tactic(auto, using(crate::proofs::TokenLemmas::token_rules, crate::proofs::BlankLemmas::blank_rules))]
 fn without_blanks(line: &[u8]) -> &[u8]
     ensures same { tokens_after [] result.now ≡ tokens_after [] line.now }
+    ensures words { words_in result.now ≡ words_in line.now }
     ensures shorter { length result.now ≤ length line.now }
     ensures first { StartsToken result.now }
 {
@@ -63,4 +71,19 @@ pub fn next_token(line: &[u8]) -> Option<(Token<'_>, &[u8])>
     }
     let (word, after) = line.split_at(word_len(line));
     Some((Token::Word(word), after))
+}
+
+/// The next word of a line and what is behind it, where brackets are as any byte of a word; and none where there is no word.
+#[tactic(auto, using(crate::proofs::BlankLemmas::blank_rules))]
+pub fn next_word(line: &[u8]) -> Option<(&[u8], &[u8])>
+    ensures word { IfSome result (λ cut. words_in line.now ≡ cut.0.now ∷ words_in cut.1.now) }
+    ensures some { IfSome result (λ cut. 0 < length cut.0.now) }
+    ensures shorter { IfSome result (λ cut. length cut.1.now < length line.now) }
+    ensures none { IfNone result (words_in line.now ≡ []) }
+{
+    let line = without_blanks(line);
+    if line.is_empty() {
+        return None;
+    }
+    Some(line.split_at(run_len(line)))
 }

@@ -101,7 +101,7 @@ module _ (blocks : List Block) (singles : ℕ) (small : length blocks < 128) (fe
     few = few_names;
   }
 
--- the same of two taxonomies that are these
+-- both taxonomies of a trial, under whatever names they go, have each block
 pub block_had : (blocks : List Block) (singles : ℕ) (one other : Trees) (k : ℕ) (d : Block) → length blocks < 128 → singles < 3
     → one ≡ trees false blocks singles → other ≡ trees true blocks singles → k < length blocks → BothHaveBlock one other (get_or blocks k d).number
 block_had blocks singles one other k d small few one_is other_is lt =

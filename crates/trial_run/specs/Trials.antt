@@ -11,7 +11,8 @@ use Rattle.world_model.specs.Saturated.{count_of}
 use Rattle.run_ends.specs.declared.Status.{Status}
 use Rattle.run_ends.specs.declared.Status.TheVariants.{Done}
 use Rattle.run_ends.specs.Ends.{line_of}
-use Rattle.run_ends.specs.Runs.{File, Names}
+use Rattle.command_line.specs.Requests.{Names}
+use Rattle.run_ends.specs.Runs.{File}
 
 -- whether some world has another relation at a place than the first world
 abbrev pub is_varied : List (List Rel) → ℕ → Bool

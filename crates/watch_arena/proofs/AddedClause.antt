@@ -9,9 +9,9 @@ use Rattle.clause_arena.specs.Records.{Record, record_at, no_record, new_record}
 use Rattle.watch_arena.specs.declared.engine.Engine.{Engine}
 use Rattle.watch_arena.specs.Columns.{Caps}
 use Rattle.watch_arena.specs.Places.{place_at}
-use Rattle.watch_arena.specs.Engines.{mark_of, TrueBelow, FalseBelow, IsReasonBelow, IsWatched, IsShort, IsShortSettled, IsSettledAt, IsSound, IsRewound, IsUnseen}
+use Rattle.watch_arena.specs.Engines.{mark_of, TrueBelow, FalseBelow, IsReasonBelow, IsWatched, IsShort, IsShortSettled, IsSettledAt, IsEngine, IsRewound, IsUnseen}
 use Rattle.watch_arena.specs.Chains.{head_of, linked, IsEntry, AreChains, IsNone, SameBodies}
-use Rattle.watch_arena.proofs.BareEngine.{IsBare, IsSound-of, IsBare-linked}
+use Rattle.watch_arena.proofs.BareEngine.{IsBare, IsEngine-of, IsBare-linked}
 use Rattle.watch_arena.proofs.WatchChains.{AreChains-aside}
 use Rattle.watch_arena.proofs.RebuiltChains.{AreFronted-both}
 use Rattle.watch_arena.proofs.ChangedChains.{AreChains-put, IsOf, short_no_entry}
@@ -26,8 +26,8 @@ IsSettledAt-rewound records shorts marks h less s n le p = record {
 }
 
 -- propagation goes back
-pub IsSound-rewound : (e : Engine) (q : ℕ) (heads : List ℕ) (queue_head : ℕ) → IsSound e → queue_head ≤ e.queue_head → Caps e.heads heads q (length e.places.list) q → IsSound (record e { heads = heads; queue_head = queue_head })
-IsSound-rewound e q heads queue_head s le caps = record {
+pub IsEngine-rewound : (e : Engine) (q : ℕ) (heads : List ℕ) (queue_head : ℕ) → IsEngine e → queue_head ≤ e.queue_head → Caps e.heads heads q (length e.places.list) q → IsEngine (record e { heads = heads; queue_head = queue_head })
+IsEngine-rewound e q heads queue_head s le caps = record {
   few = s.few;
   no_pairs = s.no_pairs;
   room = s.room;
@@ -45,7 +45,7 @@ IsSound-rewound e q heads queue_head s le caps = record {
 }
 
 -- then it has come no further than there
-pub IsRewound-caps : (e : Engine) (q : ℕ) (heads : List ℕ) (queue_head : ℕ) → IsSound e → queue_head ≤ q → Caps e.heads heads q (length e.places.list) q → IsRewound (record e { heads = heads; queue_head = queue_head }) q
+pub IsRewound-caps : (e : Engine) (q : ℕ) (heads : List ℕ) (queue_head : ℕ) → IsEngine e → queue_head ≤ q → Caps e.heads heads q (length e.places.list) q → IsRewound (record e { heads = heads; queue_head = queue_head }) q
 IsRewound-caps e q heads queue_head s le caps = record {
   queue_head = le;
   heads = λ p lt. elim (cases_lt p q) [
@@ -72,8 +72,8 @@ IsSettledAt-listed records shorts marks at h s n p =
       };
     }
 
-pub IsSound-listed : (e : Engine) (at : ℕ) → IsSound e → IsSound (record e { shorts = e.shorts ++ at ∷ [] })
-IsSound-listed e at s = record {
+pub IsEngine-listed : (e : Engine) (at : ℕ) → IsEngine e → IsEngine (record e { shorts = e.shorts ++ at ∷ [] })
+IsEngine-listed e at s = record {
   few = s.few;
   no_pairs = s.no_pairs;
   room = s.room;
@@ -121,7 +121,7 @@ IsSettledAt-put records r shorts marks h s n new p = record {
 }
 
 -- one more record
-IsBare-put : (e : Engine) (r : Record) → IsSound e → ((lit : ℕ) → Contains r.lits lit → lit < 2 * e.variables) → IsShort r.lits ⊎ IsWatched r.lits (get_or r.lits 0 0) (get_or r.lits 1 0) → NewSettled r.lits (length e.arena) e.shorts e.marks e.queue_head e.first (length e.places.list) → ((p : ℕ) → p < length e.places.list → NewSettled r.lits (length e.arena) e.shorts e.marks (get_or e.heads p 0) (get_or e.firsts p 0) p) → IsBare (record e { arena = e.arena ++ r ∷ [] })
+IsBare-put : (e : Engine) (r : Record) → IsEngine e → ((lit : ℕ) → Contains r.lits lit → lit < 2 * e.variables) → IsShort r.lits ⊎ IsWatched r.lits (get_or r.lits 0 0) (get_or r.lits 1 0) → NewSettled r.lits (length e.arena) e.shorts e.marks e.queue_head e.first (length e.places.list) → ((p : ℕ) → p < length e.places.list → NewSettled r.lits (length e.arena) e.shorts e.marks (get_or e.heads p 0) (get_or e.firsts p 0) p) → IsBare (record e { arena = e.arena ++ r ∷ [] })
 IsBare-put e r s range kind now saved = record {
   few = s.few;
   no_pairs = s.no_pairs;
@@ -164,13 +164,13 @@ NewSettled-watched lits at shorts marks h s n q w le u v = record {
 }
 
 -- a clause that is watched, once both its watches came to the front of their chains
-pub IsSound-put_watched : (e : Engine) (r : Record) (q : ℕ) (records : List Record) (chains : List (Option Link)) → IsSound e → ((lit : ℕ) → Contains r.lits lit → lit < 2 * e.variables) → 2 ≤ length r.lits → get_or r.lits 0 0 ≢ get_or r.lits 1 0 → IsRewound e q → IsUnseen e.marks q (get_or r.lits 0 0) → IsUnseen e.marks q (get_or r.lits 1 0) → SameBodies (e.arena ++ r ∷ []) records → length chains ≡ length e.chains → AreChains records chains IsNone → IsSound (record e { arena = records; chains = chains })
-IsSound-put_watched e r q records chains s range two ne low u v bodies size filed =
+pub IsEngine-put_watched : (e : Engine) (r : Record) (q : ℕ) (records : List Record) (chains : List (Option Link)) → IsEngine e → ((lit : ℕ) → Contains r.lits lit → lit < 2 * e.variables) → 2 ≤ length r.lits → get_or r.lits 0 0 ≢ get_or r.lits 1 0 → IsRewound e q → IsUnseen e.marks q (get_or r.lits 0 0) → IsUnseen e.marks q (get_or r.lits 1 0) → SameBodies (e.arena ++ r ∷ []) records → length chains ≡ length e.chains → AreChains records chains IsNone → IsEngine (record e { arena = records; chains = chains })
+IsEngine-put_watched e r q records chains s range two ne low u v bodies size filed =
     let w = IsWatched-first r.lits two ne in
     let bare = IsBare-put e r s range (inr w)
     (NewSettled-watched r.lits (length e.arena) e.shorts e.marks e.queue_head e.first (length e.places.list) q w low.queue_head u v)
     (λ p lt. NewSettled-watched r.lits (length e.arena) e.shorts e.marks (get_or e.heads p 0) (get_or e.firsts p 0) p q w (low.heads p lt) u v) in
-    IsSound-of (record e { arena = records; chains = chains }) (IsBare-linked (record e { arena = e.arena ++ r ∷ [] }) records chains bare bodies) (size ∙ s.lists) filed
+    IsEngine-of (record e { arena = records; chains = chains }) (IsBare-linked (record e { arena = e.arena ++ r ∷ [] }) records chains bare bodies) (size ∙ s.lists) filed
 
 -- a short clause whose entry was not visited
 NewSettled-short : (lits : List ℕ) (at : ℕ) (shorts marks : List ℕ) (h s n j : ℕ) → IsShort lits → j < length shorts → get_or shorts j 0 ≡ at → s ≤ j → NewSettled lits at shorts marks h s n
@@ -180,10 +180,10 @@ NewSettled-short lits at shorts marks h s n j short within is le = record {
 }
 
 -- a short clause, which was listed before
-pub IsSound-put_short : (e : Engine) (r : Record) → IsSound e → ((lit : ℕ) → Contains r.lits lit → lit < 2 * e.variables) → IsShort r.lits → IsSound (record e { shorts = e.shorts ++ length e.arena ∷ []; arena = e.arena ++ r ∷ [] })
-IsSound-put_short e r s range short =
+pub IsEngine-put_short : (e : Engine) (r : Record) → IsEngine e → ((lit : ℕ) → Contains r.lits lit → lit < 2 * e.variables) → IsShort r.lits → IsEngine (record e { shorts = e.shorts ++ length e.arena ∷ []; arena = e.arena ++ r ∷ [] })
+IsEngine-put_short e r s range short =
     let now : List ℕ = e.shorts ++ length e.arena ∷ [] in
-    let listed = IsSound-listed e (length e.arena) s in
+    let listed = IsEngine-listed e (length e.arena) s in
     let size : length now ≡ length e.shorts + 1 = length_push e.shorts (length e.arena) in
     let last : get_or now (length e.shorts) 0 ≡ length e.arena = get_or_push e.shorts (length e.arena) 0 (length e.shorts) refl in
     let bare = IsBare-put (record e { shorts = e.shorts ++ length e.arena ∷ [] }) r listed range (inl short)
@@ -192,7 +192,7 @@ IsSound-put_short e r s range short =
     let put = AreChains-put e.arena e.chains r s.filed in
     let filed = AreChains-aside (e.arena ++ r ∷ []) e.chains (IsOf (length e.arena)) IsNone (λ y none. absurd none)
     (λ l y p a. short_no_entry (e.arena ++ r ∷ []) l y (subst (λ (x : Record). IsShort x.lits) (sym (ap (record_at (e.arena ++ r ∷ [])) a.0 ∙ record_at-new e.arena r)) short) p) put in
-    IsSound-of (record e { shorts = e.shorts ++ length e.arena ∷ []; arena = e.arena ++ r ∷ [] }) bare s.lists filed
+    IsEngine-of (record e { shorts = e.shorts ++ length e.arena ∷ []; arena = e.arena ++ r ∷ [] }) bare s.lists filed
 
 -- the chains once both watches of a new clause came to the front
 pub record IsFronted (e : Engine) (r : Record) (records : List Record) (chains : List (Option Link)) : Type 0 where
@@ -213,7 +213,7 @@ IsEntry-first records r slot lit small two is ne =
       differ = λ z. ne (z ∙ ap (λ (x : Record). get_or x.lits (1 - slot) 0) here);
     }
 
-pub IsFronted-both : (e : Engine) (r : Record) (a b : ℕ) → IsSound e → a < 2 * e.variables → b < 2 * e.variables → 2 ≤ length r.lits → get_or r.lits 0 0 ≡ a → get_or r.lits 1 0 ≡ b → a ≢ b → IsFronted e r (linked (linked (e.arena ++ r ∷ []) (record { at = length e.arena; slot = 0 }) (head_of e.chains a)) (record { at = length e.arena; slot = 1 }) (head_of (set e.chains a (Some (record { at = length e.arena; slot = 0 }))) b)) (set (set e.chains a (Some (record { at = length e.arena; slot = 0 }))) b (Some (record { at = length e.arena; slot = 1 })))
+pub IsFronted-both : (e : Engine) (r : Record) (a b : ℕ) → IsEngine e → a < 2 * e.variables → b < 2 * e.variables → 2 ≤ length r.lits → get_or r.lits 0 0 ≡ a → get_or r.lits 1 0 ≡ b → a ≢ b → IsFronted e r (linked (linked (e.arena ++ r ∷ []) (record { at = length e.arena; slot = 0 }) (head_of e.chains a)) (record { at = length e.arena; slot = 1 }) (head_of (set e.chains a (Some (record { at = length e.arena; slot = 0 }))) b)) (set (set e.chains a (Some (record { at = length e.arena; slot = 0 }))) b (Some (record { at = length e.arena; slot = 1 })))
 IsFronted-both e r a b s a_lt b_lt two a_is b_is ne =
     let n : ℕ = length e.arena in
     let lists = s.lists in
@@ -224,11 +224,11 @@ IsFronted-both e r a b s a_lt b_lt two a_is b_is ne =
 
 -- what adding a clause that is watched comes to
 pub record IsAdded (old new : Engine) (codes : List ℕ) (i : ℕ) : Type 0 where
-  pub sound : IsSound new
+  pub sound : IsEngine new
   pub bodies : SameBodies (old.arena ++ new_record i codes ∷ []) new.arena
 
 -- by what is done in turn
-pub Added : (old low : Engine) (put : List Record) (e1 e2 : Engine) (codes : List ℕ) (i a b at fa fb q : ℕ) → IsSound old → ((lit : ℕ) → Contains codes lit → lit < 2 * old.variables) → 2 ≤ length codes → get_or codes 0 0 ≢ get_or codes 1 0 → a ≡ get_or codes 0 0 → b ≡ get_or codes 1 0 → (0 < mark_of old.marks (negation_of a) → fa < mark_of old.marks (negation_of a)) → (0 < mark_of old.marks (negation_of b) → fb < mark_of old.marks (negation_of b)) → q ≡ min fa fb → IsSound low → IsRewound low q → low ≡ record old { heads = low.heads; queue_head = low.queue_head } → at ≡ length low.arena → put ≡ low.arena ++ new_record i codes ∷ [] → e1 ≡ record low { arena = linked put (record { at = at; slot = 0 }) (head_of low.chains a); chains = set low.chains a (Some (record { at = at; slot = 0 })) } → e2 ≡ record e1 { arena = linked e1.arena (record { at = at; slot = 1 }) (head_of e1.chains b); chains = set e1.chains b (Some (record { at = at; slot = 1 })) } → IsAdded old e2 codes i
+pub Added : (old low : Engine) (put : List Record) (e1 e2 : Engine) (codes : List ℕ) (i a b at fa fb q : ℕ) → IsEngine old → ((lit : ℕ) → Contains codes lit → lit < 2 * old.variables) → 2 ≤ length codes → get_or codes 0 0 ≢ get_or codes 1 0 → a ≡ get_or codes 0 0 → b ≡ get_or codes 1 0 → (0 < mark_of old.marks (negation_of a) → fa < mark_of old.marks (negation_of a)) → (0 < mark_of old.marks (negation_of b) → fb < mark_of old.marks (negation_of b)) → q ≡ min fa fb → IsEngine low → IsRewound low q → low ≡ record old { heads = low.heads; queue_head = low.queue_head } → at ≡ length low.arena → put ≡ low.arena ++ new_record i codes ∷ [] → e1 ≡ record low { arena = linked put (record { at = at; slot = 0 }) (head_of low.chains a); chains = set low.chains a (Some (record { at = at; slot = 0 })) } → e2 ≡ record e1 { arena = linked e1.arena (record { at = at; slot = 1 }) (head_of e1.chains b); chains = set e1.chains b (Some (record { at = at; slot = 1 })) } → IsAdded old e2 codes i
 Added old low put e1 e2 codes i a b at fa fb q s range two ne a_is b_is ua ub q_is t rewound same at_is put_is e1_is e2_is =
     let r : Record = new_record i codes in
     let vars : low.variables ≡ old.variables = ap (λ (e : Engine). e.variables) same in
@@ -250,8 +250,8 @@ Added old low put e1 e2 codes i a b at fa fb q s range two ne a_is b_is ua ub q_
     ∙ ap (λ (x : Engine). let e : Engine = record x { arena = linked x.arena second (head_of x.chains b); chains = set x.chains b (Some second) } in e) e1_at in
     let unseen : (l f k : ℕ) → q ≤ f → (0 < mark_of old.marks (negation_of k) → f < mark_of old.marks (negation_of k)) → k ≡ l → IsUnseen low.marks q l = λ l f k le u is.
     subst (λ (m : ℕ). IsUnseen low.marks q m) is (subst (λ (ms : List ℕ). IsUnseen ms q k) (sym marks) (λ pos. let late = u pos in omega arith)) in
-    let sound : IsSound (record low { arena = linked r2 second (head_of c2 b); chains = set c2 b (Some second) }) =
-    IsSound-put_watched low r q (linked r2 second (head_of c2 b)) (set c2 b (Some second)) t (λ lit c. let below = range lit c in omega arith) two ne rewound
+    let sound : IsEngine (record low { arena = linked r2 second (head_of c2 b); chains = set c2 b (Some second) }) =
+    IsEngine-put_watched low r q (linked r2 second (head_of c2 b)) (set c2 b (Some second)) t (λ lit c. let below = range lit c in omega arith) two ne rewound
     (unseen (get_or codes 0 0) fa a (omega arith) ua a_is) (unseen (get_or codes 1 0) fb b (omega arith) ub b_is) fronted.bodies fronted.size fronted.filed in
     let bodies : SameBodies (old.arena ++ r ∷ []) (linked r2 second (head_of c2 b)) = subst (λ (rs : List Record). SameBodies (rs ++ r ∷ []) (linked r2 second (head_of c2 b))) arena fronted.bodies in
     subst (λ (e : Engine). IsAdded old e codes i) (sym e2_at) (record { sound = sound; bodies = bodies })

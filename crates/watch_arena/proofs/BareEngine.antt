@@ -9,7 +9,7 @@ use Rattle.watch_arena.specs.declared.engine.Engine.{Engine}
 use Rattle.watch_arena.specs.Places.{place_at}
 use Rattle.watch_arena.specs.Trails.{SameRecords}
 use Rattle.watch_arena.specs.Chains.{AreChains, IsNone, SameBodies}
-use Rattle.watch_arena.specs.Engines.{AreMarked, AreReasoned, AreShortOrWatched, AreLevelled, RecordsInRange, IsReasonBelow, IsSettledAt, IsShortSettled, IsWatched, IsShort, IsSound}
+use Rattle.watch_arena.specs.Engines.{AreMarked, AreReasoned, AreShortOrWatched, AreLevelled, RecordsInRange, IsReasonBelow, IsSettledAt, IsShortSettled, IsWatched, IsShort, IsEngine}
 
 -- all but the chains
 pub record IsBare (e : Engine) : Type 0 where
@@ -26,7 +26,7 @@ pub record IsBare (e : Engine) : Type 0 where
   pub now : IsSettledAt e.arena e.shorts e.marks e.queue_head e.first (length e.places.list)
   pub saved : (p : ℕ) → p < length e.places.list → IsSettledAt e.arena e.shorts e.marks (get_or e.heads p 0) (get_or e.firsts p 0) p
 
-pub IsBare-of : (e : Engine) → IsSound e → IsBare e
+pub IsBare-of : (e : Engine) → IsEngine e → IsBare e
 IsBare-of e s = record {
   few = s.few;
   no_pairs = s.no_pairs;
@@ -42,8 +42,8 @@ IsBare-of e s = record {
   saved = s.saved;
 }
 
-pub IsSound-of : (e : Engine) → IsBare e → length e.chains ≡ 2 * e.variables → AreChains e.arena e.chains IsNone → IsSound e
-IsSound-of e b lists filed = record {
+pub IsEngine-of : (e : Engine) → IsBare e → length e.chains ≡ 2 * e.variables → AreChains e.arena e.chains IsNone → IsEngine e
+IsEngine-of e b lists filed = record {
   few = b.few;
   no_pairs = b.no_pairs;
   room = b.room;

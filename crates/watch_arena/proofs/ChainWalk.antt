@@ -7,7 +7,7 @@ use Rattle.clause_arena.specs.declared.place.Link.{Link}
 use Rattle.clause_arena.specs.Records.{Record, record_at, with_lits_swapped}
 use Rattle.watch_arena.specs.declared.engine.Engine.{Engine}
 use Rattle.watch_arena.specs.Chains.{head_of, next_of, records_past, led, IsChain, Has, IsEntry, IsChainOf, IsNone}
-use Rattle.watch_arena.specs.Engines.{mark_of, IsWatched, IsFresh, IsAgreed, IsSound, IsWalking, StaysAhead, Visits, AllAgree, with_watch_moved}
+use Rattle.watch_arena.specs.Engines.{mark_of, IsWatched, IsFresh, IsAgreed, IsEngine, IsWalking, StaysAhead, Visits, AllAgree, with_watch_moved}
 use Rattle.watch_arena.proofs.WatchedPair.{record_at-other, live_within, IsWatched-only}
 use Rattle.watch_arena.proofs.SameRecords.{Move, Move-is, moved, fresh, SameRecords-swap, SameRecords-trans}
 use Rattle.watch_arena.proofs.BareEngine.{SameRecords-bodies}
@@ -90,7 +90,7 @@ all_passed : (e : Engine) (lit : ℕ) (prev : Option Link) (before rest : List L
 all_passed e lit prev before [] c y h = elim (Has-append (led prev before) [] y h) [ inl a ↦ a | inr none ↦ absurd none ]
 all_passed e lit prev before (z ∷ rest) c y h = absurd (some_not_none z (sym c.0))
 
-pub AllAgree-walked : (e : Engine) (lit : ℕ) (prev : Option Link) → IsSound e → lit < 2 * e.variables → IsWalking e lit prev None → AllAgree e lit
+pub AllAgree-walked : (e : Engine) (lit : ℕ) (prev : Option Link) → IsEngine e → lit < 2 * e.variables → IsWalking e lit prev None → AllAgree e lit
 AllAgree-walked e lit prev s range w at other live v =
     let lists = s.lists in
     let old : IsChainOf e.arena lit (head_of e.chains lit) IsNone = s.filed lit (omega arith) in
@@ -108,7 +108,7 @@ AllAgree-walked e lit prev s range w at other live v =
     ]
 
 -- a walk is over at some time
-pub walk_count : (e : Engine) (lit : ℕ) (prev cur : Option Link) → IsSound e → lit < 2 * e.variables → (w : IsWalking e lit prev cur) → count_from (2 * length e.arena) e.arena cur ≡ length w.rest
+pub walk_count : (e : Engine) (lit : ℕ) (prev cur : Option Link) → IsEngine e → lit < 2 * e.variables → (w : IsWalking e lit prev cur) → count_from (2 * length e.arena) e.arena cur ≡ length w.rest
 walk_count e lit prev cur s range w =
     let lists = s.lists in
     let old : IsChainOf e.arena lit (head_of e.chains lit) IsNone = s.filed lit (omega arith) in
@@ -119,7 +119,7 @@ walk_count e lit prev cur s range w =
     count_from-is (2 * length e.arena) e.arena cur w.rest w.ahead (IsChain-bounded e.arena cur w.rest w.ahead small)
 
 -- where it begins
-pub IsWalking-head : (e : Engine) (lit : ℕ) (cur : Option Link) → IsSound e → lit < 2 * e.variables → cur ≡ head_of e.chains lit → IsWalking e lit None cur
+pub IsWalking-head : (e : Engine) (lit : ℕ) (cur : Option Link) → IsEngine e → lit < 2 * e.variables → cur ≡ head_of e.chains lit → IsWalking e lit None cur
 IsWalking-head e lit cur s range is =
     let lists = s.lists in
     let old : IsChainOf e.arena lit (head_of e.chains lit) IsNone = s.filed lit (omega arith) in
@@ -140,7 +140,7 @@ rest_less records x (y ∷ xs) ys c d =
     let same = IsChain-one records (next_of records x) ys xs d (subst (λ (z : Link). IsChain records (next_of records z) xs) (sym is) c.1) in
     let size = ap length same in omega arith
 
-pub walk_shorter : (old new : Engine) (lit : ℕ) (prev p : Option Link) (x : Link) → IsSound old → IsSound new → lit < 2 * old.variables → lit < 2 * new.variables → IsWalking old lit prev (Some x) → IsWalking new lit p (next_of old.arena x) → StaysAhead old new x → (rest : List Link) → IsChain old.arena (next_of old.arena x) rest → count_from (2 * length new.arena) new.arena (next_of old.arena x) < count_from (2 * length old.arena) old.arena (Some x)
+pub walk_shorter : (old new : Engine) (lit : ℕ) (prev p : Option Link) (x : Link) → IsEngine old → IsEngine new → lit < 2 * old.variables → lit < 2 * new.variables → IsWalking old lit prev (Some x) → IsWalking new lit p (next_of old.arena x) → StaysAhead old new x → (rest : List Link) → IsChain old.arena (next_of old.arena x) rest → count_from (2 * length new.arena) new.arena (next_of old.arena x) < count_from (2 * length old.arena) old.arena (Some x)
 walk_shorter old new lit prev p x s t range range_new w v stays rest c =
     let before = walk_count old lit prev (Some x) s range w in
     let after = walk_count new lit p (next_of old.arena x) t range_new v in
@@ -150,7 +150,7 @@ walk_shorter old new lit prev p x s t range range_new w v stays rest c =
     omega arith
 
 -- the exchange that comes once the chain was led past the entry
-pub IsExchange-past : (e : Engine) (lit k : ℕ) (prev : Option Link) (x : Link) (next : Option Link) (records : List Record) → IsSound e → lit < 2 * e.variables → IsAt e lit prev x → IsFresh e x.at (get_or (record_at e.arena x.at).lits (1 - x.slot) 0) k → next ≡ next_of e.arena x → records ≡ records_past e.arena prev next → IsExchange records x k lit × (fresh records x.at k ≡ fresh e.arena x.at k)
+pub IsExchange-past : (e : Engine) (lit k : ℕ) (prev : Option Link) (x : Link) (next : Option Link) (records : List Record) → IsEngine e → lit < 2 * e.variables → IsAt e lit prev x → IsFresh e x.at (get_or (record_at e.arena x.at).lits (1 - x.slot) 0) k → next ≡ next_of e.arena x → records ≡ records_past e.arena prev next → IsExchange records x k lit × (fresh records x.at k ≡ fresh e.arena x.at k)
 IsExchange-past e lit k prev x next records s range w f next_is is =
     let r1 : List Record = records_past e.arena prev (next_of e.arena x) in
     let lists = s.lists in
@@ -175,11 +175,11 @@ pub IsWalking-dead : (e : Engine) (lit : ℕ) (prev : Option Link) (x : Link) �
 IsWalking-dead e lit prev x w dead = IsWalking-on e e lit prev x w refl refl (λ at a. a) (λ other live v. absurd (dead live))
 
 -- what is known of an entry to be visited, by the walk
-pub IsEntry-walking : (e : Engine) (lit : ℕ) (prev cur : Option Link) (x : Link) → IsSound e → lit < 2 * e.variables → cur ≡ Some x → IsWalking e lit prev cur → IsEntry e.arena lit x
+pub IsEntry-walking : (e : Engine) (lit : ℕ) (prev cur : Option Link) (x : Link) → IsEngine e → lit < 2 * e.variables → cur ≡ Some x → IsWalking e lit prev cur → IsEntry e.arena lit x
 IsEntry-walking e lit prev cur x s range is w =
     IsEntry-at e lit prev x s range (IsAt-walking e lit prev x (subst (λ (o : Option Link). IsWalking e lit prev o) is w))
 
-pub IsSlot-walking : (e : Engine) (lit : ℕ) (prev : Option Link) (x : Link) → IsSound e → lit < 2 * e.variables → IsWalking e lit prev (Some x) → (record_at e.arena x.at).live ≡ true → IsSlot e x.at lit x.slot
+pub IsSlot-walking : (e : Engine) (lit : ℕ) (prev : Option Link) (x : Link) → IsEngine e → lit < 2 * e.variables → IsWalking e lit prev (Some x) → (record_at e.arena x.at).live ≡ true → IsSlot e x.at lit x.slot
 IsSlot-walking e lit prev x s range w live = IsSlot-entry e lit x (IsEntry-walking e lit prev (Some x) x s range refl w) live
 
 -- a visit that leaves the engine, behind which the walk goes on
@@ -192,7 +192,7 @@ pub record HasVisited (old new : Engine) (lit : ℕ) (prev : Option Link) (x : L
   pub ahead : StaysAhead old new x
   pub walking : IsWalking new lit prev (next_of old.arena x)
 
-pub Visit-moved : (e new : Engine) (lit k : ℕ) (prev : Option Link) (x : Link) (other : ℕ) → IsSound e → lit < 2 * e.variables → IsWalking e lit prev (Some x) → (record_at e.arena x.at).live ≡ true → 0 < mark_of e.marks (negation_of lit) → other ≡ get_or (record_at e.arena x.at).lits (1 - x.slot) 0 → IsFresh e x.at other k → new ≡ with_watch_moved e lit prev x k → HasVisited e new lit prev x
+pub Visit-moved : (e new : Engine) (lit k : ℕ) (prev : Option Link) (x : Link) (other : ℕ) → IsEngine e → lit < 2 * e.variables → IsWalking e lit prev (Some x) → (record_at e.arena x.at).live ≡ true → 0 < mark_of e.marks (negation_of lit) → other ≡ get_or (record_at e.arena x.at).lits (1 - x.slot) 0 → IsFresh e x.at other k → new ≡ with_watch_moved e lit prev x k → HasVisited e new lit prev x
 Visit-moved e new lit k prev x other s range walk live lit_false other_is f is =
     let w = IsAt-walking e lit prev x walk in
     let entry = IsEntry-at e lit prev x s range w in
@@ -207,7 +207,7 @@ Visit-moved e new lit k prev x other s range walk live lit_false other_is f is =
     subst (λ (n : Engine). HasVisited e n lit prev x) (sym is) here
 
 -- the measure of the walk falls
-pub walk_falls : (old new : Engine) (lit : ℕ) (prev p cur : Option Link) (x : Link) (next : Option Link) → IsSound old → Visits old new lit → lit < 2 * old.variables → cur ≡ Some x → IsWalking old lit prev cur → next ≡ next_of old.arena x → IsWalking new lit p (next_of old.arena x) → StaysAhead old new x → count_from (2 * length new.arena) new.arena next < count_from (2 * length old.arena) old.arena cur
+pub walk_falls : (old new : Engine) (lit : ℕ) (prev p cur : Option Link) (x : Link) (next : Option Link) → IsEngine old → Visits old new lit → lit < 2 * old.variables → cur ≡ Some x → IsWalking old lit prev cur → next ≡ next_of old.arena x → IsWalking new lit p (next_of old.arena x) → StaysAhead old new x → count_from (2 * length new.arena) new.arena next < count_from (2 * length old.arena) old.arena cur
 walk_falls old new lit prev p cur x next s v range is w next_is walking stays =
     let here = subst (λ (o : Option Link). IsWalking old lit prev o) is w in
     let at = IsAt-walking old lit prev x here in

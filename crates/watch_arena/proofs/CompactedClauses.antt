@@ -14,10 +14,10 @@ use Rattle.watch_arena.specs.Places.{place_at, no_place, places_with, is_assumed
 use Rattle.watch_arena.specs.Chains.{AreChains, IsNone}
 use Rattle.watch_arena.specs.Compactions.{IsMended, Relinks, Compacts}
 use Rattle.watch_arena.specs.Trails.{IsCompacted}
-use Rattle.watch_arena.specs.Engines.{mark_of, AreMarked, IsReasonBelow, IsSettledAt, IsWatched, IsShort, IsSound, trail_state}
+use Rattle.watch_arena.specs.Engines.{mark_of, AreMarked, IsReasonBelow, IsSettledAt, IsWatched, IsShort, IsEngine, trail_state}
 use Rattle.watch_arena.proofs.WatchedPair.{contains_at, index_of}
 use Rattle.watch_arena.proofs.ByIndex.{cases_bool}
-use Rattle.watch_arena.proofs.BareEngine.{IsBare, IsSound-of, IsBare-linked, SameRecords-bodies}
+use Rattle.watch_arena.proofs.BareEngine.{IsBare, IsEngine-of, IsBare-linked, SameRecords-bodies}
 
 -- the live record that comes to a place
 came-front : (rs : List Record) (i to : ℕ) → i ≤ length rs → to < length (compacted (take i rs)) → (at : ℕ) × ((record_at rs at).live ≡ true) × (count_by (λ r. r.live) (take at rs) ≡ to)
@@ -124,7 +124,7 @@ level_of-with name (x ∷ places) (suc n) named =
     ∙ sym (sum_by-cons (λ (p : Place). cond (is_assumed p) 1 0) x (take n places))
 
 -- each reason of a sound engine has another name
-pub named-reasons : (e : Engine) → IsSound e → (p : ℕ) → p < length e.places.list → Named (place_after e.arena) (place_at e.places.list p).reason
+pub named-reasons : (e : Engine) → IsEngine e → (p : ℕ) → p < length e.places.list → Named (place_after e.arena) (place_at e.places.list p).reason
 unfolding Named
 named-reasons e s p lt at is =
     let live = (s.reasoned p at lt is).live in
@@ -172,7 +172,7 @@ IsSettledAt-compacted rs shorts now marks h s n moved p = record {
 }
 
 -- all that is so beside the chains
-pub IsBare-compacted : (e new : Engine) → IsSound e → new.arena ≡ compacted e.arena → new.places.list ≡ places_with (place_after e.arena) e.places.list → new.places.room ≡ e.places.room → ((at to : ℕ) → Contains e.shorts at → place_after e.arena at ≡ Some to → Contains new.shorts to) → new.marks ≡ e.marks → new.heads ≡ e.heads → length new.firsts ≡ length e.firsts → ((p : ℕ) → p < length e.places.list → get_or new.firsts p 0 ≤ 0) → new.queue_head ≡ e.queue_head → new.first ≡ 0 → new.variables ≡ e.variables → new.moves.pairs ≡ [] → IsBare new
+pub IsBare-compacted : (e new : Engine) → IsEngine e → new.arena ≡ compacted e.arena → new.places.list ≡ places_with (place_after e.arena) e.places.list → new.places.room ≡ e.places.room → ((at to : ℕ) → Contains e.shorts at → place_after e.arena at ≡ Some to → Contains new.shorts to) → new.marks ≡ e.marks → new.heads ≡ e.heads → length new.firsts ≡ length e.firsts → ((p : ℕ) → p < length e.places.list → get_or new.firsts p 0 ≤ 0) → new.queue_head ≡ e.queue_head → new.first ≡ 0 → new.variables ≡ e.variables → new.moves.pairs ≡ [] → IsBare new
 IsBare-compacted e new s arena places room shorts marks heads firsts_size firsts queue_head first variables pairs =
     let rs : List Record = e.arena in
     let name : ℕ → Option ℕ = place_after e.arena in
@@ -283,7 +283,7 @@ IsMended-renamed pairs old new i kept r done within at to c is =
     contains_at (take kept new) f.0 to (omega arith) (get_or-take kept new f.0 0 f.1 ∙ f.2)
 
 -- all levels stay
-pub level_of-renamed : (e : Engine) → IsSound e → level_of (places_with (place_after e.arena) e.places.list) ≡ level_of e.places.list
+pub level_of-renamed : (e : Engine) → IsEngine e → level_of (places_with (place_after e.arena) e.places.list) ≡ level_of e.places.list
 level_of-renamed e s =
     let size = length-with (place_after e.arena) e.places.list in
     ap level_of (sym (take_all (length e.places.list) (places_with (place_after e.arena) e.places.list) (omega arith)))
@@ -291,7 +291,7 @@ level_of-renamed e s =
     ∙ ap level_of (take_all (length e.places.list) e.places.list (omega arith))
 
 -- so it is seen of a trail
-pub IsCompacted-from : (old new : Engine) → IsSound old → Compacts old new → IsCompacted (trail_state old) (trail_state new)
+pub IsCompacted-from : (old new : Engine) → IsEngine old → Compacts old new → IsCompacted (trail_state old) (trail_state new)
 IsCompacted-from old new s c = record {
   records = SameRecords-bodies (compacted old.arena) new.arena c.records;
   places = c.places;
@@ -300,8 +300,8 @@ IsCompacted-from old new s c = record {
 }
 
 -- sound again, once the chains are made
-pub IsSound-relinked : (mid new : Engine) → IsBare mid → length mid.chains ≡ 2 * mid.variables → Relinks mid new → AreChains new.arena new.chains IsNone → IsSound new
-IsSound-relinked mid new b lists r filed =
+pub IsEngine-relinked : (mid new : Engine) → IsBare mid → length mid.chains ≡ 2 * mid.variables → Relinks mid new → AreChains new.arena new.chains IsNone → IsEngine new
+IsEngine-relinked mid new b lists r filed =
     let made : Engine = record mid { arena = new.arena; chains = new.chains } in
     let bare = IsBare-linked mid new.arena new.chains b r.bodies in
-    subst (λ (e : Engine). IsSound e) (sym r.same) (IsSound-of (record mid { arena = new.arena; chains = new.chains }) bare (r.size ∙ lists) filed)
+    subst (λ (e : Engine). IsEngine e) (sym r.same) (IsEngine-of (record mid { arena = new.arena; chains = new.chains }) bare (r.size ∙ lists) filed)

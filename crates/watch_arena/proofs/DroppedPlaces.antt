@@ -12,10 +12,10 @@ use Rattle.watch_arena.specs.declared.places.Place.{Place}
 use Rattle.watch_arena.specs.declared.engine.Engine.{Engine}
 use Rattle.watch_arena.specs.Places.{place_at, no_place, level_of, is_assumed}
 use Rattle.watch_arena.specs.Trails.{places_up_to}
-use Rattle.watch_arena.specs.Engines.{AreLevelled, IsReasonBelow, IsSettledAt, IsShortSettled, IsWatched, IsShort, IsSound, Undoes, without_last}
+use Rattle.watch_arena.specs.Engines.{AreLevelled, IsReasonBelow, IsSettledAt, IsShortSettled, IsWatched, IsShort, IsEngine, Undoes, without_last}
 use Rattle.watch_arena.proofs.WatchedPair.{record_at-same, record_at-other, live_within}
 use Rattle.watch_arena.proofs.ChangedChains.{AreChains-forgotten}
-use Rattle.watch_arena.proofs.EngineInvariant.{IsSound-popped}
+use Rattle.watch_arena.proofs.EngineInvariant.{IsEngine-popped}
 use Rattle.watch_arena.proofs.WatchVisit.{level_of-push}
 
 -- the last place
@@ -70,8 +70,8 @@ places_up_to-all places level levelled le =
     grind (arith, common_steps))
 
 -- a clause that is forgotten takes nothing of what is sound
-pub IsSound-forgotten : (e : Engine) (at : ℕ) → IsSound e → (record_at e.arena at).live ≡ true → ((p : ℕ) → p < length e.places.list → (place_at e.places.list p).reason ≡ Some at → ⊥) → IsSound (record e { arena = set e.arena at (forgotten (record_at e.arena at)) })
-IsSound-forgotten e at s live no_reason =
+pub IsEngine-forgotten : (e : Engine) (at : ℕ) → IsEngine e → (record_at e.arena at).live ≡ true → ((p : ℕ) → p < length e.places.list → (place_at e.places.list p).reason ≡ Some at → ⊥) → IsEngine (record e { arena = set e.arena at (forgotten (record_at e.arena at)) })
+IsEngine-forgotten e at s live no_reason =
     let now : List Record = set e.arena at (forgotten (record_at e.arena at)) in
     let lt = live_within e.arena at live in
     let here : record_at now at ≡ forgotten (record_at e.arena at) = record_at-same e.arena at (forgotten (record_at e.arena at)) lt in
@@ -114,14 +114,14 @@ IsSound-forgotten e at s live no_reason =
 
 -- undone so far
 pub record Undone (old new : Engine) (level : ℕ) : Type 0 where
-  pub sound : IsSound new
+  pub sound : IsEngine new
   pub arena : new.arena ≡ old.arena
   pub variables : new.variables ≡ old.variables
   pub places : places_up_to new.places.list level ≡ places_up_to old.places.list level
   pub level_left : level ≤ level_of new.places.list
   pub moves : new.moves ≡ old.moves
 
-pub Undone-refl : (e : Engine) (level : ℕ) → IsSound e → level ≤ level_of e.places.list → Undone e e level
+pub Undone-refl : (e : Engine) (level : ℕ) → IsEngine e → level ≤ level_of e.places.list → Undone e e level
 Undone-refl e level s le = record { sound = s; arena = refl; variables = refl; places = refl; level_left = le; moves = refl }
 
 -- one place more
@@ -130,7 +130,7 @@ Undone-last old new level u above =
     let some = some_place new.places.list (omega arith) in
     let less = level_of-last new.places.list some in
     record {
-      sound = IsSound-popped new u.sound some;
+      sound = IsEngine-popped new u.sound some;
       arena = u.arena;
       variables = u.variables;
       places = places_up_to-last new.places.list level u.sound.levelled some above ∙ u.places;

@@ -7,7 +7,7 @@ use Rattle.clause_arena.specs.declared.place.Link.{Link}
 use Rattle.clause_arena.specs.Records.{Record, record_at}
 use Rattle.watch_arena.specs.declared.engine.Engine.{Engine}
 use Rattle.watch_arena.specs.Chains.{AreChains, IsNone}
-use Rattle.watch_arena.specs.Engines.{IsSound, mark_of}
+use Rattle.watch_arena.specs.Engines.{IsEngine, mark_of}
 
 -- no chain has an entry
 AreChains-empty : (count : ℕ) → AreChains [] (replicate count None) IsNone
@@ -32,8 +32,8 @@ mark-zero count lit = elim (cases_lt lit count) [
 dead : (at : ℕ) → (record_at [] at).live ≡ true → ⊥
 dead at live = absurd (let clash : false ≡ true = live in cc)
 
-pub IsSound-empty : (e : Engine) → e.variables < 2 ^ 32 → e.variables ≤ e.places.room → e.arena ≡ [] → e.chains ≡ replicate (2 * e.variables) None → e.marks ≡ replicate (2 * e.variables) 0 → e.places.list ≡ [] → e.heads ≡ replicate e.variables 0 → e.firsts ≡ replicate e.variables 0 → e.queue_head ≡ 0 → e.first ≡ 0 → e.moves.pairs ≡ [] → IsSound e
-IsSound-empty e few room arena chains marks places heads firsts queue_head first no_pairs =
+pub IsEngine-empty : (e : Engine) → e.variables < 2 ^ 32 → e.variables ≤ e.places.room → e.arena ≡ [] → e.chains ≡ replicate (2 * e.variables) None → e.marks ≡ replicate (2 * e.variables) 0 → e.places.list ≡ [] → e.heads ≡ replicate e.variables 0 → e.firsts ≡ replicate e.variables 0 → e.queue_head ≡ 0 → e.first ≡ 0 → e.moves.pairs ≡ [] → IsEngine e
+IsEngine-empty e few room arena chains marks places heads firsts queue_head first no_pairs =
     let no_place : length e.places.list ≡ 0 = ap length places in
     let never : (at : ℕ) → (record_at e.arena at).live ≡ true → ⊥ = λ at live. dead at (subst (λ (rs : List Record). (record_at rs at).live ≡ true) arena live) in
     let none : (lit : ℕ) → mark_of e.marks lit ≡ 0 = λ lit. ap (λ (ms : List ℕ). mark_of ms lit) marks ∙ mark-zero (2 * e.variables) lit in

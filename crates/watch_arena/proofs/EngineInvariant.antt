@@ -8,7 +8,7 @@ use Rattle.clause_arena.specs.Records.{Record, record_at}
 use Rattle.watch_arena.specs.declared.places.Place.{Place}
 use Rattle.watch_arena.specs.declared.engine.Engine.{Engine}
 use Rattle.watch_arena.specs.Places.{place_at, no_place, level_of}
-use Rattle.watch_arena.specs.Engines.{mark_of, IsReasonBelow, AreReasoned, IsWatched, IsSettledAt, AreLevelled, CanAssign, IsSound, AllAgree, IsShortMet, HasNoFresh, with_place, without_last}
+use Rattle.watch_arena.specs.Engines.{mark_of, IsReasonBelow, AreReasoned, IsWatched, IsSettledAt, AreLevelled, CanAssign, IsEngine, AllAgree, IsShortMet, HasNoFresh, with_place, without_last}
 use Rattle.watch_arena.proofs.Marks.{MarksGrow, MarksGrow-set, MarksGrow-unset, AreMarked-push, AreMarked-pop, place_at-push, place_at-new, mark-in_range}
 use Rattle.watch_arena.proofs.SettledClauses.{IsSettledAt-grown, IsSettledAt-shrunk, IsReasonBelow-grown, IsReasonBelow-shrunk}
 use Rattle.watch_arena.proofs.WatchedPair.{contains_at}
@@ -46,8 +46,8 @@ AreReasoned-push records marks places p g old new q at lt is =
     ]
 
 -- a literal becomes true
-pub IsSound-marked : (e : Engine) (p : Place) → IsSound e → CanAssign e p → length e.places.list < e.variables → IsSound (with_place e p)
-IsSound-marked e p s m lt =
+pub IsEngine-marked : (e : Engine) (p : Place) → IsEngine e → CanAssign e p → length e.places.list < e.variables → IsEngine (with_place e p)
+IsEngine-marked e p s m lt =
     let size = s.marked.size in
     let range = m.range in
     let g = MarksGrow-set e.marks p.lit (length e.places.list) (omega arith) m.not_true in
@@ -88,8 +88,8 @@ IsSound-marked e p s m lt =
     }
 
 -- all clauses of the literal at the queue's head were visited
-pub IsSound-advanced : (e : Engine) (lit : ℕ) → IsSound e → e.queue_head < length e.places.list → mark_of e.marks (negation_of lit) ≡ e.queue_head + 1 → AllAgree e lit → IsSound (record e { queue_head = e.queue_head + 1 })
-IsSound-advanced e lit s below at_head agreed =
+pub IsEngine-advanced : (e : Engine) (lit : ℕ) → IsEngine e → e.queue_head < length e.places.list → mark_of e.marks (negation_of lit) ≡ e.queue_head + 1 → AllAgree e lit → IsEngine (record e { queue_head = e.queue_head + 1 })
+IsEngine-advanced e lit s below at_head agreed =
     record {
       few = s.few;
       no_pairs = s.no_pairs;
@@ -124,8 +124,8 @@ IsSound-advanced e lit s below at_head agreed =
     }
 
 -- a short clause was visited
-pub IsSound-first_advanced : (e : Engine) → IsSound e → e.first < length e.shorts → IsShortMet e (get_or e.shorts e.first 0) → IsSound (record e { first = e.first + 1 })
-IsSound-first_advanced e s below met =
+pub IsEngine-first_advanced : (e : Engine) → IsEngine e → e.first < length e.shorts → IsShortMet e (get_or e.shorts e.first 0) → IsEngine (record e { first = e.first + 1 })
+IsEngine-first_advanced e s below met =
     record {
       few = s.few;
       no_pairs = s.no_pairs;
@@ -163,8 +163,8 @@ IsSound-first_advanced e s below met =
     }
 
 -- the last place goes
-pub IsSound-popped : (e : Engine) → IsSound e → 0 < length e.places.list → IsSound (without_last e)
-IsSound-popped e s some =
+pub IsEngine-popped : (e : Engine) → IsEngine e → 0 < length e.places.list → IsEngine (without_last e)
+IsEngine-popped e s some =
     let last : ℕ = length e.places.list - 1 in
     let lit : ℕ = (place_at e.places.list (length e.places.list - 1)).lit in
     let shorts : List ℕ = e.shorts in
@@ -199,7 +199,7 @@ IsSound-popped e s some =
     }
 
 -- a literal of a record, and its negation, have marks
-pub lit-in_range : (e : Engine) (at k lit : ℕ) → IsSound e → k < length (record_at e.arena at).lits → lit ≡ get_or (record_at e.arena at).lits k 0 → (lit < 2 * e.variables) × (lit < length e.marks) × (negation_of lit < length e.marks)
+pub lit-in_range : (e : Engine) (at k lit : ℕ) → IsEngine e → k < length (record_at e.arena at).lits → lit ≡ get_or (record_at e.arena at).lits k 0 → (lit < 2 * e.variables) × (lit < length e.marks) × (negation_of lit < length e.marks)
 lit-in_range e at k lit s within is =
     let range : lit < 2 * e.variables = s.in_range at lit (contains_at (record_at e.arena at).lits k lit within (sym is)) in
     let size = s.marked.size in

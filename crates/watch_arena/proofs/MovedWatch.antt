@@ -7,10 +7,10 @@ use Rattle.clause_arena.specs.declared.place.Link.{Link}
 use Rattle.clause_arena.specs.Records.{Record, record_at, with_lits_swapped}
 use Rattle.watch_arena.specs.declared.engine.Engine.{Engine}
 use Rattle.watch_arena.specs.Chains.{head_of, next_of, linked, records_past, chains_past, led, IsChain, Has, IsEntry, AreChains, IsNone, IsThis, IsSameBody, SameBodies}
-use Rattle.watch_arena.specs.Engines.{mark_of, IsAgreed, IsSound, IsWalking, with_watch_moved}
+use Rattle.watch_arena.specs.Engines.{mark_of, IsAgreed, IsEngine, IsWalking, with_watch_moved}
 use Rattle.watch_arena.proofs.WatchedPair.{record_at-same, record_at-other, live_within, contains_at}
 use Rattle.watch_arena.proofs.SameRecords.{Move, moved, fresh, SameRecords-swap, RecordsInRange-same, AreReasoned-same, AreShortOrWatched-moved, IsSettledAt-moved}
-use Rattle.watch_arena.proofs.BareEngine.{IsBare, IsSound-of, IsBare-linked}
+use Rattle.watch_arena.proofs.BareEngine.{IsBare, IsEngine-of, IsBare-linked}
 use Rattle.watch_arena.proofs.WatchChains.{IsChain-kept, IsChain-one, IsChain-apart, IsPast, IsPast-led, Has-more, Has-left, Has-right, Has-append, IsEntry-bodies, SameBodies-trans, SameBodies-linked, next_of-other, AreChains-front, some_not_none, some_same}
 use Rattle.watch_arena.proofs.ChangedChains.{IsExchange, IsEntry-exchanged, AreChains-exchanged, next_of-moved}
 
@@ -38,7 +38,7 @@ pub IsAt-walking : (e : Engine) (lit : ℕ) (prev : Option Link) (x : Link) → 
 IsAt-walking e lit prev x w = at-from e lit prev x w.before w.rest w.chain w.ahead w.agreed
 
 -- then the entry is a watch on the literal
-pub IsEntry-at : (e : Engine) (lit : ℕ) (prev : Option Link) (x : Link) → IsSound e → lit < 2 * e.variables → IsAt e lit prev x → IsEntry e.arena lit x
+pub IsEntry-at : (e : Engine) (lit : ℕ) (prev : Option Link) (x : Link) → IsEngine e → lit < 2 * e.variables → IsAt e lit prev x → IsEntry e.arena lit x
 IsEntry-at e lit prev x s range w =
     let lists = s.lists in
     let old = s.filed lit (omega arith) in
@@ -46,7 +46,7 @@ IsEntry-at e lit prev x s range w =
     old.entries x (subst (λ (zs : List Link). Has zs x) same (Has-right (led prev w.before) (x ∷ w.rest) x (inl refl)))
 
 -- so is the one before it
-pub IsEntry-before : (e : Engine) (lit : ℕ) (p x : Link) → IsSound e → lit < 2 * e.variables → IsAt e lit (Some p) x → IsEntry e.arena lit p
+pub IsEntry-before : (e : Engine) (lit : ℕ) (p x : Link) → IsEngine e → lit < 2 * e.variables → IsAt e lit (Some p) x → IsEntry e.arena lit p
 IsEntry-before e lit p x s range w =
     let lists = s.lists in
     let old = s.filed lit (omega arith) in
@@ -96,7 +96,7 @@ bodies-exchanged old new at slot k lt same =
     }
 
 -- the rest of what is sound
-IsBare-moved : (e : Engine) (at slot k lit other : ℕ) → IsSound e → Move e.arena e.marks at slot k lit other → IsBare (record e { arena = moved e.arena at slot k })
+IsBare-moved : (e : Engine) (at slot k lit other : ℕ) → IsEngine e → Move e.arena e.marks at slot k lit other → IsBare (record e { arena = moved e.arena at slot k })
 IsBare-moved e at slot k lit other s m =
     let small = m.slot_is in let third = m.third in let within = m.within in
     let same = SameRecords-swap e.arena at slot k (live_within e.arena at m.live) (omega arith) m.within in
@@ -122,12 +122,12 @@ length-past chains lit (Some p) next = refl
 
 -- what a watch that moves leaves
 pub record HasMoved (old new : Engine) (lit : ℕ) (prev : Option Link) (x : Link) (k : ℕ) (before rest : List Link) : Type 0 where
-  pub sound : IsSound new
+  pub sound : IsEngine new
   pub bodies : SameBodies (moved old.arena x.at x.slot k) new.arena
   pub chain : IsChain new.arena (head_of new.chains lit) (led prev before ++ rest)
   pub ahead : IsChain new.arena (next_of old.arena x) rest
 
-pub HasMoved-from : (e : Engine) (lit k other : ℕ) (prev : Option Link) (x : Link) → IsSound e → lit < 2 * e.variables → (w : IsAt e lit prev x) → Move e.arena e.marks x.at x.slot k lit other → HasMoved e (with_watch_moved e lit prev x k) lit prev x k w.before w.rest
+pub HasMoved-from : (e : Engine) (lit k other : ℕ) (prev : Option Link) (x : Link) → IsEngine e → lit < 2 * e.variables → (w : IsAt e lit prev x) → Move e.arena e.marks x.at x.slot k lit other → HasMoved e (with_watch_moved e lit prev x k) lit prev x k w.before w.rest
 HasMoved-from e lit k other prev x s range w m =
     let next : Option Link = next_of e.arena x in
     let r1 : List Record = records_past e.arena prev (next_of e.arena x) in
@@ -167,7 +167,7 @@ HasMoved-from e lit k other prev x s range w m =
     next_of-other r2 x y (head_of c1 new_lit) entry2.within entry2.slot_is (old.entries y (subst (λ (zs : List Link). Has zs y) same (Has-more (led prev w.before) w.rest x y h))).slot_is (λ z. IsChain-apart e.arena (head_of e.chains lit) (led prev w.before) w.rest x w.chain (subst (λ (v : Link). Has (led prev w.before ++ w.rest) v) z h))
     ∙ next_of-moved r1 x.at x.slot k y lt1 in
     record {
-      sound = IsSound-of (with_watch_moved e lit prev x k) bare (length-set c1 new_lit (Some x) ∙ size ∙ s.lists) all3;
+      sound = IsEngine-of (with_watch_moved e lit prev x k) bare (length-set c1 new_lit (Some x) ∙ size ∙ s.lists) all3;
       bodies = bodies;
       chain = subst (λ (o : Option Link). IsChain r3 o (led prev w.before ++ w.rest)) (sym head) (IsChain-kept r1 r3 (head_of c1 lit) (led prev w.before ++ w.rest) kept past.chain);
       ahead = IsChain-kept r1 r3 (next_of e.arena x) w.rest (λ y h. kept y (Has-right (led prev w.before) w.rest y h)) past.ahead;

@@ -15,7 +15,7 @@ use Rattle.watch_arena.specs.declared.places.Place.{Place}
 use Rattle.watch_arena.specs.declared.engine.Engine.{Engine}
 use Rattle.watch_arena.specs.Places.{place_at, no_place, is_assumed, level_of, place_of}
 use Rattle.watch_arena.specs.Trails.{IsReason, Propagates, IsConflict, IsPropagated, SameRecords, IsSameRecord, Adds, AreInRange}
-use Rattle.watch_arena.specs.Engines.{mark_of, IsReasonBelow, CanAssign, IsSound, IsFalse, IsDone, ImpliesMore, KeepsTrail, trail_state}
+use Rattle.watch_arena.specs.Engines.{mark_of, IsReasonBelow, CanAssign, IsEngine, IsFalse, IsDone, ImpliesMore, KeepsTrail, trail_state}
 use Rattle.watch_arena.proofs.WatchedPair.{record_at-put, record_at-new}
 use Rattle.watch_arena.specs.Chains.{SameBodies}
 use Rattle.watch_arena.proofs.SameRecords.{SameRecords-trans}
@@ -34,7 +34,7 @@ level_of-implied places n (suc k) le implied =
     ∙ level_of-implied places n k (omega arith) implied
 
 -- what propagation promises
-pub Propagates-implied : (old new : Engine) → IsSound old → IsSound new → ImpliesMore old new → Propagates (trail_state old) (trail_state new)
+pub Propagates-implied : (old new : Engine) → IsEngine old → IsEngine new → ImpliesMore old new → Propagates (trail_state old) (trail_state new)
 Propagates-implied old new s t st =
     let n : ℕ = length old.places.list in
     let front : length old.places.list ≤ length new.places.list = (let size = ap length st.places in let cut : length (take (length old.places.list) new.places.list) ≡ min (length old.places.list) (length new.places.list) = length-take (length old.places.list) new.places.list in omega arith) in
@@ -56,7 +56,7 @@ Propagates-implied old new s t st =
     }
 
 -- what it found
-pub found_seen : (e : Engine) (o : Option ℕ) → IsSound e → MatchOption o (IsDone e) (λ at. IsFalse e at) → MatchOption o (IsPropagated (trail_state e)) (λ at. IsConflict (trail_state e) at)
+pub found_seen : (e : Engine) (o : Option ℕ) → IsEngine e → MatchOption o (IsDone e) (λ at. IsFalse e at) → MatchOption o (IsPropagated (trail_state e)) (λ at. IsConflict (trail_state e) at)
 found_seen e None s p = IsPropagated-done e s p
 found_seen e (Some at) s p = IsConflict-false e at s p
 
@@ -77,7 +77,7 @@ none_passes test (p ∷ places) from zero is lt = (first_fails test p places fro
 none_passes test (p ∷ places) from (suc k) is lt = none_passes test places (from + 1) k (first_fails test p places from is).1 (omega arith)
 
 -- an unassigned variable's literals have no marks
-pub unassigned_marks : (e : Engine) (lit : ℕ) → IsSound e → place_of e.places.list (variable_of lit) ≡ None → (mark_of e.marks lit ≡ 0) × (mark_of e.marks (negation_of lit) ≡ 0)
+pub unassigned_marks : (e : Engine) (lit : ℕ) → IsEngine e → place_of e.places.list (variable_of lit) ≡ None → (mark_of e.marks lit ≡ 0) × (mark_of e.marks (negation_of lit) ≡ 0)
 unassigned_marks e lit s none =
     let free : (l : ℕ) → variable_of l ≡ variable_of lit → mark_of e.marks l ≡ 0 = λ l same. elim (cases_lt 0 (mark_of e.marks l)) [
       | inl pos ↦
@@ -91,7 +91,7 @@ unassigned_marks e lit s none =
     (free lit refl, free (negation_of lit) (variable_of-negation lit))
 
 -- the place of a literal's variable, by its mark
-pub place_of-mark : (e : Engine) (lit : ℕ) → IsSound e → 0 < mark_of e.marks lit → place_of e.places.list (variable_of lit) ≡ Some (mark_of e.marks lit - 1)
+pub place_of-mark : (e : Engine) (lit : ℕ) → IsEngine e → 0 < mark_of e.marks lit → place_of e.places.list (variable_of lit) ≡ Some (mark_of e.marks lit - 1)
 place_of-mark e lit s pos =
     let facts = s.marked.forth lit pos in
     let below = facts.0 in
@@ -109,7 +109,7 @@ place_of-mark e lit s pos =
     ∙ ap Some (let z : 0 + (mark_of e.marks lit - 1) ≡ mark_of e.marks lit - 1 = omega arith in z)
 
 -- a variable with no mark has no place
-pub place_of-none : (e : Engine) (variable : ℕ) → IsSound e → mark_of e.marks (2 * variable) ≡ 0 → mark_of e.marks (2 * variable + 1) ≡ 0 → place_of e.places.list variable ≡ None
+pub place_of-none : (e : Engine) (variable : ℕ) → IsEngine e → mark_of e.marks (2 * variable) ≡ 0 → mark_of e.marks (2 * variable + 1) ≡ 0 → place_of e.places.list variable ≡ None
 place_of-none e variable s even odd =
     position_none (λ (p : Place). variable_of p.lit == variable) e.places.list 0 no_place (λ j lt.
     let at = s.marked.back j lt in
@@ -122,7 +122,7 @@ place_of-none e variable s even odd =
     ne_eqb (variable_of (place_at e.places.list j).lit) variable ne)
 
 -- a clause may imply a literal
-pub CanAssign-implied : (e : Engine) (lit at : ℕ) → IsSound e → place_of e.places.list (variable_of lit) ≡ None → IsReason e.arena e.places.list lit at → CanAssign e (record { lit = lit; level = level_of e.places.list; reason = Some at })
+pub CanAssign-implied : (e : Engine) (lit at : ℕ) → IsEngine e → place_of e.places.list (variable_of lit) ≡ None → IsReason e.arena e.places.list lit at → CanAssign e (record { lit = lit; level = level_of e.places.list; reason = Some at })
 CanAssign-implied e lit at s none r =
     let free = unassigned_marks e lit s none in
     record {
@@ -140,22 +140,22 @@ CanAssign-implied e lit at s none r =
     }
 
 -- the place of a variable, by the mark of its positive literal, of its negative one, or of neither
-pub place_of-even : (e : Engine) (variable mark : ℕ) → IsSound e → mark ≡ mark_of e.marks (2 * variable) → mark ≢ 0 → Some (mark - 1) ≡ place_of e.places.list variable
+pub place_of-even : (e : Engine) (variable mark : ℕ) → IsEngine e → mark ≡ mark_of e.marks (2 * variable) → mark ≢ 0 → Some (mark - 1) ≡ place_of e.places.list variable
 place_of-even e variable mark s is ne =
     let half : variable_of (2 * variable) ≡ variable = omega arith in
     ap (λ (n : ℕ). Some (n - 1)) is ∙ sym (place_of-mark e (2 * variable) s (omega arith)) ∙ ap (place_of e.places.list) half
 
-pub place_of-odd : (e : Engine) (variable mark : ℕ) → IsSound e → mark ≡ mark_of e.marks (2 * variable + 1) → mark ≢ 0 → Some (mark - 1) ≡ place_of e.places.list variable
+pub place_of-odd : (e : Engine) (variable mark : ℕ) → IsEngine e → mark ≡ mark_of e.marks (2 * variable + 1) → mark ≢ 0 → Some (mark - 1) ≡ place_of e.places.list variable
 place_of-odd e variable mark s is ne =
     let half : variable_of (2 * variable + 1) ≡ variable = omega arith in
     ap (λ (n : ℕ). Some (n - 1)) is ∙ sym (place_of-mark e (2 * variable + 1) s (omega arith)) ∙ ap (place_of e.places.list) half
 
-pub place_of-neither : (e : Engine) (variable even odd : ℕ) → IsSound e → even ≡ mark_of e.marks (2 * variable) → odd ≡ mark_of e.marks (2 * variable + 1) → even ≡ 0 → odd ≡ 0 → None ≡ place_of e.places.list variable
+pub place_of-neither : (e : Engine) (variable even odd : ℕ) → IsEngine e → even ≡ mark_of e.marks (2 * variable) → odd ≡ mark_of e.marks (2 * variable + 1) → even ≡ 0 → odd ≡ 0 → None ≡ place_of e.places.list variable
 place_of-neither e variable even odd s is_even is_odd none_even none_odd =
     sym (place_of-none e variable s (sym is_even ∙ none_even) (sym is_odd ∙ none_odd))
 
 -- a number past the last variable
-pub place_of-past : (e : Engine) (variable : ℕ) → IsSound e → e.variables ≤ variable → None ≡ place_of e.places.list variable
+pub place_of-past : (e : Engine) (variable : ℕ) → IsEngine e → e.variables ≤ variable → None ≡ place_of e.places.list variable
 place_of-past e variable s past =
     let size = s.marked.size in
     sym (place_of-none e variable s (get_or_past e.marks (2 * variable) 0 (omega arith)) (get_or_past e.marks (2 * variable + 1) 0 (omega arith)))

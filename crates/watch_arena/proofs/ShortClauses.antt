@@ -10,9 +10,9 @@ use Rattle.clause_arena.specs.Records.{record_at}
 use Rattle.watch_arena.specs.declared.places.Place.{Place}
 use Rattle.watch_arena.specs.declared.engine.Engine.{Engine}
 use Rattle.watch_arena.specs.Places.{level_of, is_assumed}
-use Rattle.watch_arena.specs.Engines.{mark_of, TrueBelow, IsReasonBelow, IsWatched, IsShort, IsShortMet, CanAssign, IsSound, IsFalse, IsDone, Advances, with_place}
+use Rattle.watch_arena.specs.Engines.{mark_of, TrueBelow, IsReasonBelow, IsWatched, IsShort, IsShortMet, CanAssign, IsEngine, IsFalse, IsDone, Advances, with_place}
 use Rattle.watch_arena.proofs.WatchedPair.{contains_at, index_of}
-use Rattle.watch_arena.proofs.EngineInvariant.{IsSound-marked, IsSound-first_advanced, lit-in_range}
+use Rattle.watch_arena.proofs.EngineInvariant.{IsEngine-marked, IsEngine-first_advanced, lit-in_range}
 use Rattle.watch_arena.proofs.WatchVisit.{TrueBelow-all, Visits-marked, Advances-visits, HasRoom-from_can, mark_within, level_of-push, not_positive}
 
 -- a clause of fewer than two literals
@@ -35,7 +35,7 @@ pub short_lit : (lits : List ℕ) (m : ℕ) → IsShort lits → Contains lits m
 short_lit lits m short c = let entry = index_of lits m c in sym (short entry.0 entry.1) ∙ entry.2
 
 -- a short clause whose literal is true
-pub IsShortMet-true : (e : Engine) (at lit : ℕ) → IsSound e → 0 < length (record_at e.arena at).lits → lit ≡ get_or (record_at e.arena at).lits 0 0 → 0 < mark_of e.marks lit → IsShortMet e at
+pub IsShortMet-true : (e : Engine) (at lit : ℕ) → IsEngine e → 0 < length (record_at e.arena at).lits → lit ≡ get_or (record_at e.arena at).lits 0 0 → 0 < mark_of e.marks lit → IsShortMet e at
 IsShortMet-true e at lit s some is pos live short =
     (some, subst (λ (l : ℕ). TrueBelow e.marks (length e.places.list) l) is (TrueBelow-all e lit s pos))
 
@@ -56,7 +56,7 @@ IsFalse-from_empty e at live none = record {
 }
 
 -- the literal of a short clause may become true
-pub CanAssign-from_short : (e : Engine) (at lit level : ℕ) → IsSound e → (record_at e.arena at).live ≡ true → IsShort (record_at e.arena at).lits → 0 < length (record_at e.arena at).lits → lit ≡ get_or (record_at e.arena at).lits 0 0 → (0 < mark_of e.marks lit → false ≡ true) → (0 < mark_of e.marks (negation_of lit) → false ≡ true) → level ≡ level_of e.places.list → CanAssign e (record { lit = lit; level = level; reason = Some at })
+pub CanAssign-from_short : (e : Engine) (at lit level : ℕ) → IsEngine e → (record_at e.arena at).live ≡ true → IsShort (record_at e.arena at).lits → 0 < length (record_at e.arena at).lits → lit ≡ get_or (record_at e.arena at).lits 0 0 → (0 < mark_of e.marks lit → false ≡ true) → (0 < mark_of e.marks (negation_of lit) → false ≡ true) → level ≡ level_of e.places.list → CanAssign e (record { lit = lit; level = level; reason = Some at })
 CanAssign-from_short e at lit level s live short some is not_true not_false at_level = record {
   range = (lit-in_range e at 0 lit s some is).0;
   not_true = not_positive (mark_of e.marks lit) not_true;
@@ -72,17 +72,17 @@ CanAssign-from_short e at lit level s live short some is not_true not_false at_l
 }
 
 -- one more implied place
-pub Advances-marked : (e : Engine) (p : Place) → IsSound e → CanAssign e p → is_assumed p ≡ false → Advances e (with_place e p)
+pub Advances-marked : (e : Engine) (p : Place) → IsEngine e → CanAssign e p → is_assumed p ≡ false → Advances e (with_place e p)
 Advances-marked e p s m implied = Advances-visits e (with_place e p) 0 (Visits-marked e p 0 s m implied)
 
 -- the literal is true then
-pub mark-marked : (e : Engine) (p : Place) → IsSound e → CanAssign e p → 0 < mark_of (set e.marks p.lit (length e.places.list + 1)) p.lit
+pub mark-marked : (e : Engine) (p : Place) → IsEngine e → CanAssign e p → 0 < mark_of (set e.marks p.lit (length e.places.list + 1)) p.lit
 mark-marked e p s m =
     let here : mark_of (set e.marks p.lit (length e.places.list + 1)) p.lit ≡ length e.places.list + 1 = get_or-set_same e.marks p.lit (length e.places.list + 1) 0 (mark_within e p.lit s m.range) in omega arith
 
-pub IsShortMet-marked : (e : Engine) (at : ℕ) (p : Place) → IsSound e → CanAssign e p → 0 < length (record_at e.arena at).lits → p.lit ≡ get_or (record_at e.arena at).lits 0 0 → IsShortMet (with_place e p) at
+pub IsShortMet-marked : (e : Engine) (at : ℕ) (p : Place) → IsEngine e → CanAssign e p → 0 < length (record_at e.arena at).lits → p.lit ≡ get_or (record_at e.arena at).lits 0 0 → IsShortMet (with_place e p) at
 IsShortMet-marked e at p s m some is =
-    IsShortMet-true (with_place e p) at p.lit (IsSound-marked e p s m (HasRoom-from_can e p s m).below) some is (mark-marked e p s m)
+    IsShortMet-true (with_place e p) at p.lit (IsEngine-marked e p s m (HasRoom-from_can e p s m).below) some is (mark-marked e p s m)
 
 -- a literal may be assumed
 pub CanAssign-assumed : (e : Engine) (lit level : ℕ) → lit < 2 * e.variables → mark_of e.marks lit ≡ 0 → mark_of e.marks (negation_of lit) ≡ 0 → level ≡ level_of e.places.list + 1 → CanAssign e (record { lit = lit; level = level; reason = None })
@@ -95,13 +95,13 @@ CanAssign-assumed e lit level range not_true not_false is = record {
 }
 
 -- a short clause was met
-pub IsSound-met : (old new : Engine) (at : ℕ) → Advances old new → old.first < length old.shorts → at ≡ get_or old.shorts old.first 0 → IsShortMet new at → IsSound (record new { first = new.first + 1 })
-IsSound-met old new at a below is met =
+pub IsEngine-met : (old new : Engine) (at : ℕ) → Advances old new → old.first < length old.shorts → at ≡ get_or old.shorts old.first 0 → IsShortMet new at → IsEngine (record new { first = new.first + 1 })
+IsEngine-met old new at a below is met =
     let same : new.shorts ≡ old.shorts = a.implies.shorts in
     let size = ap length same in
     let first = a.first in
     let entry : at ≡ get_or new.shorts new.first 0 = is ∙ ap (λ (xs : List ℕ). get_or xs old.first 0) (sym same) ∙ ap (λ (n : ℕ). get_or new.shorts n 0) (sym first) in
-    IsSound-first_advanced new a.sound (omega arith) (subst (λ (r : ℕ). IsShortMet new r) entry met)
+    IsEngine-first_advanced new a.sound (omega arith) (subst (λ (r : ℕ). IsShortMet new r) entry met)
 
 -- all short clauses were met, and the places to the end
 pub IsDone-from : (mid new : Engine) → Advances mid new → mid.first ≡ length mid.shorts → new.queue_head ≡ length new.places.list → IsDone new

@@ -12,7 +12,7 @@ use Rattle.watch_arena.specs.declared.places.Place.{Place}
 use Rattle.watch_arena.specs.declared.engine.Engine.{Engine}
 use Rattle.watch_arena.specs.Places.{place_at, no_place, is_true, is_false, is_false_clause, is_unit_clause}
 use Rattle.watch_arena.specs.Trails.{IsReason, IsTrail, IsConflict, IsPropagated}
-use Rattle.watch_arena.specs.Engines.{mark_of, TrueBelow, AreMarked, IsReasonBelow, IsWatched, IsSound, IsFalse, IsDone, trail_state}
+use Rattle.watch_arena.specs.Engines.{mark_of, TrueBelow, AreMarked, IsReasonBelow, IsWatched, IsEngine, IsFalse, IsDone, trail_state}
 use Rattle.watch_arena.proofs.WatchedPair.{contains_at, index_of}
 use Rattle.watch_arena.proofs.WatchVisit.{place_lit-in_range}
 use Rattle.watch_arena.proofs.ByIndex.{or_cases, or_false, and_both, not_true, list_any_at, list_any_index, list_all_at, list_all_from}
@@ -50,11 +50,11 @@ no_mark marks places variables lit m h =
     ]
 
 -- no literal is true and false
-pub not_both : (e : Engine) (lit : ℕ) → IsSound e → 0 < mark_of e.marks lit → 0 < mark_of e.marks (negation_of lit) → ⊥
+pub not_both : (e : Engine) (lit : ℕ) → IsEngine e → 0 < mark_of e.marks lit → 0 < mark_of e.marks (negation_of lit) → ⊥
 not_both e lit s a b = let none = s.marked.apart lit a in absurd (omega arith)
 
 -- a reason, by its parts
-pub IsReason-below : (e : Engine) (at n lit : ℕ) → IsSound e → n ≤ length e.places.list → IsReasonBelow (record_at e.arena at) e.marks n lit → IsReason e.arena (take n e.places.list) lit at
+pub IsReason-below : (e : Engine) (at n lit : ℕ) → IsEngine e → n ≤ length e.places.list → IsReasonBelow (record_at e.arena at) e.marks n lit → IsReason e.arena (take n e.places.list) lit at
 IsReason-below e at n lit s le r = record {
   live = r.live;
   has = r.has;
@@ -62,7 +62,7 @@ IsReason-below e at n lit s le r = record {
 }
 
 -- what is so of a trail
-pub IsTrail-sound : (e : Engine) → IsSound e → IsTrail (trail_state e)
+pub IsTrail-sound : (e : Engine) → IsEngine e → IsTrail (trail_state e)
 IsTrail-sound e s = record {
   reasons = λ p at lt is. IsReason-below e at p (place_at e.places.list p).lit s (omega arith) (s.reasoned p at lt is);
   variable_once = λ p q lt below z.
@@ -81,7 +81,7 @@ IsTrail-sound e s = record {
 }
 
 -- a false clause
-pub IsConflict-false : (e : Engine) (at : ℕ) → IsSound e → IsFalse e at → IsConflict (trail_state e) at
+pub IsConflict-false : (e : Engine) (at : ℕ) → IsEngine e → IsFalse e at → IsConflict (trail_state e) at
 IsConflict-false e at s f = record {
   live = f.live;
   all_false = list_all_from (is_false e.places.list) (record_at e.arena at).lits 0 (λ k lt.
@@ -93,7 +93,7 @@ IsFree : Engine → List ℕ → Type 0
 IsFree e lits = ((l : ℕ) × Contains lits l × (0 < mark_of e.marks l)) ⊎ ((a : ℕ) × (b : ℕ) × Contains lits a × Contains lits b × (a ≢ b) × (mark_of e.marks (negation_of a) ≡ 0) × (mark_of e.marks (negation_of b) ≡ 0))
 
 -- so it is of each live clause where propagation has come to its end
-is_free : (e : Engine) (at : ℕ) → IsSound e → IsDone e → (record_at e.arena at).live ≡ true → IsFree e (record_at e.arena at).lits
+is_free : (e : Engine) (at : ℕ) → IsEngine e → IsDone e → (record_at e.arena at).live ≡ true → IsFree e (record_at e.arena at).lits
 unfolding IsFree
 is_free e at s d live =
     elim (s.kinds at live) [
@@ -124,7 +124,7 @@ is_free e at s d live =
     ]
 
 -- a free clause is not false
-free_not_false : (e : Engine) (lits : List ℕ) → IsSound e → IsFree e lits → is_false_clause e.places.list lits ≡ true → ⊥
+free_not_false : (e : Engine) (lits : List ℕ) → IsEngine e → IsFree e lits → is_false_clause e.places.list lits ≡ true → ⊥
 unfolding IsFree
 free_not_false e lits s f h =
     let each : (m : ℕ) → Contains lits m → 0 < mark_of e.marks (negation_of m) = λ m c.
@@ -137,7 +137,7 @@ free_not_false e lits s f h =
     ]
 
 -- nor unit
-free_not_unit : (e : Engine) (lits : List ℕ) → IsSound e → IsFree e lits → is_unit_clause e.places.list lits ≡ true → ⊥
+free_not_unit : (e : Engine) (lits : List ℕ) → IsEngine e → IsFree e lits → is_unit_clause e.places.list lits ≡ true → ⊥
 unfolding IsFree
 free_not_unit e lits s f h =
     let found = list_any_index (λ (l : ℕ). not (is_true e.places.list l || is_false e.places.list l) && list_all (λ m. m == l || is_false e.places.list m) lits) lits 0 h in
@@ -172,7 +172,7 @@ never true no_way = absurd (no_way refl)
 never false no_way = refl
 
 -- no clause is false or unit where propagation has come to its end
-pub IsPropagated-done : (e : Engine) → IsSound e → IsDone e → IsPropagated (trail_state e)
+pub IsPropagated-done : (e : Engine) → IsEngine e → IsDone e → IsPropagated (trail_state e)
 IsPropagated-done e s d = record {
   no_false = λ at live. never (is_false_clause e.places.list (record_at e.arena at).lits) (free_not_false e (record_at e.arena at).lits s (is_free e at s d live));
   no_unit = λ at live. never (is_unit_clause e.places.list (record_at e.arena at).lits) (free_not_unit e (record_at e.arena at).lits s (is_free e at s d live));

@@ -10,11 +10,11 @@ use Rattle.clause_arena.specs.Records.{record_at}
 use Rattle.watch_arena.specs.declared.places.Place.{Place}
 use Rattle.watch_arena.specs.declared.engine.Engine.{Engine}
 use Rattle.watch_arena.specs.Places.{place_at, no_place, level_of, is_assumed}
-use Rattle.watch_arena.specs.Engines.{mark_of, TrueBelow, AreMarked, IsReasonBelow, IsWatched, CanAssign, IsSound, IsAgreed, AllAgree, HasNoFresh, IsFalse, ImpliesMore, Visits, Advances, with_place}
+use Rattle.watch_arena.specs.Engines.{mark_of, TrueBelow, AreMarked, IsReasonBelow, IsWatched, CanAssign, IsEngine, IsAgreed, AllAgree, HasNoFresh, IsFalse, ImpliesMore, Visits, Advances, with_place}
 use Rattle.watch_arena.proofs.Marks.{MarksGrow-set, TrueBelow-grown, place_at-push, place_at-new}
 use Rattle.watch_arena.proofs.WatchedPair.{IsWatched-only, IsWatched-at, contains_at, index_of}
 use Rattle.watch_arena.proofs.SameRecords.{SameRecords-refl, SameRecords-trans}
-use Rattle.watch_arena.proofs.EngineInvariant.{IsSound-marked, IsSound-advanced, lit-in_range}
+use Rattle.watch_arena.proofs.EngineInvariant.{IsEngine-marked, IsEngine-advanced, lit-in_range}
 use Rattle.watch_arena.proofs.Pigeons.{at_most}
 
 -- while a literal is unassigned there is room for a place
@@ -61,7 +61,7 @@ places_below marks places variables lit m range none other =
     omega arith
 
 -- a literal with a mark is true by one of the places
-pub TrueBelow-all : (e : Engine) (lit : ℕ) → IsSound e → 0 < mark_of e.marks lit → TrueBelow e.marks (length e.places.list) lit
+pub TrueBelow-all : (e : Engine) (lit : ℕ) → IsEngine e → 0 < mark_of e.marks lit → TrueBelow e.marks (length e.places.list) lit
 TrueBelow-all e lit s pos = (pos, (s.marked.forth lit pos).0)
 
 -- nothing was done
@@ -75,7 +75,7 @@ ImpliesMore-refl e = record {
   shorts = refl;
 }
 
-pub Visits-refl : (e : Engine) (lit : ℕ) → IsSound e → Visits e e lit
+pub Visits-refl : (e : Engine) (lit : ℕ) → IsEngine e → Visits e e lit
 Visits-refl e lit s = record { sound = s; implies = ImpliesMore-refl e; queue_head = refl; first = refl; agreed = λ at a. a }
 
 -- more is implied, and more after that
@@ -119,7 +119,7 @@ pub IsWatched-slot : (e : Engine) (at lit slot : ℕ) → IsSlot e at lit slot �
 IsWatched-slot e at lit slot p = IsWatched-at (record_at e.arena at).lits slot lit (get_or (record_at e.arena at).lits (1 - slot) 0) p.slot_is p.two p.lit_is refl p.differ
 
 -- the other literal is true
-pub IsAgreed-true : (e : Engine) (at lit slot : ℕ) → IsSound e → IsSlot e at lit slot → 0 < mark_of e.marks (get_or (record_at e.arena at).lits (1 - slot) 0) → IsAgreed e lit at
+pub IsAgreed-true : (e : Engine) (at lit slot : ℕ) → IsEngine e → IsSlot e at lit slot → 0 < mark_of e.marks (get_or (record_at e.arena at).lits (1 - slot) 0) → IsAgreed e lit at
 IsAgreed-true e at lit slot s p pos other live w =
     elim (IsWatched-only (record_at e.arena at).lits lit (get_or (record_at e.arena at).lits (1 - slot) 0) lit other (IsWatched-slot e at lit slot p) w) [
       | inl q ↦ subst (λ (l : ℕ). TrueBelow e.marks (length e.places.list) l) (sym q.1) (TrueBelow-all e (get_or (record_at e.arena at).lits (1 - slot) 0) s pos)
@@ -157,7 +157,7 @@ pub level_of-push : (places : List Place) (p : Place) → level_of (places ++ p 
 level_of-push places p = sum_by-append (λ (q : Place). cond (is_assumed q) 1 0) places (p ∷ []) ∙ ap (λ (n : ℕ). level_of places + n) (let z : 0 + cond (is_assumed p) 1 0 ≡ cond (is_assumed p) 1 0 = omega arith in z)
 
 -- the other literal may become true
-pub CanAssign-from_slot : (e : Engine) (at lit slot level : ℕ) → IsSound e → IsSlot e at lit slot → 0 < mark_of e.marks (negation_of lit) → mark_of e.marks (get_or (record_at e.arena at).lits (1 - slot) 0) ≡ 0 → mark_of e.marks (negation_of (get_or (record_at e.arena at).lits (1 - slot) 0)) ≡ 0 → HasNoFresh e at (get_or (record_at e.arena at).lits (1 - slot) 0) (length (record_at e.arena at).lits) → level ≡ level_of e.places.list → CanAssign e (record { lit = get_or (record_at e.arena at).lits (1 - slot) 0; level = level; reason = Some at })
+pub CanAssign-from_slot : (e : Engine) (at lit slot level : ℕ) → IsEngine e → IsSlot e at lit slot → 0 < mark_of e.marks (negation_of lit) → mark_of e.marks (get_or (record_at e.arena at).lits (1 - slot) 0) ≡ 0 → mark_of e.marks (negation_of (get_or (record_at e.arena at).lits (1 - slot) 0)) ≡ 0 → HasNoFresh e at (get_or (record_at e.arena at).lits (1 - slot) 0) (length (record_at e.arena at).lits) → level ≡ level_of e.places.list → CanAssign e (record { lit = get_or (record_at e.arena at).lits (1 - slot) 0; level = level; reason = Some at })
 CanAssign-from_slot e at lit slot level s p lit_false not_true not_false none is =
     let two = p.two in
     let within : 1 - slot < length (record_at e.arena at).lits = omega arith in
@@ -177,7 +177,7 @@ CanAssign-from_slot e at lit slot level s p lit_false not_true not_false none is
     }
 
 -- one more implied place
-pub ImpliesMore-marked : (e : Engine) (p : Place) → IsSound e → CanAssign e p → is_assumed p ≡ false → ImpliesMore e (with_place e p)
+pub ImpliesMore-marked : (e : Engine) (p : Place) → IsEngine e → CanAssign e p → is_assumed p ≡ false → ImpliesMore e (with_place e p)
 ImpliesMore-marked e p s m implied =
     let size = s.marked.size in
     let range = m.range in
@@ -192,14 +192,14 @@ ImpliesMore-marked e p s m implied =
       shorts = refl;
     }
 
-pub Visits-marked : (e : Engine) (p : Place) (lit : ℕ) → IsSound e → CanAssign e p → is_assumed p ≡ false → Visits e (with_place e p) lit
+pub Visits-marked : (e : Engine) (p : Place) (lit : ℕ) → IsEngine e → CanAssign e p → is_assumed p ≡ false → Visits e (with_place e p) lit
 Visits-marked e p lit s m implied =
     let size = s.marked.size in
     let range = m.range in
     let g = MarksGrow-set e.marks p.lit (length e.places.list) (omega arith) m.not_true in
     let count = length_push e.places.list p in
     record {
-      sound = IsSound-marked e p s m (places_below e.marks e.places.list e.variables p.lit s.marked m.range m.not_true m.not_false);
+      sound = IsEngine-marked e p s m (places_below e.marks e.places.list e.variables p.lit s.marked m.range m.not_true m.not_false);
       implies = ImpliesMore-marked e p s m implied;
       queue_head = refl;
       first = refl;
@@ -214,27 +214,27 @@ pub record HasRoom (e : Engine) : Type 0 where
   pub room : length e.places.list < e.places.room
   pub few : length e.places.list < 2 ^ 32
 
-pub HasRoom-from_can : (e : Engine) (p : Place) → IsSound e → CanAssign e p → HasRoom e
+pub HasRoom-from_can : (e : Engine) (p : Place) → IsEngine e → CanAssign e p → HasRoom e
 HasRoom-from_can e p s m =
     let below = places_below e.marks e.places.list e.variables p.lit s.marked m.range m.not_true m.not_false in
     let heads = s.heads in let firsts = s.firsts in let room = s.room in let few = s.few in
     record { below = below; heads = omega arith; firsts = omega arith; room = omega arith; few = omega arith }
 
 -- a literal of the first variables has a mark
-pub mark_within : (e : Engine) (lit : ℕ) → IsSound e → lit < 2 * e.variables → lit < length e.marks
+pub mark_within : (e : Engine) (lit : ℕ) → IsEngine e → lit < 2 * e.variables → lit < length e.marks
 mark_within e lit s range = let size = s.marked.size in omega arith
 
 -- a clause whose other literal became true agrees
-pub IsAgreed-marked : (e : Engine) (at lit slot : ℕ) (p : Place) → IsSound e → IsSlot e at lit slot → CanAssign e p → p.lit ≡ get_or (record_at e.arena at).lits (1 - slot) 0 → IsAgreed (with_place e p) lit at
+pub IsAgreed-marked : (e : Engine) (at lit slot : ℕ) (p : Place) → IsEngine e → IsSlot e at lit slot → CanAssign e p → p.lit ≡ get_or (record_at e.arena at).lits (1 - slot) 0 → IsAgreed (with_place e p) lit at
 IsAgreed-marked e at lit slot p s sl m is =
-    let sound = IsSound-marked e p s m (HasRoom-from_can e p s m).below in
+    let sound = IsEngine-marked e p s m (HasRoom-from_can e p s m).below in
     let slot_now : IsSlot (with_place e p) at lit slot = record { slot_is = sl.slot_is; live = sl.live; two = sl.two; lit_is = sl.lit_is; differ = sl.differ } in
     let here : mark_of (set e.marks p.lit (length e.places.list + 1)) p.lit ≡ length e.places.list + 1 = get_or-set_same e.marks p.lit (length e.places.list + 1) 0 (mark_within e p.lit s m.range) in
     let there : mark_of (set e.marks p.lit (length e.places.list + 1)) (get_or (record_at e.arena at).lits (1 - slot) 0) ≡ length e.places.list + 1 = ap (mark_of (set e.marks p.lit (length e.places.list + 1))) (sym is) ∙ here in
     IsAgreed-true (with_place e p) at lit slot sound slot_now (omega arith)
 
 -- the literals of a slot and their negations have marks
-pub slot_other-in_range : (e : Engine) (at lit slot other : ℕ) → IsSound e → IsSlot e at lit slot → other ≡ get_or (record_at e.arena at).lits (1 - slot) 0 → (other < 2 * e.variables) × (other < length e.marks) × (negation_of other < length e.marks)
+pub slot_other-in_range : (e : Engine) (at lit slot other : ℕ) → IsEngine e → IsSlot e at lit slot → other ≡ get_or (record_at e.arena at).lits (1 - slot) 0 → (other < 2 * e.variables) × (other < length e.marks) × (negation_of other < length e.marks)
 slot_other-in_range e at lit slot other s p is = let two = p.two in lit-in_range e at (1 - slot) other s (omega arith) is
 
 -- a number that is not positive
@@ -243,7 +243,7 @@ not_positive zero none = refl
 not_positive (suc n) none = absurd (let clash : false ≡ true = none (omega arith) in cc)
 
 -- the other literal may become true, by what was tested
-pub CanAssign-from_visit : (e : Engine) (at lit slot other level : ℕ) → IsSound e → IsSlot e at lit slot → other ≡ get_or (record_at e.arena at).lits (1 - slot) 0 → 0 < mark_of e.marks (negation_of lit) → (0 < mark_of e.marks other → false ≡ true) → (0 < mark_of e.marks (negation_of other) → false ≡ true) → HasNoFresh e at other (length (record_at e.arena at).lits) → level ≡ level_of e.places.list → CanAssign e (record { lit = other; level = level; reason = Some at })
+pub CanAssign-from_visit : (e : Engine) (at lit slot other level : ℕ) → IsEngine e → IsSlot e at lit slot → other ≡ get_or (record_at e.arena at).lits (1 - slot) 0 → 0 < mark_of e.marks (negation_of lit) → (0 < mark_of e.marks other → false ≡ true) → (0 < mark_of e.marks (negation_of other) → false ≡ true) → HasNoFresh e at other (length (record_at e.arena at).lits) → level ≡ level_of e.places.list → CanAssign e (record { lit = other; level = level; reason = Some at })
 CanAssign-from_visit e at lit slot other level s p is lit_false not_true not_false none at_level =
     let P : ℕ → Type 0 = λ o. CanAssign e (record { lit = o; level = level; reason = Some at }) in
     subst P (sym is)
@@ -261,14 +261,14 @@ pub Visits-false : (old new : Engine) (lit l : ℕ) → Visits old new lit → 0
 Visits-false old new lit l v pos = let same = v.implies.marks l pos in omega arith
 
 -- the queue's head moves on
-pub IsSound-head : (old new : Engine) (lit : ℕ) → IsSound old → Visits old new lit → old.queue_head < length old.places.list → (place_at old.places.list old.queue_head).lit ≡ negation_of lit → AllAgree new lit → IsSound (record new { queue_head = new.queue_head + 1 })
-IsSound-head old new lit s v below is agree =
+pub IsEngine-head : (old new : Engine) (lit : ℕ) → IsEngine old → Visits old new lit → old.queue_head < length old.places.list → (place_at old.places.list old.queue_head).lit ≡ negation_of lit → AllAgree new lit → IsEngine (record new { queue_head = new.queue_head + 1 })
+IsEngine-head old new lit s v below is agree =
     let at : mark_of old.marks (negation_of lit) ≡ old.queue_head + 1 = ap (mark_of old.marks) (sym is) ∙ s.marked.back old.queue_head below in
     let kept = v.implies.marks (negation_of lit) (omega arith) in
     let queue_head = v.queue_head in
     let now : mark_of new.marks (negation_of lit) ≡ new.queue_head + 1 = omega arith in
     let bound = (v.sound.marked.forth (negation_of lit) (omega arith)).0 in
-    IsSound-advanced new lit v.sound (omega arith) now agree
+    IsEngine-advanced new lit v.sound (omega arith) now agree
 
 -- there are at most as many places as variables
 pub places_at_most : (marks : List ℕ) (places : List Place) (variables : ℕ) → AreMarked marks places variables → length places ≤ variables
@@ -290,7 +290,7 @@ places_at_most marks places variables m =
     ])
 
 -- a literal of a place, and its negation
-pub place_lit-in_range : (e : Engine) (p lit : ℕ) → IsSound e → p < length e.places.list → (place_at e.places.list p).lit ≡ lit → (lit < 2 * e.variables) × (mark_of e.marks lit ≡ p + 1) × (negation_of lit < 2 * e.variables)
+pub place_lit-in_range : (e : Engine) (p lit : ℕ) → IsEngine e → p < length e.places.list → (place_at e.places.list p).lit ≡ lit → (lit < 2 * e.variables) × (mark_of e.marks lit ≡ p + 1) × (negation_of lit < 2 * e.variables)
 place_lit-in_range e p lit s lt is =
     let at : mark_of e.marks lit ≡ p + 1 = ap (mark_of e.marks) (sym is) ∙ s.marked.back p lt in
     let size = s.marked.size in
@@ -298,7 +298,7 @@ place_lit-in_range e p lit s lt is =
     (below, at, negation-below lit e.variables below)
 
 -- nothing was done, and one after another
-pub Advances-refl : (e : Engine) → IsSound e → Advances e e
+pub Advances-refl : (e : Engine) → IsEngine e → Advances e e
 Advances-refl e s = record { sound = s; implies = ImpliesMore-refl e; first = refl }
 
 pub Advances-trans : (a b c : Engine) → Advances a b → Advances b c → Advances a c
@@ -308,10 +308,10 @@ pub Advances-visits : (old new : Engine) (lit : ℕ) → Visits old new lit → 
 Advances-visits old new lit v = record { sound = v.sound; implies = v.implies; first = v.first }
 
 -- the queue's head moved on
-pub Advances-head : (old new : Engine) (lit : ℕ) → IsSound old → Visits old new lit → old.queue_head < length old.places.list → (place_at old.places.list old.queue_head).lit ≡ negation_of lit → AllAgree new lit → Advances old (record new { queue_head = new.queue_head + 1 })
+pub Advances-head : (old new : Engine) (lit : ℕ) → IsEngine old → Visits old new lit → old.queue_head < length old.places.list → (place_at old.places.list old.queue_head).lit ≡ negation_of lit → AllAgree new lit → Advances old (record new { queue_head = new.queue_head + 1 })
 Advances-head old new lit s v below is agree =
     record {
-      sound = IsSound-head old new lit s v below is agree;
+      sound = IsEngine-head old new lit s v below is agree;
       implies = record { records = v.implies.records; places = v.implies.places; implied = v.implies.implied; marks = v.implies.marks; variables = v.implies.variables; shorts = v.implies.shorts };
       first = v.first;
     }
@@ -321,7 +321,7 @@ pub place_read : (places : List Place) (p : ℕ) (q : Place) → p < length plac
 place_read places p q lt is = sym (is ∙ get_or_default places p q no_place lt)
 
 -- the literal that the place at the queue's head made false
-pub head_lit : (e : Engine) (q : Place) (lit : ℕ) → IsSound e → e.queue_head < length e.places.list → q ≡ get_or e.places.list e.queue_head q → lit ≡ negation_of q.lit → (lit < 2 * e.variables) × (0 < mark_of e.marks (negation_of lit)) × ((place_at e.places.list e.queue_head).lit ≡ negation_of lit)
+pub head_lit : (e : Engine) (q : Place) (lit : ℕ) → IsEngine e → e.queue_head < length e.places.list → q ≡ get_or e.places.list e.queue_head q → lit ≡ negation_of q.lit → (lit < 2 * e.variables) × (0 < mark_of e.marks (negation_of lit)) × ((place_at e.places.list e.queue_head).lit ≡ negation_of lit)
 head_lit e q lit s below is neg =
     let place : (place_at e.places.list e.queue_head).lit ≡ q.lit = ap (λ (x : Place). x.lit) (place_read e.places.list e.queue_head q below is) in
     let facts = place_lit-in_range e e.queue_head q.lit s below place in
@@ -331,5 +331,5 @@ head_lit e q lit s below is neg =
     (omega arith, omega arith, place ∙ sym back)
 
 -- where propagation has come to
-pub Advances-sound : (a b : Engine) → Advances a b → IsSound b
+pub Advances-sound : (a b : Engine) → Advances a b → IsEngine b
 Advances-sound a b x = x.sound

@@ -88,7 +88,7 @@ abbrev pub RecordsInRange : List Record → ℕ → Type 0
 RecordsInRange records variables = (at lit : ℕ) → Contains (record_at records at).lits lit → lit < 2 * variables
 
 -- what is so of an engine between two calls
-pub record IsSound (e : Engine) : Type 0 where
+pub record IsEngine (e : Engine) : Type 0 where
   pub few : e.variables < 2 ^ 32
   pub no_pairs : e.moves.pairs ≡ []
   pub room : e.variables ≤ e.places.room
@@ -179,7 +179,7 @@ pub record IsFalse (e : Engine) (at : ℕ) : Type 0 where
 
 -- visits of clauses that watch a literal
 pub record Visits (old new : Engine) (lit : ℕ) : Type 0 where
-  pub sound : IsSound new
+  pub sound : IsEngine new
   pub implies : ImpliesMore old new
   pub queue_head : new.queue_head ≡ old.queue_head
   pub first : new.first ≡ old.first
@@ -204,7 +204,7 @@ HasNoFresh e at other n =
 
 -- propagation goes on
 pub record Advances (old new : Engine) : Type 0 where
-  pub sound : IsSound new
+  pub sound : IsEngine new
   pub implies : ImpliesMore old new
   pub first : new.first ≡ old.first
 

@@ -5,7 +5,7 @@ use crate::engine::Engine;
 use clause_arena::{Link, Ref};
 
 impl Engine {
-    ghost use Rattle.watch_arena.specs.Engines.{IsSound, RecordsInRange};
+    ghost use Rattle.watch_arena.specs.Engines.{IsEngine, RecordsInRange};
     ghost use Rattle.watch_arena.specs.Chains.{AreChains, IsNone};
     ghost use Rattle.watch_arena.specs.Compactions.{IsFrom, Relinks, Compacts};
 
@@ -47,9 +47,9 @@ impl Engine {
 
     // Clauses that are not live go, and the others move up. Short clauses are met anew by the next propagation.
     pub(crate) fn compact(&mut self)
-        requires sound { IsSound self.old }
+        requires sound { IsEngine self.old }
         requires room { length self.old.arena ≤ self.old.moves.spare }
-        ensures sound { IsSound self.new }
+        ensures sound { IsEngine self.new }
         ensures compacts { Compacts self.old self.new }
     {
         self.arena.compact(&mut self.moves);

@@ -54,7 +54,7 @@ pub(crate) enum Visit {
 }
 
 impl Engine {
-    ghost use Rattle.watch_arena.specs.Engines.{IsSound, IsFresh, HasNoFresh, Visits, IsWalking, StaysAhead, Outcome, CanAssign, AllAgree, IsFalse, IsShort, IsShortMet, IsDone, ImpliesMore, Advances, Undoes, IsRewound, KeepsTrail, IsEmpty, without_last, with_place, with_watch_moved, mark_of};
+    ghost use Rattle.watch_arena.specs.Engines.{IsEngine, IsFresh, HasNoFresh, Visits, IsWalking, StaysAhead, Outcome, CanAssign, AllAgree, IsFalse, IsShort, IsShortMet, IsDone, ImpliesMore, Advances, Undoes, IsRewound, KeepsTrail, IsEmpty, without_last, with_place, with_watch_moved, mark_of};
     ghost use Rattle.watch_arena.specs.Chains.{head_of, next_of, linked, records_past, chains_past, IsEntry, SameBodies};
     ghost use Rattle.clause_arena.specs.Records.{record_at, forgotten, new_record};
     ghost use Rattle.watch_arena.specs.Places.{level_of, place_at, place_of};
@@ -76,7 +76,7 @@ impl Engine {
 
     // A literal becomes true.
     pub(crate) fn assign(&mut self, lit: Lit, level: u32, reason: Option<Ref>)
-        requires sound { IsSound self.old }
+        requires sound { IsEngine self.old }
         requires can { CanAssign self.old (record { lit = lit; level = level; reason = reason }) }
         ensures { self.new ≡ with_place self.old (record { lit = lit; level = level; reason = reason }) }
     {
@@ -106,7 +106,7 @@ impl Engine {
 
     // A literal to watch in place of one that is false.
     fn fresh_watch(&self, at: Ref, other: Lit) -> Option<usize>
-        requires sound { IsSound self.now }
+        requires sound { IsEngine self.now }
         requires live { (record_at self.now.arena at).live ≡ true }
         ensures found { IfSome result (λ k. IsFresh self.now at other k) }
         ensures none { IfNone result (HasNoFresh self.now at other (length (record_at self.now.arena at).lits)) }
@@ -144,7 +144,7 @@ impl Engine {
 
     // A clause's watch leaves a literal's chain, for that of the literal at place k of the clause.
     fn move_watch(&mut self, lit: Lit, prev: &Option<Link>, entry: Link, k: usize)
-        requires sound { IsSound self.old }
+        requires sound { IsEngine self.old }
         requires range { lit < 2 * self.old.variables }
         requires walking { IsWalking self.old lit prev.now (Some entry) }
         requires fresh { IsFresh self.old entry.at (slice_index (record_at self.old.arena entry.at).lits (1 - entry.slot)) k }
@@ -161,7 +161,7 @@ impl Engine {
 
     // Visits the watch of a live clause on a literal that has become false.
     fn visit_live(&mut self, lit: Lit, prev: &Option<Link>, entry: Link) -> Visit
-        requires sound { IsSound self.old }
+        requires sound { IsEngine self.old }
         requires range { lit < 2 * self.old.variables }
         requires walking { IsWalking self.old lit prev.now (Some entry) }
         requires lit_false { 0 < mark_of self.old.marks (negation_of lit) }
@@ -188,7 +188,7 @@ impl Engine {
 
     // Visits an entry of the chain of a literal that has become false; one of a clause that is not live is passed over.
     fn visit(&mut self, lit: Lit, prev: &Option<Link>, entry: Link) -> Visit
-        requires sound { IsSound self.old }
+        requires sound { IsEngine self.old }
         requires range { lit < 2 * self.old.variables }
         requires walking { IsWalking self.old lit prev.now (Some entry) }
         requires lit_false { 0 < mark_of self.old.marks (negation_of lit) }
@@ -205,7 +205,7 @@ impl Engine {
 
     // The level that the places have come to.
     pub(crate) fn level(&self) -> u32
-        requires { IsSound self.now }
+        requires { IsEngine self.now }
         ensures { result ≡ level_of self.now.places.list }
     {
         let count = self.places.len();
@@ -218,7 +218,7 @@ impl Engine {
 
     // Visits all clauses that watch a literal which has become false.
     fn propagate_lit(&mut self, lit: Lit) -> Option<Ref>
-        requires sound { IsSound self.old }
+        requires sound { IsEngine self.old }
         requires range { lit < 2 * self.old.variables }
         requires lit_false { 0 < mark_of self.old.marks (negation_of lit) }
         ensures visits { Visits self.old self.new lit }
@@ -243,7 +243,7 @@ impl Engine {
 
     // Visits the clauses of the place at the queue's head, and moves the queue's head on where none of them is false.
     fn advance(&mut self) -> Option<Ref>
-        requires sound { IsSound self.old }
+        requires sound { IsEngine self.old }
         requires queue_head { self.old.queue_head < length self.old.places.list }
         ensures advances { Advances self.old self.new }
         ensures outcome { MatchOption result (self.new.queue_head ≡ self.old.queue_head + 1) (λ at. IsFalse self.new at) }
@@ -260,7 +260,7 @@ impl Engine {
 
     // Visits the clauses of all places from the queue's head on.
     fn advance_all(&mut self) -> Option<Ref>
-        requires sound { IsSound self.old }
+        requires sound { IsEngine self.old }
         ensures advances { Advances self.old self.new }
         ensures outcome { MatchOption result (self.new.queue_head ≡ length self.new.places.list) (λ at. IsFalse self.new at) }
     {
@@ -274,8 +274,8 @@ impl Engine {
 
     // Unit propagation: a clause all of whose literals are false, or none where no clause is false or unit.
     pub(crate) fn propagate(&mut self) -> Option<Ref>
-        requires { IsSound self.old }
-        ensures sound { IsSound self.new }
+        requires { IsEngine self.old }
+        ensures sound { IsEngine self.new }
         ensures implies { ImpliesMore self.old self.new }
         ensures outcome { MatchOption result (IsDone self.new) (λ at. IsFalse self.new at) }
     {
@@ -287,11 +287,11 @@ impl Engine {
 
     // A literal is assumed at a new level.
     pub(crate) fn assume(&mut self, lit: Lit)
-        requires sound { IsSound self.old }
+        requires sound { IsEngine self.old }
         requires range { lit < 2 * self.old.variables }
         requires not_true { mark_of self.old.marks lit ≡ 0 }
         requires not_false { mark_of self.old.marks (negation_of lit) ≡ 0 }
-        ensures sound { IsSound self.new }
+        ensures sound { IsEngine self.new }
         ensures is { self.new ≡ with_place self.old (record { lit = lit; level = level_of self.old.places.list + 1; reason = None }) }
     {
         let level = self.level() + 1;
@@ -300,9 +300,9 @@ impl Engine {
 
     // A literal is implied by a clause.
     pub(crate) fn imply(&mut self, lit: Lit, at: Ref)
-        requires sound { IsSound self.old }
+        requires sound { IsEngine self.old }
         requires can { CanAssign self.old (record { lit = lit; level = level_of self.old.places.list; reason = Some at }) }
-        ensures sound { IsSound self.new }
+        ensures sound { IsEngine self.new }
         ensures is { self.new ≡ with_place self.old (record { lit = lit; level = level_of self.old.places.list; reason = Some at }) }
     {
         let level = self.level();
@@ -311,9 +311,9 @@ impl Engine {
 
     // The last place goes.
     fn unassign_last(&mut self)
-        requires sound { IsSound self.old }
+        requires sound { IsEngine self.old }
         requires some { 0 < length self.old.places.list }
-        ensures sound { IsSound self.new }
+        ensures sound { IsEngine self.new }
         ensures is { self.new ≡ without_last self.old }
     {
         let last = self.places.len() - 1;
@@ -326,9 +326,9 @@ impl Engine {
 
     // All places above a level go.
     pub(crate) fn undo_to(&mut self, level: u32)
-        requires sound { IsSound self.old }
+        requires sound { IsEngine self.old }
         requires level { level ≤ level_of self.old.places.list }
-        ensures sound { IsSound self.new }
+        ensures sound { IsEngine self.new }
         ensures undoes { Undoes self.old self.new level }
     {
         while self.level() > level {
@@ -338,10 +338,10 @@ impl Engine {
 
     // A clause is live no more.
     pub(crate) fn forget(&mut self, at: Ref)
-        requires sound { IsSound self.old }
+        requires sound { IsEngine self.old }
         requires live { (record_at self.old.arena at).live ≡ true }
         requires no_reason { (p : ℕ) → p < length self.old.places.list → (place_at self.old.places.list p).reason ≡ Some at → ⊥ }
-        ensures sound { IsSound self.new }
+        ensures sound { IsEngine self.new }
         ensures is { self.new ≡ record self.old { arena = slice_set self.old.arena at (forgotten (record_at self.old.arena at)) } }
     {
         self.arena.forget(at);
@@ -349,7 +349,7 @@ impl Engine {
 
     // The number of the place of a variable; none also past the last variable.
     pub(crate) fn place_of(&self, variable: u32) -> Option<usize>
-        requires sound { IsSound self.now }
+        requires sound { IsEngine self.now }
         ensures place { result ≡ place_of self.now.places.list variable }
         ensures within { IfSome result (λ p. p < length self.now.places.list) }
     {
@@ -368,7 +368,7 @@ impl Engine {
     }
 
     pub(crate) fn new(alloc: Global, variables: u32) -> Result<Engine, AllocError>
-        ensures sound { IfOk result (λ e. IsSound e) }
+        ensures sound { IfOk result (λ e. IsEngine e) }
         ensures empty { IfOk result (λ e. IsEmpty e variables) }
     {
         let count = variables as usize;

@@ -7,7 +7,7 @@ use lits_core::Lit;
 use std::alloc::AllocError;
 
 impl Engine {
-    ghost use Rattle.watch_arena.specs.Engines.{IsSound, IsRewound, KeepsTrail, IsShort, mark_of};
+    ghost use Rattle.watch_arena.specs.Engines.{IsEngine, IsRewound, KeepsTrail, IsShort, mark_of};
     ghost use Rattle.watch_arena.specs.Chains.{SameBodies};
     ghost use Rattle.clause_arena.specs.Records.{new_record};
     ghost use Rattle.lits_core.specs.Literals.{negation_of};
@@ -25,8 +25,8 @@ impl Engine {
 
     // Propagation goes back, so that no place from a number on counts as visited, now or after places are undone.
     fn rewind(&mut self, place: usize)
-        requires { IsSound self.old }
-        ensures sound { IsSound self.new }
+        requires { IsEngine self.old }
+        ensures sound { IsEngine self.new }
         ensures rewound { IsRewound self.new place }
         ensures same { self.new ≡ record self.old { heads = self.new.heads; queue_head = self.new.queue_head } }
     {
@@ -37,11 +37,11 @@ impl Engine {
 
     // Adds a clause whose first two literals differ.
     fn add_watched(&mut self, codes: &[u32], id: u64) -> Result<Ref, AllocError>
-        requires sound { IsSound self.old }
+        requires sound { IsEngine self.old }
         requires range { (lit : ℕ) → Contains codes.now lit → lit < 2 * self.old.variables }
         requires two { 2 ≤ length codes.now }
         requires differ { slice_index codes.now 0 ≢ slice_index codes.now 1 }
-        ensures sound { IsSound self.new }
+        ensures sound { IsEngine self.new }
         ensures places { KeepsTrail self.old self.new }
         ensures at { IfOk result (λ at. at ≡ length self.old.arena) }
         ensures ok { OnOk result (SameBodies (self.old.arena ++ new_record id codes.now ∷ []) self.new.arena) }
@@ -59,10 +59,10 @@ impl Engine {
 
     // Adds a clause with no two different literals. It is listed first, as what is listed needs to be no clause.
     fn add_short(&mut self, codes: &[u32], id: u64) -> Result<Ref, AllocError>
-        requires sound { IsSound self.old }
+        requires sound { IsEngine self.old }
         requires range { (lit : ℕ) → Contains codes.now lit → lit < 2 * self.old.variables }
         requires short { IsShort codes.now }
-        ensures sound { IsSound self.new }
+        ensures sound { IsEngine self.new }
         ensures places { KeepsTrail self.old self.new }
         ensures at { IfOk result (λ at. at ≡ length self.old.arena) }
         ensures ok { OnOk result (self.new.arena ≡ self.old.arena ++ new_record id codes.now ∷ []) }
@@ -78,9 +78,9 @@ impl Engine {
 
     // Adds a clause. It watches the first literal and the next one that differs from it.
     pub(crate) fn add(&mut self, codes: &mut [u32], id: u64) -> Result<Ref, AllocError>
-        requires sound { IsSound self.old }
+        requires sound { IsEngine self.old }
         requires range { (lit : ℕ) → Contains codes.old lit → lit < 2 * self.old.variables }
-        ensures sound { IsSound self.new }
+        ensures sound { IsEngine self.new }
         ensures places { KeepsTrail self.old self.new }
         ensures at { IfOk result (λ at. at ≡ length self.old.arena) }
         ensures permuted { IsPermutation codes.old codes.new }

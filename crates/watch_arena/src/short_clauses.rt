@@ -5,7 +5,7 @@ use crate::engine::Engine;
 use clause_arena::Ref;
 
 impl Engine {
-    ghost use Rattle.watch_arena.specs.Engines.{IsSound, IsFalse, IsShort, IsShortMet, ImpliesMore, Advances};
+    ghost use Rattle.watch_arena.specs.Engines.{IsEngine, IsFalse, IsShort, IsShortMet, ImpliesMore, Advances};
     ghost use Rattle.clause_arena.specs.Records.{record_at};
 
     // Whether a clause is live; a Ref past the end of the list is of none.
@@ -21,7 +21,7 @@ impl Engine {
 
     // Whether a live clause has no two different literals.
     fn is_short(&self, at: Ref) -> bool
-        requires sound { IsSound self.now }
+        requires sound { IsEngine self.now }
         requires live { (record_at self.now.arena at).live ≡ true }
         ensures { MatchBool result (IsShort (record_at self.now.arena at).lits) (IsShort (record_at self.now.arena at).lits → ⊥) }
     {
@@ -33,7 +33,7 @@ impl Engine {
 
     // Makes a short clause's literal true, unless it is so or is false; answers whether it is true now.
     fn meet_first(&mut self, at: Ref) -> bool
-        requires sound { IsSound self.old }
+        requires sound { IsEngine self.old }
         requires live { (record_at self.old.arena at).live ≡ true }
         requires short { IsShort (record_at self.old.arena at).lits }
         requires some { 0 < length (record_at self.old.arena at).lits }
@@ -54,7 +54,7 @@ impl Engine {
 
     // Visits an entry of the list of the short clauses; one that is not live or not short is left alone.
     fn meet(&mut self, at: Ref) -> bool
-        requires { IsSound self.old }
+        requires { IsEngine self.old }
         ensures advances { Advances self.old self.new }
         ensures outcome { MatchBool result (IsShortMet self.new at) (IsFalse self.new at) }
     {
@@ -72,10 +72,10 @@ impl Engine {
 
     // Visits the next short clause.
     fn visit_short(&mut self) -> Option<Ref>
-        requires sound { IsSound self.old }
+        requires sound { IsEngine self.old }
         requires first { self.old.first < length self.old.shorts }
         requires small { self.old.first + 1 < 2 ^ 64 }
-        ensures sound { IsSound self.new }
+        ensures sound { IsEngine self.new }
         ensures implies { ImpliesMore self.old self.new }
         ensures outcome { MatchOption result (self.new.first ≡ self.old.first + 1) (λ at. IsFalse self.new at) }
     {
@@ -90,8 +90,8 @@ impl Engine {
 
     // Visits all short clauses that were not visited.
     pub(crate) fn meet_all(&mut self) -> Option<Ref>
-        requires { IsSound self.old }
-        ensures sound { IsSound self.new }
+        requires { IsEngine self.old }
+        ensures sound { IsEngine self.new }
         ensures implies { ImpliesMore self.old self.new }
         ensures outcome { MatchOption result (self.new.first ≡ length self.new.shorts) (λ at. IsFalse self.new at) }
     {

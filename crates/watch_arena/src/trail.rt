@@ -36,11 +36,11 @@ impl Model for Trail {
 
     ghost Value = { TrailState };
 
-    ghost use Rattle.watch_arena.specs.Engines.{trail_state, IsSound};
+    ghost use Rattle.watch_arena.specs.Engines.{trail_state, IsEngine};
 
     ghost view = { λ t. trail_state t.engine };
 
-    ghost invariant = { λ t. IsSound t.engine };
+    ghost invariant = { λ t. IsEngine t.engine };
 }
 
 impl Trail {

@@ -84,7 +84,7 @@ some_has_first_of set r in_set none = none_passes (has set) all_rels r none (in_
 pub some_has_first : (set : RelSet) → is_empty_set set ≡ false → first_of set ≡ None → ⊥
 some_has_first set some none = let one = some_rel set some in none_passes (has set) all_rels one.0 none (in_all one.0) one.1
 
--- the same of the next relation after another
+-- the next relation of a set after another is in it and comes later, and none lies between
 abbrev later : RelSet → Rel → Rel → Bool
 later set rel other = has set other && nat_lt (rank_of rel) (rank_of other)
 

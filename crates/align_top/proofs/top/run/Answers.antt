@@ -1,6 +1,6 @@
 use Rattle.std.proofs.Common.{rules, map, string_bytes}
 use Rattle.report_run.specs.Reporting.{watched}
-use Rattle.align_top.proofs.RunLemmas.{made_by, asked_by, refused_by, words_starved}
+use Rattle.align_top.proofs.RunLemmas.{asked_by, refused_by, words_starved}
 use Rattle.align_top.proofs.top.run.Goals as goal
 
 pub returns-in-Err-Usage : goal.returns-in-Err-Usage
@@ -9,9 +9,6 @@ returns-in-Err-Usage g c =
     (g.S.Store.state c.args.store.now)
     (g.W.Sink.state c.args.out.now) (g.W.Sink.state c.put_end.new.out)
     (search rules) c.put_end.ensures.put
-
-pub run_request-requires : goal.run_request-requires
-run_request-requires g c = made_by (λ z. (goal.WorldWatcher-dyn g (z.vtable, z.value)).name z.value) (λ z. (goal.WorldWatcher-dyn g (z.vtable, z.value)).text z.value) c.args.watchers.items (map string_bytes c.args.words.now) c.in-Ok.request (search rules)
 
 pub returns-in-Ok : goal.returns-in-Ok
 returns-in-Ok g c =

@@ -3,8 +3,8 @@ use borrow.Author.Tests.{tests}
 use Rattle.std.specs.Prelude.{bytes_eq}
 use Rattle.std.proofs.lemmas.Iterator.{YieldsList-from_slice}
 use Rattle.std.proofs.lemmas.Iterator.Search.{find_from_yields_List}
-use Rattle.command_line.specs.declared.Key.{Key}
-use Rattle.command_line.specs.Words.{key_name}
+use Rattle.command_line.specs.declared.table.Key.{Key}
+use Rattle.command_line.specs.Table.{key_name}
 use Rattle.command_line.proofs.words.key_among.Goals as goal
 
 pub returns : goal.returns

@@ -1,5 +1,5 @@
 use Rattle.std.proofs.Common.{◌∙◌}
-use Rattle.command_line.specs.Words.{row_of}
+use Rattle.command_line.specs.Table.{row_of}
 use Rattle.command_line.proofs.WordsLemmas.{operands_take}
 use Rattle.command_line.proofs.words.read_operands.Goals as goal
 

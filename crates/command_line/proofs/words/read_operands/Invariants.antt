@@ -1,5 +1,6 @@
 use Rattle.std.proofs.Common.{◌≡◌, [], map, drop, string_bytes}
-use Rattle.command_line.specs.Words.{row_of, operands_of}
+use Rattle.command_line.specs.Table.{row_of}
+use Rattle.command_line.specs.Words.{operands_of}
 use Rattle.command_line.proofs.words.read_operands.Given as goal
 
 abbrev pub invariant-further : goal.invariant-further

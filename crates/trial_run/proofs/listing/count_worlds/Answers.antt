@@ -1,4 +1,4 @@
-use Rattle.std.proofs.Common.{ℕ, Bool, List, [], None, true, false, sym, ap, subst, ◌∙◌}
+use Rattle.std.proofs.Common.{ℕ, Bool, List, [], None, sym, ap, subst, ◌∙◌}
 use Rattle.rcc5_core.specs.declared.Rel.{Rel}
 use Rattle.world_search.specs.Searching.{SearchState}
 use Rattle.world_search.specs.Logging.{KeepsOn}

@@ -2,9 +2,9 @@ use Rattle.std.proofs.Common.{◌∙◌, ap, sym, arith, rules, length, take, dr
 use Rattle.clause_arena.specs.declared.arena.Head.{Head}
 use Rattle.clause_arena.specs.Records.{Record, compacted}
 use Rattle.clause_arena.specs.Layout.{records_of, Packs}
-use Rattle.clause_arena.specs.Movings.{Movings, place_after, pairs_from, new_ref, LeadsTo}
+use Rattle.clause_arena.specs.Movings.{Movings, place_after, pairs_from, new_ref, AreMoves}
 use Rattle.clause_arena.proofs.Pairs.{none-from_no_pairs, new_ref-pairs_from}
-use Rattle.clause_arena.proofs.PackInvariant.{Packs-cut, records_of-cut, LeadsTo-from_places, written_over}
+use Rattle.clause_arena.proofs.PackInvariant.{Packs-cut, records_of-cut, AreMoves-from_places, written_over}
 use Rattle.clause_arena.proofs.arena.Arena.compact.Goals as goal
 
 pub pack-packed-requires-clause-empty : goal.pack-packed-requires-clause-empty
@@ -54,4 +54,4 @@ returns-clause-moved c at = places c at
 pub returns-clause-leads : goal.returns-clause-leads
 returns-clause-leads c at =
     let pairs : List (ℕ × ℕ) = pairs_from 0 (take c.moves.inside.table.len (c.pack-packed.new.table ++ drop (length c.pack-packed.new.table) c.moves.inside.table.items)) in
-    subst (λ (rs : List Record). LeadsTo pairs c.args.self.now rs) (sym (kept c)) (LeadsTo-from_places pairs c.args.self.now (places c)) at
+    subst (λ (rs : List Record). AreMoves pairs c.args.self.now rs) (sym (kept c)) (AreMoves-from_places pairs c.args.self.now (places c)) at

@@ -4,7 +4,7 @@ use Rattle.watch_arena.specs.Trails.{TrailState, SameRecords, Adds}
 use Rattle.learn_solver.specs.declared.learner.Learner.{Learner}
 use Rattle.learn_solver.specs.Learners.{guide_of}
 use Rattle.learn_solver.proofs.AssumptionsInvariant.{guide-same}
-use Rattle.learn_solver.proofs.Givens.{given-count, IsSound-given, AddsGiven-added}
+use Rattle.learn_solver.proofs.Givens.{given-count, IsLearner-given, AddsGiven-added}
 use Rattle.learn_solver.proofs.learner.Learner.add.Goals as goal
 
 pub backtrack-requires-clause-sound : goal.backtrack-requires-clause-sound
@@ -15,7 +15,7 @@ backtrack-requires-clause-sound c =
     subst (λ (t : TrailState). Adds c.args.self.now.trail t c.args.lits.now c.in_ok-id.id) (sym (ap (λ (l : Learner). l.trail) same)) c.in_ok-add.ensures.ok in
     let count : c.note_variables.new.self.given ≡ length c.note_variables.new.self.trail.records =
     ap (λ (l : Learner). l.given) same ∙ c.count-self.ensures ∙ ap length c.arena.ensures ∙ ap (λ (l : Learner). length l.trail.records) (sym same) in
-    IsSound-given c.args.self.now c.note_variables.new.self c.args.lits.now c.in_ok-id.id c.requires.sound c.requires.first c.in_ok-id.ensures (let top = c.max-self.ensures in let last = ap (λ (l : Learner). l.last) same in omega arith) (let top = c.max-self.ensures in let last = ap (λ (l : Learner). l.last) same in omega arith) adds count
+    IsLearner-given c.args.self.now c.note_variables.new.self c.args.lits.now c.in_ok-id.id c.requires.sound c.requires.first c.in_ok-id.ensures (let top = c.max-self.ensures in let last = ap (λ (l : Learner). l.last) same in omega arith) (let top = c.max-self.ensures in let last = ap (λ (l : Learner). l.last) same in omega arith) adds count
     (ap (λ (l : Learner). l.waiting.items) same) (ap (λ (l : Learner). l.variables) same) (ap (λ (l : Learner). l.analyzer) same) noted.count noted.kept noted.noted
     (ap (λ (l : Learner). guide_of l) same ∙ guide-same c.args.self.now.trail c.add.new.self c.args.self.now.assumptions c.in_ok-add.ensures.ok.places c.in_ok-add.ensures.ok.level)
 

@@ -2,7 +2,7 @@ use Rattle.std.proofs.Common.{◌∙◌, List, length, Some, refl, sym, ap, arit
 use Rattle.lits_core.specs.Literals.{negation_of, variable_of}
 use Rattle.lits_core.proofs.LiteralLemmas.{variable_of-negation}
 use Rattle.clause_arena.specs.Records.{Record, record_at}
-use Rattle.learn_solver.proofs.StepInvariant.{Steps-refl, Steps-kept, IsSound-kept}
+use Rattle.learn_solver.proofs.StepInvariant.{Steps-refl, Steps-kept, IsLearner-kept}
 use Rattle.learn_solver.proofs.TaughtClauses.{IsClosed-stored}
 use Rattle.learn_solver.proofs.Reasons.{reason-live}
 use Rattle.learn_solver.proofs.TrailPlaces.{true-index}
@@ -33,7 +33,7 @@ pub returns-in_err-closing-clause-steps : goal.returns-in_err-closing-clause-ste
 returns-in_err-closing-clause-steps c = Steps-kept _ _ c.requires.sound (record { records = refl; trail_variables = refl; variables = refl; analyzer = c.analyze_final_lit.ensures.kept; order = refl; given = refl; last = refl; waiting = refl }) refl
 
 pub add_derived-requires-clause-sound : goal.add_derived-requires-clause-sound
-add_derived-requires-clause-sound c = IsSound-kept _ _ c.requires.sound (record { records = refl; trail_variables = refl; variables = refl; analyzer = c.analyze_final_lit.ensures.kept; order = c.bump.ensures; given = refl; last = refl; waiting = refl }) refl
+add_derived-requires-clause-sound c = IsLearner-kept _ _ c.requires.sound (record { records = refl; trail_variables = refl; variables = refl; analyzer = c.analyze_final_lit.ensures.kept; order = c.bump.ensures; given = refl; last = refl; waiting = refl }) refl
 
 pub returns-clause-closed : goal.returns-clause-closed
 returns-clause-closed c =

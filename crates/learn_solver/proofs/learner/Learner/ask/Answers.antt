@@ -3,7 +3,7 @@ use Rattle.std.proofs.lemmas.List.{get_or-take}
 use Rattle.learn_solver.specs.declared.learner.Learner.{Learner}
 use Rattle.learn_solver.specs.Guides.{AssumptionsState, IsMarked, by_trail, holding_by, lowered}
 use Rattle.learn_solver.specs.Learners.{guide_of, Reuses}
-use Rattle.learn_solver.proofs.StepInvariant.{Keeps, IsSound-moved, GoesTo-kept}
+use Rattle.learn_solver.proofs.StepInvariant.{Keeps, IsLearner-moved, GoesTo-kept}
 use Rattle.learn_solver.proofs.AssumptionsInvariant.{IsMarked-lowered, IsMarked-assumptions, holding-lowered}
 use Rattle.learn_solver.proofs.learner.Learner.ask.Goals as goal
 
@@ -56,7 +56,7 @@ reuses-kept old new told reuses = record {
 
 pub returns-clause-sound : goal.returns-clause-sound
 returns-clause-sound c =
-    IsSound-moved c.args.self.now c.reuse_trail.new.self c.requires.sound
+    IsLearner-moved c.args.self.now c.reuse_trail.new.self c.requires.sound
     (reuses-kept c.args.self.now c.reuse_trail.new.self c.set-noted.new.self c.reuse_trail.ensures)
     c.reuse_trail.ensures.guided
 

@@ -5,7 +5,7 @@ use Rattle.learn_solver.specs.Noted.{AreAssigned}
 use Rattle.learn_solver.specs.Weights.{weight}
 use Rattle.learn_solver.specs.Guides.{IsGuided, by_trail}
 use Rattle.learn_solver.specs.Learners.{assumed}
-use Rattle.learn_solver.proofs.StepInvariant.{Steps-kept, Steps-moved, IsSound-kept}
+use Rattle.learn_solver.proofs.StepInvariant.{Steps-kept, Steps-moved, IsLearner-kept}
 use Rattle.learn_solver.proofs.AssumptionsInvariant.{IsGuided-decided, holding-true}
 use Rattle.learn_solver.proofs.Conflicts.{assumed-lighter}
 use Rattle.learn_solver.proofs.ModelOrRefutation.{IsModel-bits}
@@ -38,7 +38,7 @@ returns-in_ok-bits-in-None-clause-steps c = Steps-kept _ _ c.requires.sound (rec
 pub returns-in_ok-bits-in-None-clause-served : goal.returns-in_ok-bits-in-None-clause-served
 returns-in_ok-bits-in-None-clause-served c =
     let picked : Learner = record c.args.self.now { order = c.pick.new.self } in
-    let sound = IsSound-kept c.args.self.now picked c.requires.sound (record { records = refl; trail_variables = refl; variables = refl; analyzer = refl; order = c.pick.ensures.kept; given = refl; last = refl; waiting = refl }) refl in
+    let sound = IsLearner-kept c.args.self.now picked c.requires.sound (record { records = refl; trail_variables = refl; variables = refl; analyzer = refl; order = c.pick.ensures.kept; given = refl; last = refl; waiting = refl }) refl in
     let assigned : AreAssigned c.pick.new.self c.args.self.now.trail.places = subst (λ (noted : List Bool). AreAssigned noted c.args.self.now.trail.places) (sym c.pick.ensures.kept) c.in-None.ensures.picked in
     IsModel-bits picked picked.assumptions.lits c.in_ok-bits-in-None.bits c.facts.ensures sound c.requires.propagated assigned c.in_ok-bits-in-None.ensures
     (λ lit has. holding-true c.args.self.now.trail c.args.self.now.assumptions lit c.facts.ensures c.requires.sound.guided.marked c.requires.holding has)

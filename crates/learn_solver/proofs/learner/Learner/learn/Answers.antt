@@ -4,7 +4,7 @@ use Rattle.watch_arena.specs.declared.places.Place.{Place}
 use Rattle.watch_arena.specs.Places.{place_of}
 use Rattle.watch_arena.specs.Trails.{TrailState, IsReason, places_up_to}
 use Rattle.learn_solver.specs.declared.learner.Learner.{Learner}
-use Rattle.learn_solver.proofs.StepInvariant.{Steps-kept, Steps-trans, Steps-trail, IsSound-kept}
+use Rattle.learn_solver.proofs.StepInvariant.{Steps-kept, Steps-trans, Steps-trail, IsLearner-kept}
 use Rattle.learn_solver.proofs.TaughtClauses.{first-learnt, first-unassigned, IsReason-learnt}
 use Rattle.learn_solver.specs.Guides.{IsGuided, by_trail}
 use Rattle.learn_solver.specs.Learners.{guide_of}
@@ -15,7 +15,7 @@ pub returns-in_err-learnt-clause-steps : goal.returns-in_err-learnt-clause-steps
 returns-in_err-learnt-clause-steps c = Steps-kept _ _ c.requires.sound (record { records = refl; trail_variables = refl; variables = refl; analyzer = c.analyze.ensures.kept; order = refl; given = refl; last = refl; waiting = refl }) refl
 
 pub add_derived-requires-clause-sound : goal.add_derived-requires-clause-sound
-add_derived-requires-clause-sound c = IsSound-kept _ _ c.requires.sound (record { records = refl; trail_variables = refl; variables = refl; analyzer = c.analyze.ensures.kept; order = c.bump.ensures; given = refl; last = refl; waiting = refl }) refl
+add_derived-requires-clause-sound c = IsLearner-kept _ _ c.requires.sound (record { records = refl; trail_variables = refl; variables = refl; analyzer = c.analyze.ensures.kept; order = c.bump.ensures; given = refl; last = refl; waiting = refl }) refl
 
 pub imply-requires-clause-unassigned : goal.imply-requires-clause-unassigned
 imply-requires-clause-unassigned c =

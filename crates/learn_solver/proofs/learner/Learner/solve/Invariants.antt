@@ -1,12 +1,12 @@
 use Rattle.std.proofs.Common.{◌≡◌, ◌++◌}
 use Rattle.learn_solver.specs.Weights.{weight}
 use Rattle.learn_solver.specs.Solving.{GoesTo}
-use Rattle.learn_solver.specs.Learners.{solver_state, IsSound}
+use Rattle.learn_solver.specs.Learners.{solver_state, IsLearner}
 use Rattle.learn_solver.proofs.learner.Learner.solve.Given as goal
 
 abbrev pub invariant-loop-answer : goal.invariant-loop-answer
 invariant-loop-answer l = record {
-  sound : IsSound l.self;
+  sound : IsLearner l.self;
   goes : GoesTo (solver_state l.fn.self) (solver_state l.self);
   assumptions : l.self.assumptions.lits ≡ l.assumptions ++ l.more;
 }

@@ -3,7 +3,7 @@ use Rattle.std.specs.List.{Contains}
 use Rattle.lits_core.proofs.LiteralLemmas.{negation-below}
 use Rattle.clause_arena.specs.Records.{Record}
 use Rattle.watch_arena.specs.declared.engine.Engine.{Engine}
-use Rattle.watch_arena.specs.Engines.{IsSound}
+use Rattle.watch_arena.specs.Engines.{IsEngine}
 use Rattle.watch_arena.proofs.WatchedPair.{contains_at}
 use Rattle.watch_arena.proofs.AddedClause.{Added}
 use Rattle.watch_arena.proofs.engine.Engine.add_watched.Goals as goal
@@ -62,7 +62,7 @@ pub returns-clause-at : goal.returns-clause-at
 returns-clause-at c = c.in_ok-at.ensures.at ∙ ap (λ (e : Engine). length e.arena) c.rewind.ensures.same
 
 pub returns-in_err-at-clause-sound : goal.returns-in_err-at-clause-sound
-returns-in_err-at-clause-sound c = subst (λ (rs : List Record). IsSound (record c.rewind.new.self { arena = rs })) (sym c.in_err-at.ensures.err) c.rewind.ensures.sound
+returns-in_err-at-clause-sound c = subst (λ (rs : List Record). IsEngine (record c.rewind.new.self { arena = rs })) (sym c.in_err-at.ensures.err) c.rewind.ensures.sound
 
 pub returns-in_err-at-clause-places : goal.returns-in_err-at-clause-places
 returns-in_err-at-clause-places c = record {

@@ -2,8 +2,8 @@ use Rattle.std.proofs.Common.{◌∙◌, ◌+◌, ℕ, None, subst, sym, ap, ari
 use Rattle.std.proofs.lemmas.List.Sums.{count_by-le-length}
 use Rattle.watch_arena.specs.declared.engine.Engine.{Engine}
 use Rattle.watch_arena.specs.Places.{is_assumed}
-use Rattle.watch_arena.specs.Engines.{IsSound, with_place}
-use Rattle.watch_arena.proofs.EngineInvariant.{IsSound-marked}
+use Rattle.watch_arena.specs.Engines.{IsEngine, with_place}
+use Rattle.watch_arena.proofs.EngineInvariant.{IsEngine-marked}
 use Rattle.watch_arena.proofs.WatchVisit.{places_below}
 use Rattle.watch_arena.proofs.ShortClauses.{CanAssign-assumed}
 use Rattle.watch_arena.proofs.engine.Engine.assume.Goals as goal
@@ -22,8 +22,8 @@ assign-requires-clause-can c =
 
 pub returns-clause-sound : goal.returns-clause-sound
 returns-clause-sound c =
-    subst (λ (e : Engine). IsSound e) (sym c.assign.ensures)
-    (IsSound-marked c.args.self.now _ c.requires.sound
+    subst (λ (e : Engine). IsEngine e) (sym c.assign.ensures)
+    (IsEngine-marked c.args.self.now _ c.requires.sound
     (CanAssign-assumed c.args.self.now c.args.lit _ c.requires.range c.requires.not_true c.requires.not_false (ap (λ (n : ℕ). n + 1) c.level-level.ensures))
     (places_below c.args.self.now.marks c.args.self.now.places.list c.args.self.now.variables c.args.lit c.requires.sound.marked c.requires.range c.requires.not_true c.requires.not_false))
 

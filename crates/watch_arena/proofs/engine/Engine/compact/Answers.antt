@@ -2,7 +2,7 @@ use Rattle.std.proofs.Common.{◌∙◌, length, refl, ap, arith}
 use Rattle.clause_arena.specs.Movings.{new_ref, place_after}
 use Rattle.watch_arena.specs.Stack.{Stack}
 use Rattle.watch_arena.proofs.WatchVisit.{places_at_most}
-use Rattle.watch_arena.proofs.CompactedClauses.{IsBare-compacted, IsSound-relinked, places_with-same, length-with}
+use Rattle.watch_arena.proofs.CompactedClauses.{IsBare-compacted, IsEngine-relinked, places_with-same, length-with}
 use Rattle.watch_arena.proofs.engine.Engine.compact.Goals as goal
 
 pub cap-requires : goal.cap-requires
@@ -32,4 +32,4 @@ returns-clause-sound c =
     (ap (λ (p : Stack). p.room) c.mend.ensures)
     (λ at to has goes. c.mend-2.ensures at to has (c.compact.ensures.moved at ∙ goes))
     refl refl c.cap.ensures.size (λ p lt. c.cap.ensures.capped p (omega arith) (omega arith)) refl refl refl c.clear.ensures.pairs in
-    IsSound-relinked (record c.args.self.now { arena = c.compact.new.self; places = c.mend.new.self; shorts = c.mend-2.new.self; moves = c.clear.new.self; first = 0; firsts = c.cap.new.self }) c.relink.new.self bare c.requires.sound.lists c.relink.ensures.relinks c.relink.ensures.filed
+    IsEngine-relinked (record c.args.self.now { arena = c.compact.new.self; places = c.mend.new.self; shorts = c.mend-2.new.self; moves = c.clear.new.self; first = 0; firsts = c.cap.new.self }) c.relink.new.self bare c.requires.sound.lists c.relink.ensures.relinks c.relink.ensures.filed

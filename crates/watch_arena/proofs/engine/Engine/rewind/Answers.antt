@@ -1,13 +1,13 @@
 use Rattle.std.proofs.Common.{ℕ, subst, arith}
 use Rattle.watch_arena.specs.Columns.{Caps}
-use Rattle.watch_arena.proofs.AddedClause.{IsSound-rewound, IsRewound-caps}
+use Rattle.watch_arena.proofs.AddedClause.{IsEngine-rewound, IsRewound-caps}
 use Rattle.watch_arena.proofs.WatchVisit.{places_at_most}
 use Rattle.watch_arena.proofs.engine.Engine.rewind.Goals as goal
 
 pub returns-clause-sound : goal.returns-clause-sound
 returns-clause-sound c =
     let low = c.min-self.ensures in
-    IsSound-rewound c.args.self.now c.args.place c.cap.new.self c.min-self.result c.requires (omega arith)
+    IsEngine-rewound c.args.self.now c.args.place c.cap.new.self c.min-self.result c.requires (omega arith)
     (subst (λ (n : ℕ). Caps c.args.self.now.heads c.cap.new.self c.args.place n c.args.place) c.len-count.ensures c.cap.ensures)
 
 pub returns-clause-rewound : goal.returns-clause-rewound

@@ -2,8 +2,8 @@ use Rattle.std.proofs.Common.{◌≡◌, ◌-◌, ◌∙◌, ℕ, length, get_or
 use Rattle.watch_arena.specs.declared.places.Place.{Place}
 use Rattle.watch_arena.specs.declared.engine.Engine.{Engine}
 use Rattle.watch_arena.specs.Places.{place_at}
-use Rattle.watch_arena.specs.Engines.{IsSound, without_last}
-use Rattle.watch_arena.proofs.EngineInvariant.{IsSound-popped}
+use Rattle.watch_arena.specs.Engines.{IsEngine, without_last}
+use Rattle.watch_arena.proofs.EngineInvariant.{IsEngine-popped}
 use Rattle.watch_arena.proofs.WatchVisit.{place_read, place_lit-in_range, mark_within, places_at_most}
 use Rattle.watch_arena.proofs.engine.Engine.unassign_last.Goals as goal
 
@@ -20,7 +20,7 @@ undone c =
     cc (marks, queue_head, first, places)
 
 pub returns-clause-sound : goal.returns-clause-sound
-returns-clause-sound c = subst (λ (e : Engine). IsSound e) (sym (undone c)) (IsSound-popped c.args.self.now c.requires.sound c.requires.some)
+returns-clause-sound c = subst (λ (e : Engine). IsEngine e) (sym (undone c)) (IsEngine-popped c.args.self.now c.requires.sound c.requires.some)
 
 pub returns-clause-is : goal.returns-clause-is
 returns-clause-is c = undone c

@@ -1,5 +1,5 @@
 use Rattle.std.proofs.Common.{arith}
-use Rattle.watch_arena.proofs.ShortClauses.{IsSound-met}
+use Rattle.watch_arena.proofs.ShortClauses.{IsEngine-met}
 use Rattle.watch_arena.proofs.engine.Engine.visit_short.Goals as goal
 
 pub overflow_add-self : goal.overflow_add-self
@@ -8,4 +8,4 @@ overflow_add-self c =
 
 pub returns-then-meet-clause-sound : goal.returns-then-meet-clause-sound
 returns-then-meet-clause-sound c =
-    IsSound-met c.args.self.now c.meet.new.self c.get-at.result c.meet.ensures.advances c.requires.first c.get-at.ensures c.if-meet.ensures.outcome
+    IsEngine-met c.args.self.now c.meet.new.self c.get-at.result c.meet.ensures.advances c.requires.first c.get-at.ensures c.if-meet.ensures.outcome

@@ -1,0 +1,142 @@
+//! The request of a command, by the values of its keys.
+ghost use Rattle.std.specs.Prelude.{◌≡◌, ◌≤◌, [], IfOk, unwrap_or};
+ghost use Rattle.command_line.specs.Words.{value_of, is_on, switches_of, kinds_of, seed_in, size_in, claims_args, request_for};
+ghost use Rattle.command_line.specs.declared.table.Command.TheVariants as commands;
+
+use crate::kinds::{split_names, word_of};
+use crate::words::{limit_of, value_of};
+use crate::{
+    AlignArgs, CheckArgs, ClaimsArgs, Command, Key, Operand, ReportArgs, Request, TrialArgs, Word,
+    WordList,
+};
+use proof_text::read_number;
+use std::alloc::{AllocError, Global};
+use world_model::Switches;
+
+fn is_on(operands: &[Operand], key: Key) -> bool
+    ensures { result ≡ is_on (value_of operands.now key) }
+{
+    match value_of(operands, key) {
+        None => true,
+        Some(value) => value == "on",
+    }
+}
+
+// A name of its own for the value of a key, if it is given.
+fn name_of(alloc: Global, operands: &[Operand], key: Key) -> Result<Option<Word>, AllocError>
+    ensures { IfOk result (λ name. name ≡ value_of operands.now key) }
+{
+    match value_of(operands, key) {
+        None => Ok(None),
+        Some(value) => Ok(Some(word_of(alloc, value)?)),
+    }
+}
+
+// The value of a key that has to be given.
+fn required_name(alloc: Global, operands: &[Operand], key: Key) -> Result<Word, AllocError>
+    ensures { IfOk result (λ name. name ≡ unwrap_or (value_of operands.now key) []) }
+{
+    word_of(alloc, value_of(operands, key).unwrap_or(""))
+}
+
+fn switches_of(operands: &[Operand]) -> Switches
+    ensures { result ≡ switches_of operands.now }
+{
+    Switches {
+        nonempty: is_on(operands, Key::Nonempty),
+        sibling: is_on(operands, Key::Sibling),
+        coverage: is_on(operands, Key::Coverage),
+    }
+}
+
+// The names of reports that are given.
+fn kinds_of(alloc: Global, operands: &[Operand]) -> Result<WordList, AllocError>
+    ensures { IfOk result (λ kinds. kinds ≡ kinds_of operands.now) }
+{
+    let value = value_of(operands, Key::Kinds).unwrap_or("");
+    Ok(WordList::new(split_names(alloc, value)?))
+}
+
+fn seed_in(operands: &[Operand]) -> u64
+    ensures { result ≡ seed_in operands.now }
+{
+    limit_of(operands, Key::Seed).unwrap_or(0)
+}
+
+fn size_in(operands: &[Operand]) -> u32
+    ensures { result ≡ size_in operands.now }
+{
+    let Some(value) = value_of(operands, Key::Size) else {
+        return 0;
+    };
+    match read_number(value.as_bytes(), 14, 256) {
+        None => 0,
+        Some(size) => size as u32,
+    }
+}
+
+fn align_request(alloc: Global, operands: &[Operand]) -> Result<Request, AllocError>
+    ensures { IfOk result (λ request. request ≡ request_for commands.Align operands.now) }
+{
+    Ok(Request::Align(AlignArgs {
+        input: required_name(alloc, operands, Key::In)?,
+        cert: name_of(alloc, operands, Key::Cert)?,
+        switches: switches_of(operands),
+        nodes: limit_of(operands, Key::Nodes),
+        worlds: limit_of(operands, Key::Worlds),
+        token: name_of(alloc, operands, Key::Token)?,
+        resume: name_of(alloc, operands, Key::Resume)?,
+    }))
+}
+
+fn check_request(alloc: Global, operands: &[Operand]) -> Result<Request, AllocError>
+    ensures { IfOk result (λ request. request ≡ request_for commands.Check operands.now) }
+{
+    Ok(Request::Check(CheckArgs {
+        input: required_name(alloc, operands, Key::In)?,
+        cert: required_name(alloc, operands, Key::Cert)?,
+        switches: switches_of(operands),
+    }))
+}
+
+// The arguments of a question that is answered by claims.
+fn claims_args(alloc: Global, operands: &[Operand]) -> Result<ClaimsArgs, AllocError>
+    ensures { IfOk result (λ args. args ≡ claims_args operands.now) }
+{
+    Ok(ClaimsArgs {
+        input: required_name(alloc, operands, Key::In)?,
+        cert: name_of(alloc, operands, Key::Cert)?,
+        switches: switches_of(operands),
+    })
+}
+
+fn report_request(alloc: Global, operands: &[Operand]) -> Result<Request, AllocError>
+    ensures { IfOk result (λ request. request ≡ request_for commands.Report operands.now) }
+{
+    Ok(Request::Report(ReportArgs {
+        input: required_name(alloc, operands, Key::In)?,
+        kinds: kinds_of(alloc, operands)?,
+        switches: switches_of(operands),
+    }))
+}
+
+/// The request of a command, whose required keys are given.
+pub(crate) fn make_request(
+    alloc: Global,
+    command: Command,
+    operands: &[Operand],
+) -> Result<Request, AllocError>
+    ensures { IfOk result (λ request. request ≡ request_for command operands.now) }
+{
+    match command {
+        Command::Align => align_request(alloc, operands),
+        Command::Check => check_request(alloc, operands),
+        Command::Mir => Ok(Request::Mir(claims_args(alloc, operands)?)),
+        Command::Conflict => Ok(Request::Conflict(claims_args(alloc, operands)?)),
+        Command::Report => report_request(alloc, operands),
+        Command::Trial => Ok(Request::Trial(TrialArgs {
+            seed: seed_in(operands),
+            size: size_in(operands),
+        })),
+    }
+}

@@ -1,0 +1,71 @@
+//! What the words ask for: a command with its arguments, each by its name.
+
+use crate::{Word, WordList};
+use world_model::Switches;
+
+/// What `align` is given: list the possible worlds of the problem in a file.
+#[derive(Drop)]
+pub struct AlignArgs {
+    pub input: Word,
+    /// The file for the certificate.
+    pub cert: Option<Word>,
+    pub switches: Switches,
+    /// How many nodes may be visited.
+    pub nodes: Option<u64>,
+    /// How many worlds may be listed.
+    pub worlds: Option<u64>,
+    /// The file for the token of the cut.
+    pub token: Option<Word>,
+    /// The file whose token says where the listing begins.
+    pub resume: Option<Word>,
+}
+
+/// What `check` is given: check a certificate of the problem in a file.
+#[derive(Drop)]
+pub struct CheckArgs {
+    pub input: Word,
+    pub cert: Word,
+    pub switches: Switches,
+}
+
+/// What `mir` and `conflict` are given: answer a question about the problem in a file by claims.
+#[derive(Drop)]
+pub struct ClaimsArgs {
+    pub input: Word,
+    /// The file for the certificate.
+    pub cert: Option<Word>,
+    pub switches: Switches,
+}
+
+/// What `report` is given: list the possible worlds of the problem in a file, and report of them.
+#[derive(Drop)]
+pub struct ReportArgs {
+    pub input: Word,
+    /// The names of the reports.
+    pub kinds: WordList,
+    pub switches: Switches,
+}
+
+/// What `trial` is given: make a problem, list its worlds, and check the certificate of the listing.
+#[derive(Clone, Copy)]
+pub struct TrialArgs {
+    pub seed: u64,
+    pub size: u32,
+}
+
+/// A command with its arguments.
+#[derive(Drop)]
+pub enum Request {
+    /// List the possible worlds.
+    Align(AlignArgs),
+    /// Check a certificate.
+    Check(CheckArgs),
+    /// Tell which relations of each pair some possible world has.
+    Mir(ClaimsArgs),
+    /// Find the least set of statements that are in conflict.
+    Conflict(ClaimsArgs),
+    /// Report of all possible worlds.
+    Report(ReportArgs),
+    /// Make a problem and try the program on it.
+    Trial(TrialArgs),
+}

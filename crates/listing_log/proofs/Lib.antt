@@ -1,0 +1,7 @@
+pub mod CertifiedLemmas
+pub mod CutLemmas
+pub mod EndLemmas
+pub mod ListingLemmas
+pub mod LoggedLemmas
+pub mod PlaceLemmas
+pub mod TableLemmas

@@ -1,0 +1,3 @@
+pub mod Logged
+pub mod Plans
+pub mod Putting

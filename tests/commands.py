@@ -1,0 +1,137 @@
+"""The commands, as the tests know them: a row for each, and runs of each with small files. A command is added here and nowhere else."""
+
+SWITCHES = ["nonempty", "sibling", "coverage"]
+KINDS = ["count", "tally", "seen", "merge", "json"]
+
+# what the value of a key is: a switch, the name of a file, names of reports, a limit, or a number from the least to the most by steps
+LIMIT = (0, 2**64 - 1, 1)
+KEYS = {
+    **{key: "switch" for key in SWITCHES},
+    **{key: "file" for key in ("in", "cert", "token", "resume")},
+    "kinds": "reports",
+    "nodes": "limit",
+    "worlds": "limit",
+    "seed": LIMIT,
+    "size": (14, 256, 2),
+}
+
+
+class Row:
+    """A command: the keys that must be given, those that may be, and of these the ones whose file it reads and writes."""
+
+    def __init__(self, required, optional, reads, writes):
+        self.required, self.optional = required.split(), optional.split()
+        self.reads, self.writes = reads.split(), writes.split()
+
+
+ROWS = {
+    "align": Row("in", "cert nonempty sibling coverage nodes worlds token resume", "in resume", "cert token"),
+    "check": Row("in cert", "nonempty sibling coverage", "in cert", ""),
+    "mir": Row("in", "cert nonempty sibling coverage", "in", "cert"),
+    "conflict": Row("in", "cert nonempty sibling coverage", "in", "cert"),
+    "report": Row("in kinds", "nonempty sibling coverage", "in", ""),
+    "trial": Row("seed size", "", "", ""),
+}
+
+
+NONE = Row("", "", "", "")
+
+
+def row_of(words):
+    """The row of the command of words; an empty one where the first is none."""
+    return ROWS.get(words[0], NONE) if words else NONE
+
+
+def values_of(words):
+    """The values of the keys of words."""
+    return dict(word.split("=", 1) for word in words[1:] if "=" in word)
+
+
+def files_read(words):
+    """The names of the files that a request reads."""
+    values = values_of(words)
+    return [values[key] for key in row_of(words).reads if key in values]
+
+
+def files_written(words):
+    """The names of the files that it may write."""
+    values = values_of(words)
+    return [values[key] for key in row_of(words).writes if key in values]
+
+
+# small problems, a certificate of the first one's listing, and a token of it
+ALONE = "taxonomy 1\n(A)\ntaxonomy 2\n(B)\n"
+PARTINGS = "taxonomy 1\n(A B C)\ntaxonomy 2\n(D E F)\narticulation\n[1.A equals 2.D]\n"
+EQUAL = "taxonomy 1\n(A B C)\ntaxonomy 2\n(D)\narticulation\n[1.B equals 2.D]\n[1.C equals 2.D]\n"
+SPLIT = (
+    "taxonomy 1\n(A)\ntaxonomy 2\n(B)\ntaxonomy 3\n(C)\narticulation\n"
+    "[1.A {equals disjoint} 2.B]\n[2.B {equals disjoint} 3.C]\n[1.A overlaps 3.C]\n"
+)
+TORN = SPLIT + "[1.A equals 2.B]\n"
+LISTING = "certificate 1 on on on .\nb 0 .\nw 1 = 1 0 0\nw 1 > 2 0,1 0\nw 1 < 2 0 0,1\nw 1 x 3 0,1 0,2\nw 1 ! 2 0 1\nend -\n"
+TOKEN = "token 2 2 1 0e840ad3c362ef009568403e4c4fb237f9a9b4416ef7c8fbc4f86c79753f6d10 <\n"
+ALL_KINDS = "kinds=" + ",".join(KINDS)
+
+# runs whose calls of the store and of the sink fail, each in its turn: a problem, files, and words
+FAILING_CALLS = [
+    (ALONE, {}, "align in=p"),
+    (PARTINGS, {}, "align in=p worlds=2 token=t"),
+    (ALONE, {}, "align in=p nodes=3 token=t cert=c"),
+    (ALONE, {"r": TOKEN}, "align in=p resume=r nodes=1 token=t cert=c"),
+    (PARTINGS, {}, "align in=p cert=c"),
+    (EQUAL, {}, "align in=p cert=c"),
+    (ALONE, {"c": LISTING}, "check in=p cert=c"),
+    (ALONE, {"c": LISTING.replace("w 1 x 3 0,1 0,2\n", "")}, "check in=p cert=c"),
+    (ALONE, {"c": LISTING.replace("end -\n", "")}, "check in=p cert=c"),
+    (ALONE, {"r": TOKEN.replace("<", "?")}, "align in=p resume=r"),
+    (PARTINGS, {}, "mir in=p"),
+    (SPLIT, {}, "mir in=p cert=c"),
+    (TORN, {}, "mir in=p cert=c"),
+    (TORN, {}, "conflict in=p"),
+    (TORN, {}, "conflict in=p cert=c"),
+    (SPLIT, {}, "conflict in=p cert=c"),
+    (PARTINGS, {}, f"report in=p {ALL_KINDS}"),
+    (TORN, {}, "report in=p kinds=merge"),
+    (ALONE, {}, "trial seed=1 size=14"),
+    ("taxonomy 1\n", {}, "align in=p"),
+    (ALONE, {}, "align in=p nodes=3"),
+]
+
+# runs whose allocations are refused, each in its turn
+REFUSED_MEMORY = [
+    (PARTINGS, {}, "align in=p"),
+    (PARTINGS, {}, "align in=p sibling=off nodes=40 token=t"),
+    (ALONE, {"r": TOKEN}, "align in=p resume=r nodes=1 token=t cert=c"),
+    (PARTINGS, {}, "align in=p cert=c"),
+    (EQUAL, {}, "align in=p cert=c nonempty=off"),
+    (ALONE, {"k": LISTING}, "check in=p cert=k"),
+    (SPLIT, {}, "mir in=p cert=c"),
+    (TORN, {}, "conflict in=p cert=c"),
+    (PARTINGS, {}, f"report in=p {ALL_KINDS}"),
+    (ALONE, {}, "trial seed=1 size=14"),
+    ("taxonomy 1\n(A B)\n(B A)\n", {}, "align in=p"),
+    (ALONE, {"r": TOKEN[:-3]}, "align in=p resume=r"),
+    (ALONE, {}, "align in=p nodes=0"),
+]
+
+# a run of each command on devices, with the most files that it can have: p is a problem, q one in conflict, k a certificate, r a token
+ON_DEVICES = {
+    "align": "align in=p worlds=2 resume=r token=t cert=c",
+    "check": "check in=p cert=k",
+    "mir": "mir in=p cert=c",
+    "conflict": "conflict in=q cert=c",
+    "report": f"report in=p {ALL_KINDS}",
+    "trial": "trial seed=7 size=14",
+}
+
+# words from which random ones are made
+REQUESTS = [
+    "align in=p", "align in=p cert=c", "align in=p nodes=3 token=t", "align in=p worlds=2 token=t resume=r cert=c sibling=off", "check in=p cert=c",
+    "mir in=p cert=c coverage=off", "conflict in=p nonempty=off", "report in=p kinds=count,seen", "trial seed=3 size=14",
+]
+OTHER_WORDS = [
+    "align", "check", "report", "trial", "mir", "conflict", "lattice", "in=p", "in=", "in=c", "cert=c", "cert=p", "cert=", "token=t", "token=p", "token=c",
+    "resume=r", "resume=t", "resume=p", "nodes=1", "nodes=0", "nodes=01", "worlds=2", "worlds=-1", "worlds=18446744073709551616", "nonempty=on", "nonempty=On",
+    "sibling=off", "coverage=1", "kinds=count", "kinds=", "kinds=count,seen", "kinds=count,count", "kinds=seen,x", "kinds=seen,", "seed=3", "seed=+3", "size=14",
+    "size=15", "size=300", "x", "=x", "y=z", "", "In=p", "--help",
+]
