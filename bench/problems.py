@@ -16,6 +16,13 @@ vague SIZE COUNT      two trees of SIZE/2 concepts, three children to a concept,
 revised SEED SIZE     two trees of SIZE/2 concepts, the second a revision of the first in which eight things were put elsewhere, and what is so of
                       most concepts beside their counterparts, three in ten of these statements with other relations that might hold
 unclear SEED SIZE     the same with twenty things put elsewhere, half of the statements left out, and half of the others not sure
+copied A B            a root over A children with B children each, beside its copy: each concept is equal to its counterpart, but for every
+                      fourth, the root first, of which it is only said that they aren't disjoint
+pigeons A B           A children of one root beside B of the other, the roots equal, and each two children equal or disjoint
+hidden SEED LEAVES    two trees over the same things, a third more than LEAVES: each cuts them into so many parts and puts two to four together at
+                      a time, up to one root; two true statements for each leaf of the first, half of them with one relation more
+subjects SEED SIZE    two schemes of SIZE concepts over the same things, a root over groups over groups, with two statements for five concepts,
+                      each true, a fifth of them sums and a third of the others with a relation more
 repeated SIZE COUNT   flat, SIZE/2 concepts a side, with COUNT statements, each pair's equals again and again, and a disjoint last"""
 import random
 import sys
@@ -209,6 +216,101 @@ def revision(seed, size, moves, said, doubt):
     return lines
 
 
+def copied(children, grandchildren):
+    rows = ["(r " + " ".join(f"c{k}" for k in range(children)) + ")"]
+    rows += [f"(c{k} " + " ".join(f"c{k}g{g}" for g in range(grandchildren)) + ")" for k in range(children)]
+    names = ["r"]
+    for k in range(children):
+        names += [f"c{k}"] + [f"c{k}g{g}" for g in range(grandchildren)]
+    said = [f"[1.{name} {'equals' if at % 4 else '{equals includes is_included_in overlaps}'} 2.{name}]" for at, name in enumerate(names)]
+    return ["taxonomy 1", *rows, "taxonomy 2", *rows, "articulation", *said]
+
+
+def pigeons(left, right):
+    lines = two_roots(left, right)
+    return lines + [f"[1.a{i} {{equals disjoint}} 2.b{k}]" for i in range(left) for k in range(right)]
+
+
+def joined(rng, things, leaves):
+    """The groups of a tree over things, from a root down: each group's parent and its things."""
+    things = list(things)
+    rng.shuffle(things)
+    cuts = [0, *sorted(rng.sample(range(1, len(things)), leaves - 1)), len(things)]
+    tops = [(frozenset(things[low:high]), []) for low, high in zip(cuts, cuts[1:])]
+    while len(tops) > 1:
+        rng.shuffle(tops)
+        taken = min(rng.randint(2, 4), len(tops))
+        parts, tops = tops[:taken], tops[taken:]
+        tops.append((frozenset().union(*(members for members, _ in parts)), parts))
+    groups = []
+
+    def number(group, parent):
+        at = len(groups)
+        groups.append((parent, group[0]))
+        for part in group[1]:
+            number(part, at)
+
+    number(tops[0], None)
+    return groups
+
+
+def rows_of(taxonomy, groups):
+    lines = [f"taxonomy {taxonomy}"]
+    for at in range(len(groups)):
+        kids = [f"c{k}" for k in range(len(groups)) if groups[k][0] == at]
+        if kids:
+            lines.append("(" + " ".join([f"c{at}", *kids]) + ")")
+    return lines
+
+
+RELATIONS = ["equals", "includes", "is_included_in", "overlaps", "disjoint"]
+
+
+def unsure(rng, true, doubt):
+    """A relation, perhaps with another one."""
+    if rng.random() >= doubt:
+        return true
+    both = {true, rng.choice([word for word in RELATIONS if word != true])}
+    return "{" + " ".join(word for word in RELATIONS if word in both) + "}"
+
+
+def hidden(seed, leaves):
+    rng = random.Random(seed)
+    left, right = (joined(rng, range(4 * leaves // 3), leaves) for _ in range(2))
+    lines = rows_of(1, left) + rows_of(2, right) + ["articulation"]
+    for _ in range(2 * leaves):
+        one, other = rng.randrange(len(left)), rng.randrange(len(right))
+        lines.append(f"[1.c{one} {unsure(rng, relation(left[one][1], right[other][1]), 0.5)} 2.c{other}]")
+    return lines
+
+
+def subjects(seed, size):
+    rng = random.Random(seed)
+    left = hierarchy(rng, 2 * size, size)
+    right = moved(rng, left, size // 8)
+    lines = rows_of(1, left) + rows_of(2, right) + ["articulation"]
+    for count in range(2 * size // 5):
+        if count % 5 == 4:
+            whole, parts = sum_of(rng, left, right)
+            lines.append(f"[1.c{whole} sums {' '.join(f'2.c{part}' for part in parts)}]")
+            continue
+        one = rng.randrange(len(left))
+        near = sorted(range(len(right)), key=lambda k: -len(left[one][1] & right[k][1]) / len(left[one][1] | right[k][1]))[:4]
+        other = rng.choice(near)
+        lines.append(f"[1.c{one} {unsure(rng, relation(left[one][1], right[other][1]), 0.33)} 2.c{other}]")
+    return lines
+
+
+def sum_of(rng, left, right):
+    """A group of the first tree that two or more of the second make up, and these."""
+    for one in rng.sample(range(len(left)), len(left)):
+        inside = [k for k in range(len(right)) if right[k][1] and right[k][1] <= left[one][1]]
+        largest = [k for k in inside if right[k][0] not in inside]
+        if len(largest) > 1 and frozenset().union(*(right[k][1] for k in largest)) == left[one][1]:
+            return one, largest
+    return 0, [k for k in range(len(right)) if right[k][0] == 0]
+
+
 def revised(seed, size):
     return revision(seed, size, 8, 0.7, 0.3)
 
@@ -218,7 +320,8 @@ def unclear(seed, size):
 
 
 FAMILIES = {"generated": generated, "flat": two_roots, "loose": loose, "chain": chain, "sums": sums, "split": split, "roots": roots, "planted": planted,
-            "doubtful": doubtful, "repeated": repeated, "vague": vague, "revised": revised, "unclear": unclear}
+            "doubtful": doubtful, "repeated": repeated, "vague": vague, "revised": revised, "unclear": unclear,
+            "copied": copied, "pigeons": pigeons, "hidden": hidden, "subjects": subjects}
 
 if __name__ == "__main__":
     kind, one, other = sys.argv[1], int(sys.argv[2]), int(sys.argv[3])
