@@ -4,3 +4,4 @@ pub mod Subjects
 pub mod Told
 pub mod Unasked
 pub mod Showing
+pub mod Granting

@@ -26,7 +26,6 @@ use Rattle.claim_blocks.specs.Blocks.{IsProblemOf, IsClosedSubject}
 use Rattle.mir_report.specs.Steps.{ShowsAt}
 use Rattle.cert_rules.proofs.Narrowing.{shown_is_met, met_is_shown}
 use Rattle.mir_report.proofs.Laws.{possible_is_met}
-use Rattle.point_ladder.specs.Ladders.{LadderState, IsBoundOf}
 
 named : (p : Problem) (pair : ℕ) (rel : Rel) → pair < pair_count p → subject_fault p (Narrowed pair rel) ≡ None
 named p pair rel within = ap (λ b. cond b None (Some WrongSubject)) (lt-ltb pair (pair_count p) within)
@@ -84,11 +83,3 @@ closed_subject p state pair rel closing within closes = record { named = named p
 -- and then the relation is not possible
 pub dead_is_impossible : (p : Problem) (pair : ℕ) (rel : Rel) → pair < pair_count p → (IsAlive (narrowed p (pair_at p pair) (only rel)) → ⊥) → IsPossibleRelation p pair rel → ⊥
 dead_is_impossible p pair rel within dead r = dead (met_is_alive (narrowed p (pair_at p pair) (only rel)) ((possible_is_met p pair rel within).0 r))
-
--- where a problem with just the same worlds has none with a relation at a pair, a problem has none
-pub none_of_bound : (p : Problem) (s : LadderState) (pair : ℕ) (rel : Rel) → pair < pair_count p → IsBoundOf p s → (IsMet (narrowed s.problem (pair_at s.problem pair) (only rel)) → ⊥) →
-    IsMet (narrowed p (pair_at p pair) (only rel)) → ⊥
-none_of_bound p s pair rel within bound none met =
-    let r = (possible_is_met p pair rel within).1 met in
-    none ((possible_is_met s.problem pair rel (subst (λ ps. pair < length ps) (sym bound.pairs_are) within)).0
-    (record { table = r.table; world = (bound.worlds r.table).1 r.world; there = r.there }))

@@ -13,8 +13,9 @@ use Rattle.cert_text.specs.declared.line.Subject.TheVariants.{Narrowed}
 use Rattle.cert_rules.specs.ClaimLists.{Claim}
 use Rattle.split_search.specs.Choosing.{IsMetBy}
 use Rattle.claim_blocks.specs.Blocks.{claimed}
-use Rattle.point_ladder.specs.Ladders.{IsBoundOf}
+use Rattle.family_solver.specs.Showing.{IsGround, IsFamilySolver}
 use Rattle.pick_search.specs.Picking.{IsKnown}
+use Rattle.mir_report.specs.declared.sight.Granter.{Granter}
 use Rattle.mir_report.specs.declared.sight.Help.{Help}
 
 -- a family that meets a problem shows a relation at a pair
@@ -56,7 +57,12 @@ pub record AreCandidates (p : Problem) (count : ℕ) (sets : List RelSet) : Type
   pub counted : length sets ≡ count
   pub each : (pair : ℕ) (d : RelSet) → pair < count → HasPossible p pair (slice_index_or sets pair d)
 
--- what helps to answer questions about a problem: what clashes there, and a ladder at its start with just its worlds
+-- all points of a problem with some of its pairs, and a solver of these, if one is made
+pub record IsGranter (p : Problem) (granter : Granter) : Type 0 where
+  pub ground : IsGround p granter.ground
+  pub solver : IfSome granter.solver (IsFamilySolver p granter.ground)
+
+-- what helps to answer questions about a problem: what clashes there, and its points, if they are few
 pub record IsHelp (p : Problem) (help : Help) : Type 0 where
   pub clashes : IsKnown p help.clashes
-  pub ladder : IfSome help.ladder (IsBoundOf p)
+  pub granter : IfSome help.granter (IsGranter p)

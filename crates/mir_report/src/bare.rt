@@ -10,9 +10,9 @@ ghost use Rattle.mir_report.specs.Steps.{AreCandidates, AreSeen, HasPossible, Is
 use crate::found::put;
 use crate::possible::{MirSets, RELS};
 use crate::seen::{none_seen, seen_with};
-use crate::sight::{Help, choose_with, new_help};
+use crate::sight::{Help, choose_any, choose_with, new_help};
 use constraint_set::Problem;
-use pick_search::{are_whole, choose_part};
+use pick_search::are_whole;
 use point_ladder::{MOST_POINTS, MOST_TRIES, alive_alone};
 use point_query::Asker;
 use rcc5_core::{Rel, RelSet};
@@ -51,7 +51,7 @@ fn ask_for(
     ensures answer { IfOk result (λ some. IsTrue some ↔ IsPossibleRelation problem.now pair rel) }
 {
     let narrowed = problem.narrowed(alloc, pair, RelSet::one(rel))?;
-    let choice = choose_with(alloc, problem, &narrowed, pair, rel, help, asker)?;
+    let choice = choose_with(alloc, problem, &narrowed, pair, rel, seen, help, asker)?;
     match choice {
         Choice::Refuted => Ok(false),
         Choice::Met(family) => {
@@ -160,8 +160,8 @@ fn ask_among(
     ensures shape { asker.new.shape ≡ asker.old.shape }
     ensures sets { IfOk result (λ mir. ArePossibleSets problem.now mir.sets.items) }
 {
-    let mut help = new_help(alloc, problem)?;
-    let choice = choose_part(alloc, problem, problem, &mut help.clashes, asker)?;
+    let mut help = new_help(alloc, problem, among)?;
+    let choice = choose_any(alloc, problem, &mut help, asker)?;
     match choice {
         Choice::Refuted => {
             let sets = none_seen(alloc, problem)?;

@@ -1,6 +1,5 @@
 use Rattle.std.proofs.Common.{subst}
 use Rattle.split_search.specs.Choosing.{IsChoice}
-use Rattle.pick_search.proofs.Narrowing.{part_whole}
 use Rattle.mir_report.proofs.Showing.{unmet_sets}
 use Rattle.mir_report.proofs.bare.ask_among.Goals as goal
 
@@ -10,6 +9,3 @@ returns-in-Refuted-clause-sets c =
 
 pub ask_all-requires-clause-met : goal.ask_all-requires-clause-met
 ask_all-requires-clause-met c = subst (IsChoice c.args.problem.now) c.in-Met.is c.in_ok-choice.ensures.choice
-
-pub choose_part-requires-clause-part : goal.choose_part-requires-clause-part
-choose_part-requires-clause-part c = part_whole c.args.problem.now

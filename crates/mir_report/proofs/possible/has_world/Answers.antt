@@ -1,4 +1,4 @@
-use Rattle.std.proofs.Common.{◌≡◌, ◌∙◌, ◌↔◌, Bool, true, not, slice_get, Ok, sym, refl, ap, subst}
+use Rattle.std.proofs.Common.{◌≡◌, ◌∙◌, ◌↔◌, true, not, slice_get, Ok, sym, refl, ap, subst}
 use Rattle.cert_text.specs.declared.line.Subject.TheVariants.{Kept}
 use Rattle.world_model.specs.Questions.{IsMet}
 use Rattle.search_log.proofs.Logs.{log_stays_ok}

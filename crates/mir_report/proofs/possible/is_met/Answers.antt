@@ -1,4 +1,4 @@
-use Rattle.std.proofs.Common.{◌≡◌, ◌∙◌, Bool, true, false, Ok, ap, subst}
+use Rattle.std.proofs.Common.{◌≡◌, ◌∙◌, true, false, Ok, ap, subst}
 use Rattle.cert_text.specs.declared.line.Subject.TheVariants.{Kept}
 use Rattle.search_log.proofs.Logs.{log_memory}
 use Rattle.claim_blocks.specs.Blocks.{claimed, settled, KeepsClaims}

@@ -1,0 +1,5 @@
+use Rattle.family_solver.specs.Showing.{IsBegun}
+use Rattle.family_solver.proofs.relations.give_place.Given as goal
+
+abbrev pub invariant-rels : goal.invariant-rels
+invariant-rels l = IsBegun l.problem l.ground l.solver

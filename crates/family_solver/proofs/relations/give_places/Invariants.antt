@@ -1,0 +1,5 @@
+use Rattle.family_solver.specs.Showing.{IsBegun}
+use Rattle.family_solver.proofs.relations.give_places.Given as goal
+
+abbrev pub invariant-loop-place : goal.invariant-loop-place
+invariant-loop-place l = IsBegun l.problem l.ground l.solver

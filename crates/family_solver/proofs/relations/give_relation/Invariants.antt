@@ -1,0 +1,5 @@
+use Rattle.family_solver.specs.Showing.{IsBegun}
+use Rattle.family_solver.proofs.relations.give_relation.Given as goal
+
+abbrev pub invariant-regions : goal.invariant-regions
+invariant-regions l = IsBegun l.problem l.ground l.solver
