@@ -17,7 +17,7 @@ use Rattle.search_log.specs.declared.fault.StepFault.{StepFault}
 use Rattle.search_log.specs.Logging.{AddsLines}
 use Rattle.split_search.specs.declared.choice.Choice.{Choice}
 use Rattle.split_search.specs.declared.choice.Choice.TheVariants.{Met, Refuted}
-use Rattle.split_search.specs.Choosing.{IsMetBy}
+use Rattle.set_family.specs.Meeting.{IsMetBy}
 use Rattle.split_search.specs.Claiming.{ToldClaims, KeepsOpen, KeepsSomewhere, KeepsWithin}
 use Rattle.claim_blocks.specs.Blocks.{IsProblemOf, AreClaimsTold, AreClaimsMade, FromClaims, KeepsClaims}
 use Rattle.claim_blocks.specs.Steps.{ClaimsLeadTo, LeadsSomewhere, LeadsIf, MayEndAt}

@@ -1,6 +1,6 @@
 -- The words of the command line: a request, or the first usage fault.
 use Rattle.std.specs.Prelude.{ℕ, ◌==◌, ◌%◌, Bool, true, false, not, ◌||◌, ◌&&◌, ◌-◌, ◌^◌, List, [], ◌∷◌, ◌++◌, length, find, Option, Some, None, option_map, option_and_then, unwrap_or, Result, Ok, Err, if◌then◌else◌, bytes_eq, codes, ⊤}
-use Rattle.std.specs.List.{list_any, list_all, before_first, after_first}
+use Rattle.std.specs.List.{list_any, list_all, flat_map, before_first, after_first}
 use Rattle.rcc5_core.specs.declared.RelSet.{RelSet}
 use Rattle.proof_text.specs.Numbers.{number_in}
 use Rattle.proof_text.specs.Words.{words_of}
@@ -189,14 +189,10 @@ names_by (EvenNumber least most) value = []
 abbrev pub file_names : Operand → List (List ℕ)
 file_names operand = names_by (kind_of operand.key) operand.value
 
--- whether an operand gives a file name that one before it gives
-abbrev pub gives_again : List (List ℕ) → List Operand → Bool
-gives_again earlier [] = false
-gives_again earlier (operand ∷ operands) = list_any (is_among earlier) (file_names operand) || gives_again (earlier ++ file_names operand) operands
-
 -- whether two operands give one file name
 abbrev pub has_same_name : List Operand → Bool
-has_same_name operands = gives_again [] operands
+has_same_name [] = false
+has_same_name (operand ∷ operands) = list_any (is_among (flat_map file_names operands)) (file_names operand) || has_same_name operands
 
 -- the names of reports, the seed and the size that are given
 abbrev pub kinds_of : List Operand → List (List ℕ)

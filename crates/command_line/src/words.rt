@@ -1,6 +1,6 @@
 //! A request from the words, or the first fault of them.
 ghost use Rattle.std.specs.Prelude.{◌≡◌, ◌<◌, ◌≤◌, not, length, [], Ok, Err, IfOk, IfSome, IfNone, map, find, bytes_eq, string_bytes, unwrap_or};
-ghost use Rattle.std.specs.List.{list_any};
+ghost use Rattle.std.specs.List.{flat_map, list_any};
 ghost use Rattle.std.specs.Option.{option_copied};
 ghost use Rattle.command_line.specs.Table.{row_of, key_name, same_key, command_named};
 ghost use Rattle.command_line.specs.Words.{is_equals, cut_word, key_among, key_in, limit_of, lacks_token, is_among, file_names, has_same_name, is_given, operand_of, operands_of, value_of, is_lacking, request_from, request_of, IfUsage};
@@ -118,18 +118,28 @@ fn have_common(names: &[Word], others: &[Word]) -> bool
     names.iter().any(|name| is_among(others, name.text()))
 }
 
+// The file names that operands give.
+fn all_file_names(alloc: Global, operands: &[Operand]) -> Result<Vec<Word>, AllocError>
+    ensures { IfOk result (λ names. names.items ≡ flat_map file_names operands.now) }
+{
+    let mut all = Vec::new(alloc);
+    for place in 0..operands.len() {
+        let mut names = file_names(alloc, &operands[place])?;
+        all.append(&mut names)?;
+    }
+    Ok(all)
+}
+
 // Whether two operands give one file name.
-#[tactic(auto, using(crate::proofs::NameLemmas::name_rules))]
 fn has_same_name(alloc: Global, operands: &[Operand]) -> Result<bool, AllocError>
     ensures { IfOk result (λ same. same ≡ has_same_name operands.now) }
 {
-    let mut earlier = Vec::new(alloc);
-    'operands: for operand in operands {
-        let mut names = file_names(alloc, operand)?;
-        if have_common(&names, &earlier) {
+    for place in 0..operands.len() {
+        let names = file_names(alloc, &operands[place])?;
+        let others = all_file_names(alloc, &operands[place + 1..])?;
+        if have_common(&names, &others) {
             return Ok(true);
         }
-        earlier.append(&mut names)?;
     }
     Ok(false)
 }

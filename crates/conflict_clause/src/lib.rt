@@ -3,5 +3,6 @@
 
 mod analysis;
 mod analyzer;
+mod levels;
 
 pub use analyzer::{Analyzer, Closing, Learnt};

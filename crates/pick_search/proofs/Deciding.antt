@@ -18,7 +18,7 @@ use Rattle.world_model.proofs.Members.{all_from, contains_from_in}
 use Rattle.world_model.proofs.PointOnce.{at_empty}
 use Rattle.point_query.specs.Answers.{IsServedByFew}
 use Rattle.point_query.proofs.Querying.{same_met}
-use Rattle.split_search.specs.Choosing.{IsMetBy}
+use Rattle.set_family.specs.Meeting.{IsMetBy}
 use Rattle.pick_search.specs.Picking.{IsClash, IsPicked, ArePicksRuled, made_bits}
 use Rattle.pick_search.specs.declared.picks.Pick.{Pick}
 

@@ -2,7 +2,8 @@
 ghost use Rattle.constraint_set.specs.Shape.{shape_of};
 ghost use Rattle.pick_search.specs.Picking.{AreClashes, IsKnown, IsPartOf, IsTurn};
 ghost use Rattle.point_query.specs.Asking.{AskerGoes};
-ghost use Rattle.split_search.specs.Choosing.{IsChoice, IsMetBy, IsTidy};
+ghost use Rattle.set_family.specs.Meeting.{IsMetBy};
+ghost use Rattle.split_search.specs.Choosing.{IsChoice, IsTidy};
 ghost use Rattle.std.specs.Bool.{OnTrue};
 ghost use Rattle.std.specs.Prelude.{All, IfNone, IfOk, IfSome, IsTrue, OnOk, [], length, ◌<◌, ◌≡◌, ◌≤◌};
 ghost use Rattle.world_model.specs.Alive.{IsAlive, all_whole};

@@ -1,5 +1,5 @@
 -- What a search over pairs shows of a frame behind which no world lies.
-use Rattle.std.proofs.Common.{◌≡◌, ℕ, ◌<◌, ◌≤◌, ◌↔◌, Bool, true, List, [], ◌∷◌, ◌++◌, length, get_or, take, drop, take-append-drop, inl, inr, refl, sym, ap, ◌∙◌, subst, arith}
+use Rattle.std.proofs.Common.{◌≡◌, ℕ, ◌<◌, ◌≤◌, ◌↔◌, Bool, true, List, [], ◌∷◌, ◌++◌, length, get_or, take, drop, take-append-drop, inl, inr, sym, ap, ◌∙◌, subst, arith}
 use Rattle.std.specs.Prelude.{Contains, IsTrue, filter_map}
 use Rattle.std.specs.List.{list_all}
 use Rattle.std.proofs.lemmas.List.{length-take-le, get_or_default, take-take}
@@ -10,15 +10,14 @@ use Rattle.rcc5_core.specs.declared.Regions.{Regions}
 use Rattle.rcc5_core.specs.Region.{row_of}
 use Rattle.rcc5_core.specs.RelationSet.{has, only}
 use Rattle.world_model.specs.Problem.{Problem, Constraint, pairs, pair_count, constraints, kept_articulations, as_constraint, narrowed}
-use Rattle.world_model.specs.Family.{Family, holds, table_of, IsPossibleWorld}
+use Rattle.world_model.specs.Family.{Family, holds, IsPossibleWorld}
 use Rattle.world_model.specs.Node.{pair_at}
-use Rattle.world_model.specs.Questions.{IsMet}
 use Rattle.world_model.specs.Alive.{allowed, problem_at, narrowings_at, IsAlive}
 use Rattle.world_model.specs.Trial.{points_by_trial}
 use Rattle.world_model.proofs.Members.{In, contains_from_in, here, there, all_at, all_from, In-left, In-right, from_append}
 use Rattle.world_model.proofs.PointRules.{Met, met_parts, met_whole}
 use Rattle.world_model.proofs.PointAlive.{met_is_alive}
-use Rattle.world_model.proofs.PointOnce.{narrowed_beyond, at_empty}
+use Rattle.world_model.proofs.PointOnce.{narrowed_beyond}
 use Rattle.world_model.proofs.PointPositions.{relation_in, has-only, met_at_table, prefix_is_alive}
 use Rattle.world_model.proofs.Narrowed.{forced_only, only_some, only_inside}
 use Rattle.bit_rows.specs.Rows.{BitRows, bit_in}
@@ -27,7 +26,7 @@ use Rattle.point_ladder.specs.declared.stretches.Stretch.{Stretch}
 use Rattle.point_ladder.specs.Stretches.{stretch_at, HasFrames, IsInForce}
 use Rattle.point_ladder.specs.Bounds.{IsAliveIn}
 use Rattle.point_ladder.specs.Ladders.{Satisfies, AreRegionsMet, left_at, IsAliveFrame, LeadsOn, IsNarrowed, IsFrame, ShowsPair, BeginsNone}
-use Rattle.point_ladder.specs.Barren.{with_narrowings, IsBarren, IsFreeAt, IsStand, LiesNone, LiesNoneBy, AreNoneBy}
+use Rattle.point_ladder.specs.Barren.{with_narrowings, IsBarren, IsFreeAt, IsStand, LiesNone, AreNoneBy}
 use Rattle.point_ladder.proofs.Narrower.{IsNarrower, narrowings_of}
 use Rattle.point_ladder.proofs.Served.{alive_here, alive_next, frame_next, holds_next}
 use Rattle.point_ladder.proofs.Keeps.{alive_start, problem_of, points_of, path_of, Keeps, holds_here, holds_of}
@@ -201,36 +200,3 @@ stand_here s len i stretch is alive upto force read = record {
 -- the places of a stand's frame satisfy it
 pub stand_lives : (p : Problem) (sets : List RelSet) (from : ℕ) (tried : List ℕ) (rows : BitRows) (ns : List Constraint) → IsStand p sets from tried rows ns → IsAliveFrame rows
 stand_lives p sets from tried rows ns is = (alive_here (with_narrowings p ns) (points_by_trial p) rows is.alive.allow is.holds is.frame).1 is.alive
-
--- no family makes a problem with a relation at a free pair where that does not lead on, or where none lies behind
-pub none_with : (p : Problem) (sets : List RelSet) (from : ℕ) (rows : BitRows) (ns : List Constraint) (k : ℕ) (l r : ℕ → Bool) (old set : RelSet) (rel : Rel) →
-    IsTried p sets from [] rows ns k l r old set → (has set rel ≡ true → LiesNoneBy p sets from (k ∷ []) rows l r rel) → IsMet (with_narrowings p (ns ++ said_at p k (only rel) ∷ [])) → ⊥
-none_with p sets from rows ns k l r old set rel is none met =
-    let ms = ns ++ said_at p k (only rel) ∷ [] in
-    let alive : IsAlive (with_narrowings p ms) = met_is_alive (with_narrowings p ms) met in
-    let allows : has (allowed (with_narrowings p ns) (pair_at p k)) rel ≡ true = alive_allows p ns k rel is.free.within alive in
-    let leads : LeadsOn rows l r (row_of rel) =
-    subst (λ words. LeadsOn rows l r words) (forced_only rel)
-    ((alive_next p ns ms k (only rel) rows (points_by_trial p) l r (narrower p ns k rel is.free.within allows) is.stand.frame is.shows is.stand.alive.allow is.stand.holds).1 alive) in
-    let there : has set rel ≡ true = (is.has_alive rel).1 (ap (λ s. has s rel) (is.read ∙ is.stand.free k old is.free) ∙ allows, leads) in
-    let by = none there in
-    by.none ms (stand_next p sets from [] rows by.next ns k rel l r is.stand is.free is.shows allows leads by.narrowed) (table_of (with_narrowings p ms) met.0) (met.0, met.1, refl)
-
--- a pair of which nothing is said where the path is empty, and none was tried
-pub free_at_start : (p : Problem) (k : ℕ) → k < pair_count p → IsFreeAt p 0 [] k
-free_at_start p k within = record { within = within; behind = omega arith; apart = λ i. omega (arith, i.1) }
-
--- no family makes a ladder's problem with a relation at a pair, where its path is empty and none lies behind
-pub none_of_ladder : (s : Inside) (i k : ℕ) (stretch : Stretch) (old set : RelSet) (rel : Rel) (l r : ℕ → Bool) → Keeps s → IsAlive (problem_at (problem_of s) (path_of s)) → IsInForce s.stretches.items 0 i →
-    stretch ≡ get_or s.stretches.items i stretch → k < pair_count s.problem → ShowsPair (pair_at s.problem k) (points_of s) l r → old ≡ get_or s.sets.items k old →
-    ((rel : Rel) → IsTrue (has set rel) ↔ IsAliveIn stretch.frame l r old rel) → (has set rel ≡ true → LiesNoneBy s.problem s.sets.items 0 (k ∷ []) stretch.frame l r rel) →
-    IsMet (narrowed (problem_of s) (pair_at (problem_of s) k) (only rel)) → ⊥
-none_of_ladder s i k stretch old set rel l r is alive force read within shows was exact none =
-    none_with s.problem s.sets.items 0 stretch.frame (problem_of s).narrowings k l r old set rel
-    (record {
-      stand = subst (λ (q : Problem). IsStand s.problem s.sets.items 0 [] stretch.frame q.narrowings) (at_empty (problem_of s)) (stand_here s 0 i stretch is alive (omega arith) force read);
-      free = free_at_start s.problem k within;
-      shows = shows;
-      read = was;
-      has_alive = exact;
-    }) none

@@ -9,11 +9,10 @@ ghost use Rattle.point_ladder.specs.Barren.{IsFreeAt, LiesNone, LiesNoneBy, AreN
 
 use crate::bounds::bound;
 use crate::builder::narrowed;
-use crate::frame::{FIRST_OPEN, Frame};
+use crate::frame::Frame;
 use crate::sides::sides_of;
-use bit_rows::{Rows, Sides, first_place, has_bit};
+use bit_rows::{Rows, Sides};
 use constraint_set::Problem;
-use lits_core::Bits;
 use rcc5_core::{Rel, RelSet};
 use std::alloc::{AllocError, Global};
 
@@ -29,58 +28,22 @@ pub(crate) struct Ground<'a> {
     pub(crate) order: &'a [u32],
 }
 
-/// How many steps a search may take yet, the pairs at which it failed, whether points are wanted if it does not, and those that
-/// it found: hints.
+/// How many steps a search may take yet, and the pairs at which it failed: hints.
 #[derive(Drop)]
 pub(crate) struct Effort {
     pub(crate) left: usize,
     pub(crate) failed: Vec<u32>,
-    pub(crate) wanted: bool,
-    pub(crate) found: Option<Vec<Bits>>,
 }
 
 /// So many steps a search for a world takes at the most: where it takes longer, nothing is shown.
 const MOST_STEPS: usize = 1000;
 
 /// The effort of a new search.
-pub(crate) fn new_effort(alloc: Global, wanted: bool) -> Effort {
+pub(crate) fn new_effort(alloc: Global) -> Effort {
     Effort {
         left: MOST_STEPS,
         failed: Vec::new(alloc),
-        wanted,
-        found: None,
     }
-}
-
-// The point with a number, by the rows of the concepts.
-fn point_of(ground: &Ground, place: usize) -> Result<Bits, AllocError> {
-    let mut bits = Bits::new(ground.alloc, ground.rows.count())?;
-    for concept in 0..ground.rows.count() {
-        if has_bit(ground.rows.row(concept), place) {
-            bits.set(concept, true);
-        }
-    }
-    Ok(bits)
-}
-
-// Notes points that serve all rows of a frame: those that have to stay, and the first of each row of which one has to.
-fn note_found(ground: &Ground, frame: &Frame, effort: &mut Effort) -> Result<(), AllocError> {
-    if !effort.wanted {
-        return Ok(());
-    }
-    let mut points = Vec::new(ground.alloc);
-    for place in 0..frame.width().saturating_mul(64) {
-        if has_bit(frame.must(), place) {
-            points.push(point_of(ground, place)?)?;
-        }
-    }
-    for row in FIRST_OPEN..frame.count() {
-        if let Some(place) = first_place(frame.row(row)) {
-            points.push(point_of(ground, place)?)?;
-        }
-    }
-    effort.found = Some(points);
-    Ok(())
 }
 
 /// A frame that is soon dropped is made with no look at the rows before a new one: that would take longer than it saves.
@@ -113,16 +76,6 @@ pub(crate) fn move_to_front(order: &mut Vec<u32>, pair: u32) {
     }
 }
 
-/// An order with one more pair before the others.
-pub(crate) fn led_by(alloc: Global, pair: u32, order: &[u32]) -> Result<Vec<u32>, AllocError>
-    ensures { IfOk result (λ longer. longer.items ≡ pair ∷ order.now) }
-{
-    let mut longer = Vec::new(alloc);
-    longer.push(pair)?;
-    longer.extend_from_slice(order)?;
-    Ok(longer)
-}
-
 /// Moves some pairs before the others of an order, the last one first.
 pub(crate) fn move_all_to_front(order: &mut Vec<u32>, pairs: &[u32]) {
     for pair in pairs {
@@ -142,7 +95,7 @@ fn is_free(ground: &Ground, at: usize, pair: u32) -> bool
 
 // Whether no world lies behind a frame in which the pair at the place before has a relation.
 #[cycle(barren)]
-pub(crate) fn is_barren_by(
+fn is_barren_by(
     ground: &Ground,
     at: usize,
     frame: &Frame,
@@ -205,7 +158,6 @@ pub(crate) fn is_barren(
     ensures { IfOk result (λ none. none ≡ true → LiesNone ground.now.problem.now ground.now.sets.now ground.now.from (take at ground.now.order.now) frame.now) }
 {
     if at >= ground.order.len() {
-        note_found(ground, frame, effort)?;
         return Ok(false);
     }
     if effort.left == 0 {

@@ -9,12 +9,8 @@ ghost use Rattle.world_model.specs.Alive.{problem_at, IsAlive};
 ghost use Rattle.point_table.specs.Table.{AreRowsOf};
 ghost use Rattle.point_ladder.specs.Ladders.{BeginsNone, IsBoundOf, IsAlong, IsPushed};
 ghost use Rattle.point_ladder.specs.Bounds.{bound_to, AreBounds};
-ghost use Rattle.point_ladder.specs.declared.Sight.TheVariants.{Nothing};
 
-use crate::Sight;
-use crate::behind::{
-    Effort, Ground, is_barren, is_barren_by, led_by, move_all_to_front, move_to_front, new_effort,
-};
+use crate::behind::{Effort, Ground, is_barren, move_all_to_front, move_to_front, new_effort};
 use crate::bounds::{Bounds, bound, narrow_all};
 use crate::builder::{MOST_COMPARED, narrowed};
 use crate::sides::sides_of;
@@ -22,7 +18,6 @@ use crate::start::{begin, first_line, nexts_of, split_pairs};
 use crate::stretches::{Stretch, cut, in_force};
 use bit_rows::Rows;
 use constraint_set::Problem;
-use lits_core::Bits;
 use rcc5_core::{Rel, RelSet};
 use std::alloc::{AllocError, Global};
 use std::marker::Model;
@@ -67,19 +62,6 @@ const MOST_WORDS_A_PAIR: usize = 200;
 
 /// In such frames a search for a world behind a path takes so many steps at the most, since each takes as long as one of the walk.
 const FEW_STEPS: usize = 10;
-
-// What a look for a world comes to, by whether none was shown to be, and points that were found.
-fn sight_of(none: bool, found: Option<Vec<Bits>>) -> Sight
-    ensures { result ≡ Nothing → none ≡ true }
-{
-    if none {
-        return Sight::Nothing;
-    }
-    match found {
-        Some(points) => Sight::Points(points),
-        None => Sight::Unclear,
-    }
-}
 
 // The ladder at its start.
 fn stand(alloc: Global, problem: Problem, rows: Rows, bounds: Bounds) -> Result<Ladder, AllocError>
@@ -261,40 +243,13 @@ impl Ladder {
         ensures same { self.new ≡ self.old }
         ensures none { IfOk result (λ none. none ≡ true → BeginsNone self.old.problem (take len self.old.path)) }
     {
-        let mut effort = new_effort(self.alloc, false);
+        let mut effort = new_effort(self.alloc);
         if !self.is_small() {
             effort.left = FEW_STEPS;
         }
         let none = self.lies_none(len, &mut effort)?;
         move_all_to_front(&mut self.order, &effort.failed);
         Ok(none)
-    }
-
-    // Whether it is shown that no world has a relation at a pair, with so much effort.
-    fn has_none_with(&self, pair: u32, rel: Rel, effort: &mut Effort) -> Result<bool, AllocError>
-        requires alive { IsAlive (problem_at self.now.problem self.now.path) }
-        requires start { self.now.path ≡ [] }
-        requires within { pair < pair_count self.now.problem }
-        ensures { IfOk result (λ none. none ≡ true → IsMet (narrowed self.now.problem (pair_at self.now.problem pair) (only rel)) → ⊥) }
-    {
-        self.problem.facts();
-        let sides = sides_of(&self.problem, &self.rows, pair);
-        let place = in_force(&self.stretches, 0);
-        let frame = &self.stretches[place].frame;
-        let set = bound(frame, &sides, self.sets[pair as usize]);
-        if !set.has(rel) {
-            return Ok(true);
-        }
-        let order = led_by(self.alloc, pair, &self.order)?;
-        let ground = Ground {
-            alloc: self.alloc,
-            problem: &self.problem,
-            rows: &self.rows,
-            sets: &self.sets,
-            from: 0,
-            order: &order,
-        };
-        is_barren_by(&ground, 1, frame, &sides, rel, effort)
     }
 
     // Whether a look takes little beside asking for points one by one, which takes the longer the more pairs there are.
@@ -304,22 +259,6 @@ impl Ladder {
         };
         let words = first.frame.count().saturating_mul(first.frame.width());
         words.saturating_mul(self.order.len()) <= MOST_WORDS_A_PAIR.saturating_mul(self.sets.len())
-    }
-
-    /// Looks for a world that has a relation at a pair, where no relation is on the path.
-    pub fn look_for(&mut self, pair: u32, rel: Rel) -> Result<Sight, AllocError>
-        requires start { self.old.path ≡ [] }
-        requires within { pair < pair_count self.old.problem }
-        ensures same { self.new ≡ self.old }
-        ensures none { IfOk result (λ sight. sight ≡ Nothing → IsMet (narrowed self.old.problem (pair_at self.old.problem pair) (only rel)) → ⊥) }
-    {
-        if !self.is_alive() || !self.is_small() {
-            return Ok(Sight::Unclear);
-        }
-        let mut effort = new_effort(self.alloc, true);
-        let none = self.has_none_with(pair, rel, &mut effort)?;
-        move_all_to_front(&mut self.order, &effort.failed);
-        Ok(sight_of(none, effort.found.take()))
     }
 
     /// Has a pair tried before others where it is next to be shown that no world begins with a path: a hint.

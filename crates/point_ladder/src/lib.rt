@@ -15,18 +15,6 @@ mod words;
 
 pub use alone::alive_alone;
 pub use ladder::Ladder;
-use lits_core::Bits;
-
-/// What a look for a world comes to.
-#[derive(Drop)]
-pub enum Sight {
-    /// There is none.
-    Nothing,
-    /// Points of which there may be one, as a family: a hint.
-    Points(Vec<Bits>),
-    /// It would take longer.
-    Unclear,
-}
 
 /// A hint for who wants a ladder: a table of more points than these takes too long.
 pub const MOST_POINTS: usize = 65_536;

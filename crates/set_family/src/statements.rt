@@ -50,8 +50,8 @@ impl Family {
         self.is_covered(whole, parts) && self.are_within(parts, whole)
     }
 
-    // Whether what an articulation says holds.
-    fn articulation_holds(&self, articulation: &Articulation) -> bool
+    /// Whether what an articulation says holds.
+    pub fn articulation_holds(&self, articulation: &Articulation) -> bool
         ensures { result ≡ articulation_holds self.now articulation.now }
     {
         match articulation {

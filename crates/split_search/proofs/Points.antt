@@ -12,7 +12,7 @@ use Rattle.set_family.proofs.SetLists.{all_places_are_sets}
 use Rattle.point_query.specs.Answers.{IsServedByFew}
 use Rattle.cert_rules.specs.Trees.{node_problem}
 use Rattle.cert_rules.specs.ClaimLists.{split_pairs}
-use Rattle.split_search.specs.Choosing.{IsMetBy}
+use Rattle.set_family.specs.Meeting.{IsMetBy}
 use Rattle.split_search.specs.Walking.{split_tree}
 use Rattle.split_search.proofs.Whole.{whole_at_full, met_above}
 

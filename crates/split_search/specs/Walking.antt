@@ -20,7 +20,7 @@ use Rattle.split_search.specs.declared.visit.Visit.{Visit}
 use Rattle.split_search.specs.declared.visit.Visit.TheVariants.{Met, Past}
 use Rattle.split_search.specs.declared.visit.VisitEnd.{VisitEnd}
 use Rattle.split_search.specs.declared.visit.VisitEnd.TheVariants as turn
-use Rattle.split_search.specs.Choosing.{IsMetBy}
+use Rattle.set_family.specs.Meeting.{IsMetBy}
 use Rattle.split_search.specs.Claiming.{KeepsOpen}
 
 -- the tree over the split pairs of a problem

@@ -5,7 +5,7 @@ ghost use Rattle.constraint_set.specs.Shape.{shape_of};
 ghost use Rattle.point_query.specs.Asking.{AskerGoes};
 ghost use Rattle.cert_rules.specs.ClaimLists.{split_pairs};
 ghost use Rattle.cert_rules.specs.Trees.{node_problem};
-ghost use Rattle.split_search.specs.Choosing.{IsMetBy};
+ghost use Rattle.set_family.specs.Meeting.{IsMetBy};
 ghost use Rattle.split_search.specs.Walking.{IsWalk, split_tree};
 
 use crate::walk::NodePath;

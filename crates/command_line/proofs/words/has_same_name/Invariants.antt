@@ -1,6 +1,7 @@
-use Rattle.std.proofs.Common.{◌≡◌, [], drop}
-use Rattle.command_line.specs.Words.{gives_again}
+use Rattle.std.proofs.Common.{◌≡◌, drop}
+use Rattle.command_line.specs.Words.{has_same_name}
 use Rattle.command_line.proofs.words.has_same_name.Given as goal
 
-abbrev pub invariant-operands : goal.invariant-operands
-invariant-operands l = gives_again [] l.operands ≡ gives_again l.earlier.items (drop l.operand-index l.operands)
+-- none of the first operands gives a name that one behind it gives
+abbrev pub invariant-loop-place : goal.invariant-loop-place
+invariant-loop-place l = has_same_name l.operands ≡ has_same_name (drop l.place l.operands)

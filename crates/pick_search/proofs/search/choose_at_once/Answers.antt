@@ -1,7 +1,7 @@
 use Rattle.std.proofs.Common.{subst}
 use Rattle.std.specs.Prelude.{IfSome, IfNone}
 use Rattle.world_model.specs.Alive.{IsAlive}
-use Rattle.split_search.specs.Choosing.{IsMetBy}
+use Rattle.set_family.specs.Meeting.{IsMetBy}
 use Rattle.pick_search.proofs.search.choose_at_once.Goals as goal
 
 pub returns-in-Some-clause-choice : goal.returns-in-Some-clause-choice

@@ -1,5 +1,5 @@
 use Rattle.std.proofs.Common.{[], Some, None, sym, ◌∙◌, refl, subst}
-use Rattle.split_search.specs.Choosing.{IsMetBy}
+use Rattle.set_family.specs.Meeting.{IsMetBy}
 use Rattle.split_search.specs.Walking.{IsTurn, KeepsTree, turn_next}
 use Rattle.search_log.proofs.Logs.{log_stays_ok, log_memory, log_joins, log_ok_as, log_as, log_then_memory}
 use Rattle.search_log.proofs.Leading.{led_still, led_joins, led_after, led_before}

@@ -1,6 +1,6 @@
 use Rattle.std.proofs.Common.{ℕ, ◌<◌, ◌≤◌, length, get_or}
 use Rattle.conflict_clause.specs.Taught.{level_in}
-use Rattle.conflict_clause.proofs.analysis.highest.Given as goal
+use Rattle.conflict_clause.proofs.levels.highest.Given as goal
 
 abbrev pub invariant-loop-k : goal.invariant-loop-k
 invariant-loop-k l = record {
