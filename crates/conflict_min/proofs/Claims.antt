@@ -102,6 +102,12 @@ conflict_claimed kept one two claim is =
     All-cons (Contains (one ++ two)) (fails kept) (loss_claims kept) (Contains-append_left one two (fails kept) claim)
     (subst (All (Contains (one ++ two))) is (All-weaker (Contains two) (Contains (one ++ two)) (λ claim. Contains-append_right one two claim) two (All-contains_itself two)))
 
+-- just these are claimed
+pub conflict_told : (kept : List Bool) (one two : List Claim) → one ≡ claimed (Kept kept) false → two ≡ loss_claims kept → All (Contains (one ++ two)) (conflict_claims kept)
+conflict_told kept one two first second =
+    subst (λ claims. All (Contains claims) (conflict_claims kept)) (sym (ap (λ claims. claims ++ two) first ∙ ap (λ claims. claimed (Kept kept) false ++ claims) second))
+    (All-contains_itself (conflict_claims kept))
+
 -- that they hold together without the one at a place
 abbrev pub loss : List Bool → ℕ → Claim
 loss kept place = record { subject = Kept (set kept place false); holds = true }

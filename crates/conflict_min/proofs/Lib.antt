@@ -1,4 +1,4 @@
-mod Claims
-mod Fewer
+pub mod Claims
+mod Courses
 mod Flags
 mod Passes

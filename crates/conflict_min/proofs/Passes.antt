@@ -7,10 +7,11 @@ use Rattle.std.proofs.lemmas.Option.{same_Some, slice_get_read}
 use Rattle.world_model.specs.Problem.{Problem, restricted}
 use Rattle.world_model.specs.Family.{Family}
 use Rattle.world_model.specs.Questions.{HasFlags, IsConsistent, IsLeastConflict, flags_cmp}
-use Rattle.split_search.specs.Choosing.{IsMetBy}
+use Rattle.set_family.specs.Meeting.{IsMetBy}
 use Rattle.conflict_min.specs.Conflicts.{all_kept, places_from, AreLosses}
-use Rattle.conflict_min.specs.Shrinking.{cut, without_at, IsShrunk, IsWithin}
-use Rattle.conflict_min.proofs.Fewer.{consistent_fewer, met_by_fewer}
+use Rattle.kept_solver.specs.Keeping.{IsWithin}
+use Rattle.conflict_min.specs.Shrinking.{cut, without_at, IsShrunk}
+use Rattle.kept_solver.proofs.Fewer.{consistent_fewer, met_by_fewer}
 use Rattle.conflict_min.proofs.Flags.{cut_none, cut_more, cut_within, within_cut, IsBefore, is_before, set_back, places_more, places_less, places_within, place_found, item_beside}
 
 -- before any is tried

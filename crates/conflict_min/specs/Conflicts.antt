@@ -7,7 +7,7 @@ use Rattle.cert_text.specs.declared.line.Subject.TheVariants.{Kept}
 use Rattle.cert_rules.specs.ClaimLists.{Claim}
 use Rattle.search_log.specs.declared.fault.StepFault.{StepFault}
 use Rattle.search_log.specs.declared.fault.StepFault.TheVariants as step
-use Rattle.split_search.specs.Choosing.{IsMetBy}
+use Rattle.set_family.specs.Meeting.{IsMetBy}
 use Rattle.claim_blocks.specs.Blocks.{claimed}
 use Rattle.conflict_min.specs.declared.conflict.Conflict.{Conflict}
 use Rattle.conflict_min.specs.declared.conflict.ConflictFault.{ConflictFault}

@@ -1,12 +1,14 @@
 -- How far the articulations have been gone through.
-use Rattle.std.specs.Prelude.{◌≡◌, ℕ, ◌+◌, ◌≤◌, zero, suc, Bool, true, false, List, [], ◌∷◌, ◌++◌, length, take, drop, Some, slice_get, Contains, ◌⊎◌}
+use Rattle.std.specs.Prelude.{◌≡◌, ℕ, ◌+◌, ◌≤◌, zero, suc, Bool, false, List, [], ◌∷◌, ◌++◌, length, take, drop, Some, slice_get, Contains, ◌⊎◌}
 use Rattle.world_model.specs.Problem.{Problem, restricted}
 use Rattle.world_model.specs.Family.{Family}
 use Rattle.world_model.specs.Questions.{HasFlags, IsConsistent}
 use Rattle.cert_text.specs.declared.line.Subject.TheVariants.{Kept}
 use Rattle.cert_rules.specs.ClaimLists.{Claim}
-use Rattle.split_search.specs.Choosing.{IsMetBy}
+use Rattle.set_family.specs.Meeting.{IsMetBy}
+use Rattle.kept_solver.specs.Keeping.{IsClash}
 use Rattle.conflict_min.specs.Conflicts.{all_kept, places_from}
+use Rattle.conflict_min.specs.declared.points.Course.{Course}
 
 -- so many flags from a place on are taken off
 abbrev pub cut : List Bool → ℕ → ℕ → List Bool
@@ -39,6 +41,7 @@ pub record IsShrunk (p : Problem) (count : ℕ) (kept : List Bool) (families : L
 abbrev pub IsDropped : List Bool → List Bool → List Claim → Type 0
 IsDropped old new more = (new ≡ old) ⊎ Contains more (record { subject = Kept new; holds = false })
 
--- each flag that is true in one list is true in another
-abbrev pub IsWithin : List Bool → List Bool → Type 0
-IsWithin fewer more = (k : ℕ) → slice_get fewer k ≡ Some true → slice_get more k ≡ Some true
+-- the first so many articulations were gone through, and some of those kept are known to be in conflict
+pub record IsCourse (p : Problem) (count : ℕ) (course : Course) : Type 0 where
+  pub shrunk : IsShrunk p count course.kept.items course.families.items
+  pub clash : IsClash p course.kept.items course.core.items

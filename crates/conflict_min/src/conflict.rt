@@ -45,7 +45,7 @@ pub(crate) enum Outcome {
 ///
 /// The articulations are gone through in input order, and each is dropped without which those left are still in conflict. Whether
 /// the problem keeps all of them itself doesn't matter. A log is told the claims of the answer, with one more for each set that was
-/// tried, and no tree is left open.
+/// tried where no solver over points could tell, and no tree is left open.
 pub fn least_conflict<L: TreeLog>(
     alloc: Global,
     problem: &Problem,

@@ -2,7 +2,10 @@
 #![tactic(auto)]
 
 mod conflict;
+mod points;
+mod shown;
 mod shrink;
 mod tries;
 
 pub use conflict::{Conflict, ConflictFault, least_conflict};
+pub use shown::{refute_kept, show_kept};

@@ -1,26 +1,24 @@
 //! A pass over the articulations, by which those are dropped that are not needed.
-ghost use Rattle.std.specs.Prelude.{◌≡◌, ◌+◌, ◌<◌, ◌≤◌, true, false, length, set, IfOk, OnOk};
-ghost use Rattle.world_model.specs.Problem.{restricted};
-ghost use Rattle.world_model.specs.Questions.{HasFlags, IsConsistent};
+ghost use Rattle.std.specs.Prelude.{◌≡◌, ◌+◌, ◌<◌, ◌≤◌, length, IfOk, OnOk};
+ghost use Rattle.world_model.specs.Questions.{IsConsistent};
 ghost use Rattle.constraint_set.specs.Shape.{shape_of};
-ghost use Rattle.cert_text.specs.declared.line.Subject.TheVariants.{Kept};
 ghost use Rattle.search_log.specs.Leading.{KeepsLeading};
 ghost use Rattle.search_log.specs.Logging.{LogGoes};
-ghost use Rattle.split_search.specs.Choosing.{IsMetBy};
-ghost use Rattle.claim_blocks.specs.Blocks.{claimed, KeepsClaims};
-ghost use Rattle.conflict_min.specs.Conflicts.{all_kept, places_from, loss_claims, IsLeast, IsFound, IsClaimedOf};
+ghost use Rattle.claim_blocks.specs.Blocks.{KeepsClaims};
+ghost use Rattle.conflict_min.specs.Conflicts.{all_kept, IsLeast, IsFound, IsClaimedOf};
 ghost use Rattle.conflict_min.specs.Shrinking.{IsShrunk, IsDropped};
 
 use crate::conflict::{Conflict, Outcome};
-use crate::tries::{drop_some, settle_kept, try_without};
-use cert_text::{Flags, Subject, TreeLog};
-use claim_blocks::show;
+use crate::points::find_by_points;
+use crate::shown::{show_found, show_losses};
+use crate::tries::{all_flags, drop_some, settle_kept, try_without};
+use cert_text::TreeLog;
 use constraint_set::Problem;
 use point_query::Asker;
 use search_log::StepFault;
 use set_family::Family;
 use split_search::Choice;
-use std::alloc::{AllocError, Global};
+use std::alloc::Global;
 
 /// How far a pass over the articulations is.
 #[derive(Drop)]
@@ -142,86 +140,8 @@ fn shrink<L: TreeLog>(
     Ok(Conflict { kept, families })
 }
 
-// The places of the flags that are true.
-fn places_of(alloc: Global, kept: &[bool]) -> Result<Vec<usize>, AllocError>
-    ensures { IfOk result (λ places. places.items ≡ places_from 0 kept.now) }
-{
-    let mut places = Vec::new(alloc);
-    for (place, is_kept) in kept.iter().enumerate() {
-        if *is_kept {
-            places.push(place)?;
-        }
-    }
-    Ok(places)
-}
-
-// Claims that the articulations with these flags hold together without the one at a place, by a family that shows it.
-fn show_loss<L: TreeLog>(
-    alloc: Global,
-    problem: &Problem,
-    kept: &[bool],
-    place: usize,
-    family: &Family,
-    asker: &mut Asker,
-    log: &mut L,
-) -> Result<(), StepFault>
-    requires flags { HasFlags problem.now kept.now }
-    requires within { place < length kept.now }
-    requires met { IsMetBy (restricted problem.now (set kept.now place false)) family.now }
-    ensures shape { asker.new.shape ≡ asker.old.shape }
-    ensures keeps { KeepsClaims problem.now result (λ _ more. more ≡ claimed (Kept (set kept.now place false)) true) (L.lines log.old) (L.lines log.new) asker.old asker.new }
-    ensures leads { KeepsLeading (L.lines log.old) (L.lines log.new) asker.old asker.new }
-    ensures log { LogGoes L.drops L.lines L.faults L.steady L.quiet result log.old log.new }
-{
-    problem.facts();
-    let mut others = Vec::from_slice(alloc, kept)?;
-    others[place] = false;
-    let subject = Subject::Kept(Flags::new(others));
-    show(alloc, &subject, family, asker, log)
-}
-
-// Claims of each articulation of a conflict that the others hold together without it. Where nobody will read it, nothing is copied.
-fn show_losses<L: TreeLog>(
-    alloc: Global,
-    problem: &Problem,
-    conflict: &Conflict,
-    asker: &mut Asker,
-    log: &mut L,
-) -> Result<(), StepFault>
-    requires shape { asker.old.shape ≡ shape_of problem.now }
-    requires least { IsLeast problem.now conflict.now }
-    ensures shape { asker.new.shape ≡ asker.old.shape }
-    ensures keeps { KeepsClaims problem.now result (λ _ more. more ≡ loss_claims conflict.now.kept.items) (L.lines log.old) (L.lines log.new) asker.old asker.new }
-    ensures leads { KeepsLeading (L.lines log.old) (L.lines log.new) asker.old asker.new }
-    ensures log { LogGoes L.drops L.lines L.faults L.steady L.quiet result log.old log.new }
-{
-    if log.is_dropping() {
-        return Ok(());
-    }
-    let places = places_of(alloc, &conflict.kept)?;
-    'losses: for (nth, family) in conflict.families.iter().enumerate() {
-        show_loss(
-            alloc,
-            problem,
-            &conflict.kept,
-            places[nth],
-            family,
-            asker,
-            log,
-        )?;
-    }
-    Ok(())
-}
-
-// A flag for each articulation, all true.
-fn all_flags(alloc: Global, problem: &Problem) -> Result<Vec<bool>, AllocError>
-    ensures { IfOk result (λ flags. flags.items ≡ all_kept problem.now) }
-{
-    vec![in alloc; true; problem.articulation_count() as usize]
-}
-
-/// What is found of all articulations: a family that meets them, or their least conflict.
-pub(crate) fn find<L: TreeLog>(
+// What is found of all articulations by a search, which claims each set of them that it tries.
+fn find_by_picks<L: TreeLog>(
     alloc: Global,
     problem: &Problem,
     asker: &mut Asker,
@@ -242,5 +162,28 @@ pub(crate) fn find<L: TreeLog>(
             show_losses(alloc, problem, &conflict, asker, log)?;
             Ok(Outcome::Least(conflict))
         }
+    }
+}
+
+/// What is found of all articulations: a family that meets them, or their least conflict.
+pub(crate) fn find<L: TreeLog>(
+    alloc: Global,
+    problem: &Problem,
+    asker: &mut Asker,
+    log: &mut L,
+) -> Result<Outcome, StepFault>
+    requires shape { asker.old.shape ≡ shape_of problem.now }
+    ensures shape { asker.new.shape ≡ asker.old.shape }
+    ensures answer { IfOk result (IsFound problem.now) }
+    ensures keeps { KeepsClaims problem.now result (IsClaimedOf problem.now) (L.lines log.old) (L.lines log.new) asker.old asker.new }
+    ensures leads { KeepsLeading (L.lines log.old) (L.lines log.new) asker.old asker.new }
+    ensures log { LogGoes L.drops L.lines L.faults L.steady L.quiet result log.old log.new }
+{
+    match find_by_points(alloc, problem)? {
+        Some(outcome) => {
+            show_found(alloc, problem, &outcome, asker, log)?;
+            Ok(outcome)
+        }
+        None => find_by_picks(alloc, problem, asker, log),
     }
 }

@@ -8,6 +8,7 @@ ghost use Rattle.search_log.specs.Leading.{KeepsLeading};
 ghost use Rattle.search_log.specs.Logging.{LogGoes};
 ghost use Rattle.split_search.specs.Choosing.{IsChoice};
 ghost use Rattle.claim_blocks.specs.Blocks.{settled, KeepsClaims};
+ghost use Rattle.conflict_min.specs.Conflicts.{all_kept};
 ghost use Rattle.conflict_min.specs.Shrinking.{cut, IsCutOut, IsShrunk, IsDropped};
 
 use cert_text::{Flags, Subject, TreeLog};
@@ -18,6 +19,13 @@ use search_log::StepFault;
 use set_family::Family;
 use split_search::Choice;
 use std::alloc::{AllocError, Global};
+
+/// A flag for each articulation, all true.
+pub(crate) fn all_flags(alloc: Global, problem: &Problem) -> Result<Vec<bool>, AllocError>
+    ensures { IfOk result (λ flags. flags.items ≡ all_kept problem.now) }
+{
+    vec![in alloc; true; problem.articulation_count() as usize]
+}
 
 /// Whether the articulations with these flags hold together, and the claim that says so.
 pub(crate) fn settle_kept<L: TreeLog>(
@@ -40,8 +48,8 @@ pub(crate) fn settle_kept<L: TreeLog>(
     settle(alloc, &subject, &restricted, asker, log)
 }
 
-// One more family.
-fn add_family(families: &mut Vec<Family>, family: Family) -> Result<(), AllocError>
+/// One more family.
+pub(crate) fn add_family(families: &mut Vec<Family>, family: Family) -> Result<(), AllocError>
     ensures { OnOk result (families.new.items ≡ families.old.items ++ family ∷ []) }
 {
     families.push(family)?;

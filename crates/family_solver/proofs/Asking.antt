@@ -22,32 +22,32 @@ use Rattle.family_solver.proofs.Ruling.{none_there, rel_true, same_default, same
 use Rattle.family_solver.proofs.Truths.{number_small}
 
 -- a call of the solver keeps what makes the given clauses true
-given_stays : DerivedClausesFollow → LiteralsAreSets → (old new : SolverState) → GoesTo old new → (bits : List Bool) → meets_all bits new.state.given ≡ meets_all bits old.state.given
+pub given_stays : DerivedClausesFollow → LiteralsAreSets → (old new : SolverState) → GoesTo old new → (bits : List Bool) → meets_all bits new.state.given ≡ meets_all bits old.state.given
 given_stays follow law old new goes bits =
     sym (same_met law bits (state_after old.state goes.added).given new.state.given goes.leads.after.same_given) ∙ ap (meets_all bits) (follow.given_stay old.state goes.added)
 
 pub ruled_stays : DerivedClausesFollow → LiteralsAreSets → (p : Problem) (g : Ground) (old new : SolverState) → GoesTo old new → IsRuled p g old → IsRuled p g new
-ruled_stays follow law p g old new goes ruled f met = given_stays follow law old new goes (truths p g f) ∙ ruled f met
+ruled_stays follow law p g old new goes ruled f more met = given_stays follow law old new goes (truths p g f more) ∙ ruled f more met
 
 -- so it stays such a solver
 pub solver_stays : DerivedClausesFollow → LiteralsAreSets → (p : Problem) (g : Ground) (one : FamilySolver) (mid new : SolverState) → mid ≡ record one.solver { waiting = [] } → GoesTo mid new → IsFamilySolver p g one →
     IsFamilySolver p g (record { solver = new })
 solver_stays follow law p g one mid new is goes before = record {
-  variables = goes.variables ∙ ap (λ s. s.variables) is ∙ before.variables;
-  ruled = ruled_stays follow law p g mid new goes (λ f met. ap (λ s. meets_all (truths p g f) s.state.given) is ∙ before.ruled f met);
+  variables = omega (arith, goes.variables ∙ ap (λ s. s.variables) is, before.variables);
+  ruled = ruled_stays follow law p g mid new goes (λ f more met. ap (λ s. meets_all (truths p g f more) s.state.given) is ∙ before.ruled f more met);
 }
 
 -- where no bits meet all clauses and some literals, no family makes these true
 pub refuted : (p : Problem) (g : Ground) (new : SolverState) (lits : List ℕ) (id : ℕ) → IsFamilySolver p g (record { solver = new }) → IsRefutation new lits id → IsHopeless p g lits
-refuted p g new lits id is refutation f met holds = refutation.hopeless (truths p g f) (is.ruled f met) holds
+refuted p g new lits id is refutation f more met holds = refutation.hopeless (truths p g f more) (is.ruled f more met) holds
 
 -- a family with a relation makes true what is assumed for it
 assumed_true : (p : Problem) (g : Ground) (place : ℕ) (rel : Rel) (lits : List ℕ) → AreAssumed p g place rel lits → place < length g.pairs.items →
-    (pair_at p (get_or g.pairs.items place 0)).0 < concept_count p → (pair_at p (get_or g.pairs.items place 0)).1 < concept_count p → (f : Family) → relation_at p g.pairs.items f place ≡ rel →
-    list_all (lit_true (truths p g f)) lits ≡ true
-assumed_true p g place rel lits assumed within left right f has = all_from (lit_true (truths p g f)) lits (λ lit i. elim (assumed lit (contains_from_in i)) [
-  | inl is ↦ ap (lit_true (truths p g f)) is ∙ rel_true p g f place rel within has
-  | inr barred ↦ ap (lit_true (truths p g f)) barred.is ∙ none_there p g f place rel barred.region (pair_at p (get_or g.pairs.items place 0)) barred.point has refl left right barred.empty barred.within barred.lies
+    (pair_at p (get_or g.pairs.items place 0)).0 < concept_count p → (pair_at p (get_or g.pairs.items place 0)).1 < concept_count p → (f : Family) (more : List Bool) → relation_at p g.pairs.items f place ≡ rel →
+    list_all (lit_true (truths p g f more)) lits ≡ true
+assumed_true p g place rel lits assumed within left right f more has = all_from (lit_true (truths p g f more)) lits (λ lit i. elim (assumed lit (contains_from_in i)) [
+  | inl is ↦ ap (lit_true (truths p g f more)) is ∙ rel_true p g f more place rel within has
+  | inr barred ↦ ap (lit_true (truths p g f more)) barred.is ∙ none_there p g f more place rel barred.region (pair_at p (get_or g.pairs.items place 0)) barred.point has refl left right barred.empty barred.within barred.lies
 ])
 
 -- so none has it where what is assumed is hopeless
@@ -57,7 +57,7 @@ refused law p g ground place rel lits assumed within hopeless f met has =
     let k = get_or g.pairs.items place 0 in
     let pair = pair_at p k in
     let small = law.no_others p pair.0 pair.1 (k, ground.pairs place 0 within, same_default (pairs p) k (pair.0, pair.1) (0, 0) (ground.pairs place 0 within)) in
-    hopeless f met (assumed_true p g place rel lits assumed within (omega (arith, small)) small.1 f has)
+    hopeless f [] met (assumed_true p g place rel lits assumed within (omega (arith, small)) small.1 f [] has)
 
 -- the variable of what is assumed
 so_variable : (g : Ground) (place : ℕ) (rel : Rel) (lit : ℕ) → lit ≡ is_so (rel_variable g place rel) → variable_of lit ≡ rel_variable g place rel

@@ -1,10 +1,10 @@
 -- What a family makes of the variables.
-use Rattle.std.proofs.Common.{◌≡◌, ℕ, zero, suc, ◌+◌, ◌*◌, ◌/◌, ◌%◌, ◌<◌, Bool, true, false, not, List, [], map, length, inl, inr, refl, sym, ap, ◌∙◌, arith}
+use Rattle.std.proofs.Common.{◌≡◌, ℕ, zero, suc, ◌+◌, ◌*◌, ◌/◌, ◌%◌, ◌<◌, Bool, true, false, not, List, [], ◌++◌, map, length, inl, inr, refl, sym, ap, ◌∙◌, arith}
 use Rattle.std.specs.Prelude.{nat_lt, ◌==◌}
 use Rattle.std.specs.List.{list_all, range_with_len}
 use Rattle.std.proofs.lemmas.Bool.{and_parts, cases_lt, eqb-true, false≢true, ltb-true}
 use Rattle.std.proofs.lemmas.List.{get_or_append_left, get_or-append-add, get_or-map, get_or_past, length-map}
-use Rattle.std.proofs.lemmas.List.FromFn.{get_or-map-range_with_len}
+use Rattle.std.proofs.lemmas.List.FromFn.{get_or-map-range_with_len, length-map-range_with_len}
 use Rattle.rcc5_core.specs.Relation.{is_in, rank_of}
 use Rattle.rcc5_core.specs.declared.Rel.{Rel}
 use Rattle.rcc5_core.specs.declared.Rel.TheVariants.{Disjoint, Equals, IncludedIn, Includes, Overlaps}
@@ -17,7 +17,7 @@ use Rattle.world_model.proofs.Members.{In-get_or, In-range, all_at, all_from, an
 use Rattle.world_model.proofs.PointFamilies.{bits_at, bits_show, in_from_is, is_seen, seen_from}
 use Rattle.world_model.proofs.PointSets.{same_bool_at}
 use Rattle.world_model.proofs.PointRules.{same_bool_from}
-use Rattle.family_solver.specs.Showing.{has_element, has_point, rel_variable, relation_at, shown_bits, truths}
+use Rattle.family_solver.specs.Showing.{has_element, has_point, rel_variable, relation_at, shown_bits, truths, variable_count}
 use Rattle.family_solver.specs.declared.ground.Ground.{Ground}
 
 -- relations have different numbers, below five
@@ -46,25 +46,41 @@ pub same_number : (a b : Rel) → rank_of a ≡ rank_of b → a ≡ b
 same_number a b same = sym (numbered a) ∙ ap of_number same ∙ numbered b
 
 -- the bit of a point
-pub point_bit : (p : Problem) (g : Ground) (f : Family) (k : ℕ) → k < length g.points.items → bit_of (truths p g f) k ≡ has_point p f (point_at g.points.items k)
-point_bit p g f k within =
-    get_or_append_left (map (has_point p f) g.points.items) (shown_bits p g.pairs.items f) false k (omega (arith, within, length-map g.points.items (has_point p f))) ∙
+pub point_bit : (p : Problem) (g : Ground) (f : Family) (more : List Bool) (k : ℕ) → k < length g.points.items → bit_of (truths p g f more) k ≡ has_point p f (point_at g.points.items k)
+point_bit p g f more k within =
+    get_or_append_left (map (has_point p f) g.points.items) (shown_bits p g.pairs.items f ++ more) false k (omega (arith, within, length-map g.points.items (has_point p f))) ∙
     get_or-map (has_point p f) g.points.items k [] false within
 
+-- there are five bits a place
+shown_length : (p : Problem) (pairs : List ℕ) (f : Family) → length (shown_bits p pairs f) ≡ 5 * length pairs
+shown_length p pairs f = length-map-range_with_len (λ k. rank_of (relation_at p pairs f (k / 5)) == k % 5) 0 (5 * length pairs)
+
 -- the bit of a relation at a place
-pub rel_bit : (p : Problem) (g : Ground) (f : Family) (place : ℕ) (rel : Rel) → place < length g.pairs.items →
-    bit_of (truths p g f) (rel_variable g place rel) ≡ (rank_of (relation_at p g.pairs.items f place) == rank_of rel)
-rel_bit p g f place rel within =
+pub rel_bit : (p : Problem) (g : Ground) (f : Family) (more : List Bool) (place : ℕ) (rel : Rel) → place < length g.pairs.items →
+    bit_of (truths p g f more) (rel_variable g place rel) ≡ (rank_of (relation_at p g.pairs.items f place) == rank_of rel)
+rel_bit p g f more place rel within =
     let pairs = g.pairs.items in
     let small = number_small rel in
     let v = 5 * place + rank_of rel in
     let at : v / 5 ≡ place = omega (arith, small) in
     let rest : v % 5 ≡ rank_of rel = omega (arith, small) in
     let front = map (has_point p f) g.points.items in
-    ap (λ n. bit_of (truths p g f) (n + v)) (sym (length-map g.points.items (has_point p f))) ∙
-    get_or-append-add front (shown_bits p pairs f) v false ∙
-    get_or-map-range_with_len (λ k. rank_of (relation_at p pairs f (k / 5)) == k % 5) 0 (5 * length pairs) v v false (omega (arith, small, within)) (omega arith) ∙
+    let inside : v < 5 * length pairs = omega (arith, small, within) in
+    ap (λ n. bit_of (truths p g f more) (n + v)) (sym (length-map g.points.items (has_point p f))) ∙
+    get_or-append-add front (shown_bits p pairs f ++ more) v false ∙
+    get_or_append_left (shown_bits p pairs f) more false v (omega (arith, inside, shown_length p pairs f)) ∙
+    get_or-map-range_with_len (λ k. rank_of (relation_at p pairs f (k / 5)) == k % 5) 0 (5 * length pairs) v v false inside (omega arith) ∙
     ap (λ k. rank_of (relation_at p pairs f k) == v % 5) at ∙ ap (λ k. rank_of (relation_at p pairs f place) == k) rest
+
+-- the bits of what else is said stand last
+pub more_bit : (p : Problem) (g : Ground) (f : Family) (more : List Bool) (k : ℕ) → bit_of (truths p g f more) (variable_count g + k) ≡ bit_of more k
+more_bit p g f more k =
+    let front = map (has_point p f) g.points.items in
+    let shown = shown_bits p g.pairs.items f in
+    let one : length front ≡ length g.points.items = length-map g.points.items (has_point p f) in
+    let two : length shown ≡ 5 * length g.pairs.items = shown_length p g.pairs.items f in
+    let at : variable_count g + k ≡ length front + (length shown + k) = omega (arith, one, two) in
+    ap (bit_of (truths p g f more)) at ∙ get_or-append-add front (shown ++ more) (length shown + k) false ∙ get_or-append-add shown more k false
 
 -- a family has a set for each concept
 pub sets_full : (p : Problem) (f : Family) → fits_concepts p f ≡ true → length f.sets ≡ concept_count p

@@ -1,5 +1,5 @@
 -- What a family shows of the points and the pairs of a problem, and what a solver is told of it.
-use Rattle.std.specs.Prelude.{All, Bool, Contains, IsTrue, List, [], ℕ, length, map, not, slice_index_or, ◌%◌, ◌*◌, ◌+◌, ◌++◌, ◌/◌, ◌<◌, ◌==◌, ◌^◌, ◌≡◌, ◌⊎◌}
+use Rattle.std.specs.Prelude.{All, Bool, Contains, IsTrue, List, [], ℕ, length, map, not, slice_index_or, ◌%◌, ◌*◌, ◌+◌, ◌++◌, ◌/◌, ◌<◌, ◌==◌, ◌^◌, ◌≡◌, ◌≤◌, ◌⊎◌}
 use Rattle.std.specs.List.{list_all, list_any, range_with_len}
 use Rattle.cert_model.specs.Clauses.{is_not, is_so}
 use Rattle.learn_solver.specs.Solving.{SolverState}
@@ -12,7 +12,7 @@ use Rattle.rcc5_core.specs.declared.Region.{Region}
 use Rattle.rcc5_core.specs.declared.Region.TheVariants.{Both, LeftOnly, RightOnly}
 use Rattle.rcc5_core.specs.declared.Rel.{Rel}
 use Rattle.rcc5_core.specs.declared.RelSet.{RelSet}
-use Rattle.set_family.specs.Sets.{is_set_below}
+use Rattle.set_family.specs.Meeting.{IsMetBy}
 use Rattle.watch_arena.specs.Trails.{AreInRange}
 use Rattle.world_model.specs.Alive.{bit_of, lies_in, point_at, same_bool}
 use Rattle.world_model.specs.Family.{Family, meets, set_of}
@@ -37,15 +37,15 @@ relation_at p pairs f place = relation_of (set_of f (pair_at p (slice_index_or p
 abbrev pub shown_bits : Problem → List ℕ → Family → List Bool
 shown_bits p pairs f = map (λ v. rank_of (relation_at p pairs f (v / 5)) == v % 5) (range_with_len 0 (5 * length pairs))
 
--- what a family makes of all variables: one a point, then five a place
-abbrev pub truths : Problem → Ground → Family → List Bool
-truths p g f = map (has_point p f) g.points.items ++ shown_bits p g.pairs.items f
+-- what a family makes of all variables: one a point, then five a place, and then what else is said
+abbrev pub truths : Problem → Ground → Family → List Bool → List Bool
+truths p g f more = map (has_point p f) g.points.items ++ (shown_bits p g.pairs.items f ++ more)
 
 -- the variable that says that the pair at a place has a relation
 abbrev pub rel_variable : Ground → ℕ → Rel → ℕ
 rel_variable g place rel = length g.points.items + (5 * place + rank_of rel)
 
--- how many variables there are
+-- how many variables there are of points and places
 abbrev pub variable_count : Ground → ℕ
 variable_count g = length g.points.items + 5 * length g.pairs.items
 
@@ -55,24 +55,24 @@ pub record IsGround (p : Problem) (g : Ground) : Type 0 where
   pub pairs : All (λ pair. pair < pair_count p) g.pairs.items
   pub few : variable_count g < 2 ^ 31
 
--- each family that meets a problem makes a clause true
+-- each family that meets a problem makes a clause true, whatever else is said
 abbrev pub IsSo : Problem → Ground → List ℕ → Type 0
-IsSo p g lits = (f : Family) → IsTrue (meets p f) → IsTrue (clause_true (truths p g f) lits)
+IsSo p g lits = (f : Family) (more : List Bool) → IsTrue (meets p f) → IsTrue (clause_true (truths p g f more) lits)
 
 -- and it makes the given clauses of a solver true
 abbrev pub IsRuled : Problem → Ground → SolverState → Type 0
-IsRuled p g s = (f : Family) → IsTrue (meets p f) → IsTrue (meets_all (truths p g f) s.state.given)
+IsRuled p g s = (f : Family) (more : List Bool) → IsTrue (meets p f) → IsTrue (meets_all (truths p g f more) s.state.given)
 
 -- such a solver while it is built: it has derived nothing yet
 pub record IsBegun (p : Problem) (g : Ground) (s : SolverState) : Type 0 where
-  pub variables : s.variables ≡ variable_count g
+  pub variables : variable_count g ≤ s.variables
   pub derived : s.state.derived ≡ []
   pub waiting : s.waiting ≡ []
   pub ruled : IsRuled p g s
 
 -- such a solver from question to question
 pub record IsFamilySolver (p : Problem) (g : Ground) (solver : FamilySolver) : Type 0 where
-  pub variables : solver.solver.variables ≡ variable_count g
+  pub variables : variable_count g ≤ solver.solver.variables
   pub ruled : IsRuled p g solver.solver
 
 -- literals have each of the first points that lies in a region of two concepts
@@ -87,7 +87,7 @@ has_element RightOnly xs ys = not (is_subset ys xs)
 
 -- in each family that meets a problem, some literals say what is so, or the region of a pair has an element
 abbrev pub IsSoOrSeen : Problem → Ground → List ℕ → ℕ × ℕ → Region → Type 0
-IsSoOrSeen p g lits pair region = (f : Family) → IsTrue (meets p f) → IsTrue (clause_true (truths p g f) lits) ⊎ IsTrue (has_element region (set_of f pair.0) (set_of f pair.1))
+IsSoOrSeen p g lits pair region = (f : Family) (more : List Bool) → IsTrue (meets p f) → IsTrue (clause_true (truths p g f more) lits) ⊎ IsTrue (has_element region (set_of f pair.0) (set_of f pair.1))
 
 -- a clause has a literal for each relation of a set at a place, and is of the variables up to these
 pub record IsRule (g : Ground) (place : ℕ) (set : RelSet) (lits : List ℕ) : Type 0 where
@@ -113,21 +113,16 @@ AreAssumed p g place rel lits = (lit : ℕ) → Contains lits lit → (lit ≡ i
 
 -- no family that meets a problem makes all of some literals true
 abbrev pub IsHopeless : Problem → Ground → List ℕ → Type 0
-IsHopeless p g lits = (f : Family) → IsTrue (meets p f) → IsTrue (list_all (lit_true (truths p g f)) lits) → ⊥
-
--- a family, with sets of numbers below its own, meets a problem
-pub record IsShown (p : Problem) (f : Family) : Type 0 where
-  pub sets : IsTrue (list_all (is_set_below f.universe) f.sets)
-  pub met : IsTrue (meets p f)
+IsHopeless p g lits = (f : Family) (more : List Bool) → IsTrue (meets p f) → IsTrue (list_all (lit_true (truths p g f more)) lits) → ⊥
 
 -- what is answered of the problem alone
 abbrev pub IsFound : Problem → Grant → Type 0
-IsFound p (Met f) = IsShown p f
+IsFound p (Met f) = IsMetBy p f
 IsFound p Refuted = IsMet p → ⊥
 IsFound p Unclear = Unit {0}
 
 -- what is answered of a relation at a place
 abbrev pub IsGranted : Problem → List ℕ → ℕ → Rel → Grant → Type 0
-IsGranted p pairs place rel (Met f) = IsShown p f × (relation_at p pairs f place ≡ rel)
+IsGranted p pairs place rel (Met f) = IsMetBy p f × (relation_at p pairs f place ≡ rel)
 IsGranted p pairs place rel Refuted = (f : Family) → IsTrue (meets p f) → relation_at p pairs f place ≡ rel → ⊥
 IsGranted p pairs place rel Unclear = Unit {0}

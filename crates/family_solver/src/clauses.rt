@@ -19,8 +19,8 @@ use world_model::trial_is_right;
 /// The regions of a pair.
 pub(crate) const REGIONS: [Region; 3] = [Region::LeftOnly, Region::Both, Region::RightOnly];
 
-// A concept's bit in a point.
-fn bit(point: &Bits, concept: u32) -> bool
+/// Whether a point lies in a concept.
+pub fn has_concept(point: &Bits, concept: u32) -> bool
     ensures { result ≡ bit_of point.now concept }
 {
     (concept as usize) < point.len() && point.get(concept as usize)
@@ -30,8 +30,8 @@ fn bit(point: &Bits, concept: u32) -> bool
 pub(crate) fn lies(point: &Bits, pair: (u32, u32), region: Region) -> bool
     ensures { result ≡ lies_in region pair point.now }
 {
-    let left = bit(point, pair.0);
-    let right = bit(point, pair.1);
+    let left = has_concept(point, pair.0);
+    let right = has_concept(point, pair.1);
     match region {
         Region::LeftOnly => left && !right,
         Region::Both => left && right,
@@ -101,7 +101,8 @@ pub(crate) fn give(
     requires range { AreInRange lits.now (variable_count ground.now) }
     requires so { IsSo problem.now ground.now lits.now }
     requires begun { IsBegun problem.now ground.now solver.old }
-    ensures { OnOk result (IsBegun problem.now ground.now solver.new) }
+    ensures begun { OnOk result (IsBegun problem.now ground.now solver.new) }
+    ensures exact { OnOk result (solver.new.variables ≡ solver.old.variables) }
 {
     law_literals_are_sets();
     solver.add(lits)?;
@@ -121,7 +122,8 @@ pub(crate) fn give_region(
     requires range { AreInRange lits.items (variable_count ground.now) }
     requires so { IsSoOrSeen problem.now ground.now lits.items pair region }
     requires begun { IsBegun problem.now ground.now solver.old }
-    ensures { OnOk result (IsBegun problem.now ground.now solver.new) }
+    ensures begun { OnOk result (IsBegun problem.now ground.now solver.new) }
+    ensures exact { OnOk result (solver.new.variables ≡ solver.old.variables) }
 {
     trial_is_right();
     let mut lits = lits;
@@ -140,7 +142,8 @@ fn give_concept(
     requires ground { IsGround problem.now ground.now }
     requires concept { concept < concept_count problem.now }
     requires begun { IsBegun problem.now ground.now solver.old }
-    ensures { OnOk result (IsBegun problem.now ground.now solver.new) }
+    ensures begun { OnOk result (IsBegun problem.now ground.now solver.new) }
+    ensures exact { OnOk result (solver.new.variables ≡ solver.old.variables) }
 {
     if problem.switches().nonempty {
         let lits = Vec::new(alloc);
@@ -168,7 +171,8 @@ fn give_forced(
     requires ground { IsGround problem.now ground.now }
     requires pair { pair < pair_count problem.now }
     requires begun { IsBegun problem.now ground.now solver.old }
-    ensures { OnOk result (IsBegun problem.now ground.now solver.new) }
+    ensures begun { OnOk result (IsBegun problem.now ground.now solver.new) }
+    ensures exact { OnOk result (solver.new.variables ≡ solver.old.variables) }
 {
     if is_occupied(forced(problem.allowed(pair)).at(region)) {
         let lits = Vec::new(alloc);
@@ -188,7 +192,8 @@ fn give_pair(
     requires ground { IsGround problem.now ground.now }
     requires pair { pair < pair_count problem.now }
     requires begun { IsBegun problem.now ground.now solver.old }
-    ensures { OnOk result (IsBegun problem.now ground.now solver.new) }
+    ensures begun { OnOk result (IsBegun problem.now ground.now solver.new) }
+    ensures exact { OnOk result (solver.new.variables ≡ solver.old.variables) }
 {
     'regions: for region in REGIONS {
         give_forced(alloc, solver, problem, ground, pair, region)?;
@@ -205,7 +210,8 @@ pub(crate) fn give_needs(
 ) -> Result<(), AllocError>
     requires ground { IsGround problem.now ground.now }
     requires begun { IsBegun problem.now ground.now solver.old }
-    ensures { OnOk result (IsBegun problem.now ground.now solver.new) }
+    ensures begun { OnOk result (IsBegun problem.now ground.now solver.new) }
+    ensures exact { OnOk result (solver.new.variables ≡ solver.old.variables) }
 {
     for concept in 0..problem.concept_count() {
         give_concept(alloc, solver, problem, ground, concept)?;

@@ -36,8 +36,8 @@ fn rank(rel: Rel) -> u32
     }
 }
 
-// The literal that says that the pair at a place has a relation, or has it not.
-pub(crate) fn rel_lit(ground: &Ground, place: usize, rel: Rel, negative: bool) -> Lit
+/// The literal that says that the pair at a place has a relation, or has it not.
+pub fn rel_lit(ground: &Ground, place: usize, rel: Rel, negative: bool) -> Lit
     requires few { variable_count ground.now < 2 ^ 31 }
     requires place { place < length ground.now.pairs.items }
     ensures { result ≡ literal_of (rel_variable ground.now place rel) negative }
@@ -68,8 +68,13 @@ fn push_rel(
     Ok(())
 }
 
-// The clause that the pair at a place has a relation of a set.
-fn rule(alloc: Global, ground: &Ground, place: usize, set: RelSet) -> Result<Vec<Lit>, AllocError>
+/// The clause that the pair at a place has a relation of a set.
+pub fn rule(
+    alloc: Global,
+    ground: &Ground,
+    place: usize,
+    set: RelSet,
+) -> Result<Vec<Lit>, AllocError>
     requires few { variable_count ground.now < 2 ^ 31 }
     requires place { place < length ground.now.pairs.items }
     ensures { IfOk result (λ lits. IsRule ground.now place set lits.items) }
@@ -94,7 +99,8 @@ fn give_rule(
     requires ground { IsGround problem.now ground.now }
     requires place { place < length ground.now.pairs.items }
     requires begun { IsBegun problem.now ground.now solver.old }
-    ensures { OnOk result (IsBegun problem.now ground.now solver.new) }
+    ensures begun { OnOk result (IsBegun problem.now ground.now solver.new) }
+    ensures exact { OnOk result (solver.new.variables ≡ solver.old.variables) }
 {
     let lits = rule(alloc, ground, place, problem.allowed(ground.pairs[place]))?;
     give(solver, problem, ground, &lits)
@@ -113,7 +119,8 @@ fn give_occupied(
     requires ground { IsGround problem.now ground.now }
     requires place { place < length ground.now.pairs.items }
     requires begun { IsBegun problem.now ground.now solver.old }
-    ensures { OnOk result (IsBegun problem.now ground.now solver.new) }
+    ensures begun { OnOk result (IsBegun problem.now ground.now solver.new) }
+    ensures exact { OnOk result (solver.new.variables ≡ solver.old.variables) }
 {
     if is_occupied(rel.row().at(region)) {
         let pair = problem.pair_at(ground.pairs[place]);
@@ -139,7 +146,8 @@ fn give_barred(
     requires place { place < length ground.now.pairs.items }
     requires point { point < length ground.now.points.items }
     requires begun { IsBegun problem.now ground.now solver.old }
-    ensures { OnOk result (IsBegun problem.now ground.now solver.new) }
+    ensures begun { OnOk result (IsBegun problem.now ground.now solver.new) }
+    ensures exact { OnOk result (solver.new.variables ≡ solver.old.variables) }
 {
     let pair = problem.pair_at(ground.pairs[place]);
     if is_empty(rel.row().at(region)) && lies(&ground.points[point], pair, region) {
@@ -164,7 +172,8 @@ fn give_empty(
     requires ground { IsGround problem.now ground.now }
     requires place { place < length ground.now.pairs.items }
     requires begun { IsBegun problem.now ground.now solver.old }
-    ensures { OnOk result (IsBegun problem.now ground.now solver.new) }
+    ensures begun { OnOk result (IsBegun problem.now ground.now solver.new) }
+    ensures exact { OnOk result (solver.new.variables ≡ solver.old.variables) }
 {
     for point in 0..ground.points.len() {
         give_barred(solver, problem, ground, place, rel, region, point)?;
@@ -172,8 +181,8 @@ fn give_empty(
     Ok(())
 }
 
-// Gives a solver what a relation of the pair at a place says of its regions. What is empty is left to the questions where the pair
-// allows a whole set.
+// Gives a solver what a relation of the pair at a place says of its regions: of those that are occupied, and, if that is wanted, of
+// the empty ones.
 fn give_relation(
     alloc: Global,
     solver: &mut Solver,
@@ -181,42 +190,47 @@ fn give_relation(
     ground: &Ground,
     place: usize,
     rel: Rel,
-    whole: bool,
+    empties: bool,
 ) -> Result<(), AllocError>
     requires ground { IsGround problem.now ground.now }
     requires place { place < length ground.now.pairs.items }
     requires begun { IsBegun problem.now ground.now solver.old }
-    ensures { OnOk result (IsBegun problem.now ground.now solver.new) }
+    ensures begun { OnOk result (IsBegun problem.now ground.now solver.new) }
+    ensures exact { OnOk result (solver.new.variables ≡ solver.old.variables) }
 {
     'regions: for region in REGIONS {
         give_occupied(alloc, solver, problem, ground, place, rel, region)?;
-        if !whole {
+        if empties && is_empty(rel.row().at(region)) {
             give_empty(solver, problem, ground, place, rel, region)?;
         }
     }
     Ok(())
 }
 
-// Gives a solver what the relations that the pair at a place allows say of its regions.
+// Gives a solver what the relations that the pair at a place allows say of its regions. Where the pair allows a whole set, what is
+// empty is given only if that is wanted: else it is left to the questions.
 fn give_place(
     alloc: Global,
     solver: &mut Solver,
     problem: &Problem,
     ground: &Ground,
     place: usize,
+    empties: bool,
 ) -> Result<(), AllocError>
     requires ground { IsGround problem.now ground.now }
     requires place { place < length ground.now.pairs.items }
     requires begun { IsBegun problem.now ground.now solver.old }
-    ensures { OnOk result (IsBegun problem.now ground.now solver.new) }
+    ensures begun { OnOk result (IsBegun problem.now ground.now solver.new) }
+    ensures exact { OnOk result (solver.new.variables ≡ solver.old.variables) }
 {
     let set = problem.allowed(ground.pairs[place]);
+    let empties = empties || !set.is_whole();
     if !set.is_whole() {
         give_rule(alloc, solver, problem, ground, place)?;
     }
     'rels: for rel in RELS {
         if set.has(rel) {
-            give_relation(alloc, solver, problem, ground, place, rel, set.is_whole())?;
+            give_relation(alloc, solver, problem, ground, place, rel, empties)?;
         }
     }
     Ok(())
@@ -228,13 +242,15 @@ pub(crate) fn give_places(
     solver: &mut Solver,
     problem: &Problem,
     ground: &Ground,
+    empties: bool,
 ) -> Result<(), AllocError>
     requires ground { IsGround problem.now ground.now }
     requires begun { IsBegun problem.now ground.now solver.old }
-    ensures { OnOk result (IsBegun problem.now ground.now solver.new) }
+    ensures begun { OnOk result (IsBegun problem.now ground.now solver.new) }
+    ensures exact { OnOk result (solver.new.variables ≡ solver.old.variables) }
 {
     for place in 0..ground.pairs.len() {
-        give_place(alloc, solver, problem, ground, place)?;
+        give_place(alloc, solver, problem, ground, place, empties)?;
     }
     Ok(())
 }

@@ -1,14 +1,14 @@
 //! The solver, and what it is asked.
-ghost use Rattle.family_solver.specs.Showing.{AreAssumed, IsFamilySolver, IsFound, IsGranted, IsGround, IsHopeless, IsShown, variable_count};
+ghost use Rattle.family_solver.specs.Showing.{AreAssumed, IsFamilySolver, IsFound, IsGranted, IsGround, IsHopeless, variable_count};
 ghost use Rattle.learn_solver.specs.Solving.{AreConsistent};
-ghost use Rattle.set_family.specs.Sets.{is_set_below};
-ghost use Rattle.std.specs.List.{list_all};
-ghost use Rattle.std.specs.Prelude.{IfNone, IfOk, IfSome, IsTrue, OnOk, length, ◌<◌};
+ghost use Rattle.std.specs.Prelude.{IfNone, IfOk, OnOk, length, ◌<◌};
 ghost use Rattle.watch_arena.specs.Trails.{AreInRange};
 
-use crate::clauses::{REGIONS, give_needs, is_empty, lies};
+use crate::begun::begin;
+use crate::clauses::{REGIONS, is_empty, lies};
+use crate::family::met_by;
 use crate::ground::Ground;
-use crate::relations::{give_places, rel_lit};
+use crate::relations::rel_lit;
 use constraint_set::Problem;
 use learn_solver::{Answer, Solver};
 use lits_core::{Bits, Lit, law_derived_clauses_follow, law_literals_are_sets};
@@ -32,60 +32,6 @@ pub enum Grant {
 #[derive(Drop)]
 pub struct FamilySolver {
     pub(crate) solver: Solver,
-}
-
-// The places of the points with a concept that bits have.
-fn places_with(
-    alloc: Global,
-    ground: &Ground,
-    bits: &Bits,
-    concept: usize,
-) -> Result<Vec<u32>, AllocError> {
-    let mut places = Vec::new(alloc);
-    for place in 0..ground.points.len().min(bits.len()).min(u32::MAX as usize) {
-        let point = &ground.points[place];
-        if bits.get(place) && concept < point.len() && point.get(concept) {
-            places.push(place as u32)?;
-        }
-    }
-    Ok(places)
-}
-
-// The family of the points that bits have.
-fn family_of(
-    alloc: Global,
-    problem: &Problem,
-    ground: &Ground,
-    bits: &Bits,
-) -> Result<Option<Family>, AllocError>
-    ensures { IfOk result (λ found. IfSome found (λ f. IsTrue (list_all (is_set_below f.universe) f.sets))) }
-{
-    let mut sets = Vec::new(alloc);
-    for concept in 0..problem.concept_count() {
-        let places = places_with(alloc, ground, bits, concept as usize)?;
-        sets.push(places)?;
-    }
-    let most = ground.points.len().min(u32::MAX as usize);
-    Ok(Family::from_lists(most as u32, sets))
-}
-
-// The family of the points that bits have, if it meets the problem.
-fn met_by(
-    alloc: Global,
-    problem: &Problem,
-    ground: &Ground,
-    bits: &Bits,
-) -> Result<Option<Family>, AllocError>
-    ensures { IfOk result (λ found. IfSome found (IsShown problem.now)) }
-{
-    let found = family_of(alloc, problem, ground, bits)?;
-    let Some(family) = found else {
-        return Ok(None);
-    };
-    if !family.meets(problem) {
-        return Ok(None);
-    }
-    Ok(Some(family))
 }
 
 // Adds the literal that a point is not there, if it lies in a region that is empty by a relation of the pair at a place.
@@ -161,10 +107,7 @@ impl FamilySolver {
         requires ground { IsGround problem.now ground.now }
         ensures { IfOk result (IsFamilySolver problem.now ground.now) }
     {
-        let count = ground.points.len() as u32 + 5 * ground.pairs.len() as u32;
-        let mut solver = Solver::new(alloc, count)?;
-        give_needs(alloc, &mut solver, problem, ground)?;
-        give_places(alloc, &mut solver, problem, ground)?;
+        let solver = begin(alloc, problem, ground, 0, false)?;
         Ok(FamilySolver { solver })
     }
 

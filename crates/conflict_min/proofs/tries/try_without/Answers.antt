@@ -1,6 +1,7 @@
 use Rattle.std.proofs.Common.{◌≡◌, ◌+◌, false, true, set, sym, subst}
 use Rattle.world_model.specs.Problem.{restricted}
-use Rattle.split_search.specs.Choosing.{IsChoice, IsMetBy}
+use Rattle.set_family.specs.Meeting.{IsMetBy}
+use Rattle.split_search.specs.Choosing.{IsChoice}
 use Rattle.split_search.specs.declared.choice.Choice.TheVariants.{Refuted}
 use Rattle.claim_blocks.specs.Blocks.{settled}
 use Rattle.claim_blocks.proofs.Joins.{keeps_err}

@@ -1,6 +1,6 @@
 use Rattle.std.proofs.lemmas.Result.{IfOk-weaker}
 use Rattle.constraint_set.proofs.Saying.{true_flags}
-use Rattle.conflict_min.proofs.shrink.all_flags.Goals as goal
+use Rattle.conflict_min.proofs.tries.all_flags.Goals as goal
 
 pub returns : goal.returns
 returns c =

@@ -7,8 +7,8 @@ use Rattle.world_model.specs.Family.{Family, holds, meets, sum_holds}
 use Rattle.world_model.specs.Questions.{IsConsistent}
 use Rattle.world_model.proofs.Members.{In, here, there, all_at, all_from, In-left, In-right, from_append, In-filter_map, from_filter_map}
 use Rattle.world_model.proofs.PointRules.{met_parts, met_whole}
-use Rattle.split_search.specs.Choosing.{IsMetBy}
-use Rattle.conflict_min.specs.Shrinking.{IsWithin}
+use Rattle.set_family.specs.Meeting.{IsMetBy}
+use Rattle.kept_solver.specs.Keeping.{IsWithin}
 
 -- what is kept by fewer flags is kept by more
 fewer_kept : {X : Type 0} {x : X} (fewer more : List Bool) (xs : List X) → IsWithin fewer more → In x (items_where_true fewer xs) → In x (items_where_true more xs)

@@ -1,6 +1,6 @@
 use Rattle.conflict_min.proofs.Claims.{untouched}
 use Rattle.search_log.proofs.Leading.{led_still}
-use Rattle.conflict_min.proofs.shrink.show_loss.Goals as goal
+use Rattle.conflict_min.proofs.shown.show_loss.Goals as goal
 
 pub returns-in_err-others-clause-keeps : goal.returns-in_err-others-clause-keeps
 returns-in_err-others-clause-keeps g c =

@@ -1,6 +1,6 @@
 use Rattle.std.proofs.Common.{◌≡◌, take}
 use Rattle.conflict_min.specs.Conflicts.{places_from}
-use Rattle.conflict_min.proofs.shrink.places_of.Given as goal
+use Rattle.conflict_min.proofs.shown.places_of.Given as goal
 
 -- the places so far
 abbrev pub invariant-loop-place : goal.invariant-loop-place

@@ -1,7 +1,7 @@
 use Rattle.std.proofs.Common.{◌∙◌, ℕ, [], ◌∷◌, ◌++◌, Vec, Global, sym, ap}
 use Rattle.conflict_min.proofs.Flags.{places_more, places_less}
-use Rattle.conflict_min.proofs.shrink.places_of.Goals as goal
-use Rattle.conflict_min.proofs.shrink.places_of.Goals.{then-is_kept+in_ok-push, else-is_kept}
+use Rattle.conflict_min.proofs.shown.places_of.Goals as goal
+use Rattle.conflict_min.proofs.shown.places_of.Goals.{then-is_kept+in_ok-push, else-is_kept}
 
 pub loop-place-preserved : goal.loop-place-preserved
 loop-place-preserved c =

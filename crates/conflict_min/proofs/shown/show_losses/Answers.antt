@@ -7,7 +7,7 @@ use Rattle.conflict_min.specs.Conflicts.{places_from, loss_claims}
 use Rattle.conflict_min.proofs.Claims.{untouched, loss, made_wider, made_joins, told_joins, losses_more}
 use Rattle.conflict_min.proofs.Passes.{loss_at}
 use Rattle.search_log.proofs.Leading.{led_still, led_joins}
-use Rattle.conflict_min.proofs.shrink.show_losses.Goals as goal
+use Rattle.conflict_min.proofs.shown.show_losses.Goals as goal
 
 pub returns-in_err-places-clause-keeps : goal.returns-in_err-places-clause-keeps
 returns-in_err-places-clause-keeps g c =

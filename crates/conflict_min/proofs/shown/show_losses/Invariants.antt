@@ -3,7 +3,7 @@ use Rattle.search_log.specs.Leading.{KeepsLeading}
 use Rattle.search_log.specs.Logging.{LogGoes}
 use Rattle.claim_blocks.specs.Blocks.{AreClaimsMade, FromClaims}
 use Rattle.conflict_min.proofs.Claims.{loss}
-use Rattle.conflict_min.proofs.shrink.show_losses.Given as goal
+use Rattle.conflict_min.proofs.shown.show_losses.Given as goal
 
 -- the losses so far are claimed
 abbrev pub invariant-losses : goal.invariant-losses

@@ -1,0 +1,3 @@
+pub mod Fewer
+mod Telling
+mod Denying

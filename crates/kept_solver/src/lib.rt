@@ -1,0 +1,9 @@
+//! Whether some of a problem's articulations hold together, by one solver over the points that the problem has without them.
+#![tactic(auto)]
+
+mod clauses;
+mod flags;
+mod ground;
+mod solver;
+
+pub use solver::{KeptSolver, Verdict};
