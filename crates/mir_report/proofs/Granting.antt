@@ -7,13 +7,10 @@ use Rattle.world_model.specs.Problem.{Problem, narrowed}
 use Rattle.world_model.specs.Family.{Family, set_of}
 use Rattle.world_model.specs.Node.{pair_at}
 use Rattle.world_model.specs.Questions.{IsMet}
-use Rattle.split_search.specs.Choosing.{IsMetBy}
+use Rattle.set_family.specs.Meeting.{IsMetBy}
 use Rattle.cert_rules.proofs.Narrowing.{shown_is_met, met_is_shown}
-use Rattle.family_solver.specs.Showing.{IsShown, IsGranted}
+use Rattle.family_solver.specs.Showing.{IsGranted}
 use Rattle.family_solver.specs.declared.solver.Grant.TheVariants.{Met, Refuted}
-
-pub shown_met : (p : Problem) (f : Family) → IsShown p f → IsMetBy p f
-shown_met p f shown = record { sets = shown.sets; met = shown.met }
 
 -- a family that is granted meets the problem with the pair narrowed
 pub met_granted : (p q : Problem) (pairs : List ℕ) (place pair : ℕ) (rel : Rel) (f : Family) → get_or pairs place 0 ≡ pair → q ≡ narrowed p (pair_at p pair) (only rel)

@@ -19,7 +19,7 @@ use Rattle.cert_text.specs.declared.line.Subject.TheVariants.{Narrowed, Kept}
 use Rattle.cert_rules.specs.declared.RejectKind.TheVariants.{WrongSubject}
 use Rattle.cert_rules.specs.ClaimLists.{subject_fault}
 use Rattle.cert_rules.specs.ClaimWriting.{ShowsSubject}
-use Rattle.split_search.specs.Choosing.{IsMetBy}
+use Rattle.set_family.specs.Meeting.{IsMetBy}
 use Rattle.dead_pairs.specs.declared.why.Closing.{Closing}
 use Rattle.dead_pairs.specs.Lone.{IsClosing}
 use Rattle.claim_blocks.specs.Blocks.{IsProblemOf, IsClosedSubject}

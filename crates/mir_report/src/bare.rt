@@ -3,13 +3,14 @@ ghost use Rattle.std.specs.Prelude.{◌≡◌, ◌<◌, ◌↔◌, length, IfOk,
 ghost use Rattle.world_model.specs.Problem.{cross_pairs};
 ghost use Rattle.world_model.specs.Questions.{IsPossibleRelation};
 ghost use Rattle.constraint_set.specs.Shape.{shape_of};
-ghost use Rattle.split_search.specs.Choosing.{IsMetBy};
+ghost use Rattle.set_family.specs.Meeting.{IsMetBy};
 ghost use Rattle.mir_report.specs.Possible.{IsPossibleSet, ArePossibleSets};
 ghost use Rattle.mir_report.specs.Steps.{AreCandidates, AreSeen, HasPossible, IsHelp};
 
 use crate::found::put;
+use crate::gather::gather;
 use crate::possible::{MirSets, RELS};
-use crate::seen::{none_seen, seen_with};
+use crate::seen::none_seen;
 use crate::sight::{Help, choose_any, choose_with, new_help};
 use constraint_set::Problem;
 use pick_search::are_whole;
@@ -55,7 +56,7 @@ fn ask_for(
     match choice {
         Choice::Refuted => Ok(false),
         Choice::Met(family) => {
-            *seen = seen_with(alloc, problem, seen, &family)?;
+            gather(alloc, problem, pair, &family, seen, help)?;
             Ok(true)
         }
     }
@@ -137,8 +138,8 @@ fn ask_all(
     ensures help { OnOk result (IsHelp problem.now help.new) }
     ensures sets { IfOk result (λ mir. ArePossibleSets problem.now mir.sets.items) }
 {
-    let none = none_seen(alloc, problem)?;
-    let mut seen = seen_with(alloc, problem, &none, &family)?;
+    let mut seen = none_seen(alloc, problem)?;
+    gather(alloc, problem, 0, &family, &mut seen, help)?;
     let mut sets = Vec::new(alloc);
     'pairs: for pair in 0..problem.cross_count() {
         let some = among[pair as usize];

@@ -1,7 +1,7 @@
 //! The families found so far, each of which shows a relation of every pair.
 ghost use Rattle.std.specs.Prelude.{◌≡◌, ◌<◌, ◌++◌, [], ◌∷◌, All, IfSome, OnOk};
 ghost use Rattle.world_model.specs.Problem.{pair_count};
-ghost use Rattle.split_search.specs.Choosing.{IsMetBy};
+ghost use Rattle.set_family.specs.Meeting.{IsMetBy};
 ghost use Rattle.mir_report.specs.Steps.{ShowsAt};
 
 use constraint_set::Problem;

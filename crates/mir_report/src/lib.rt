@@ -3,6 +3,7 @@
 
 mod bare;
 mod found;
+mod gather;
 mod possible;
 mod seen;
 mod sight;

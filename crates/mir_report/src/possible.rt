@@ -6,7 +6,7 @@ ghost use Rattle.constraint_set.specs.Shape.{shape_of};
 ghost use Rattle.cert_text.specs.declared.line.Subject.TheVariants.{Kept, Narrowed};
 ghost use Rattle.search_log.specs.Leading.{KeepsLeading};
 ghost use Rattle.search_log.specs.Logging.{LogGoes};
-ghost use Rattle.split_search.specs.Choosing.{IsMetBy};
+ghost use Rattle.set_family.specs.Meeting.{IsMetBy};
 ghost use Rattle.claim_blocks.specs.Blocks.{claimed, KeepsClaims};
 ghost use Rattle.mir_report.specs.Possible.{IsPossibleSet, ArePossibleSets, pair_claims, claims_from, whole_claim};
 ghost use Rattle.mir_report.specs.Steps.{claim_if_allowed, claim_if_refuted};

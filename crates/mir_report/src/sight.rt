@@ -16,6 +16,7 @@ use point_query::Asker;
 use rcc5_core::{Rel, RelSet};
 use split_search::Choice;
 use std::alloc::{AllocError, Global};
+use wish_family::Table;
 
 /// A solver over all points, and the pairs that it can be asked about: first those whose sets are not whole, then some others.
 #[derive(Drop)]
@@ -24,15 +25,16 @@ pub(crate) struct Granter {
     // How many pairs stand first.
     split: usize,
     solver: Option<FamilySolver>,
+    pub(crate) table: Table,
 }
 
 /// What helps to answer questions about the parts of a problem: what clashes, and a solver over its points, where these are few.
 #[derive(Drop)]
 pub(crate) struct Help {
     pub(crate) clashes: Known,
-    granter: Option<Granter>,
+    pub(crate) granter: Option<Granter>,
     // What is left of each pair: a hint, by which pairs are chosen that the solver can be asked about.
-    left: Vec<RelSet>,
+    pub(crate) left: Vec<RelSet>,
 }
 
 /// With more points than so many for each pair a question takes longer than by picks: for eight concepts without parents beside eight,
@@ -54,10 +56,12 @@ fn new_granter(alloc: Global, problem: &Problem) -> Result<Option<Granter>, Allo
     if ground.points.len().saturating_mul(split) > MOST_LITERALS {
         return Ok(None);
     }
+    let table = Table::new(alloc, problem, &ground.points, &ground.pairs)?;
     Ok(Some(Granter {
         ground,
         split,
         solver: None,
+        table,
     }))
 }
 

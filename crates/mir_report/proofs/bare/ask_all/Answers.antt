@@ -11,7 +11,7 @@ pairs-init c =
     record {
       shape = refl;
       help = c.requires.help;
-      seen = c.in_ok-seen.ensures;
+      seen = c.in_ok-gather.ensures;
       count = ap length c.new-sets.ensures.items;
       each = subst (λ sets. (k : ℕ) (one : RelSet) → slice_get sets k ≡ Some one → IsPossibleSet p k one) (sym c.new-sets.ensures.items) (λ k one e. cc);
     }

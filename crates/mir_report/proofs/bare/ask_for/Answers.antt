@@ -15,8 +15,8 @@ choose_with-requires-clause-within c = cross_within c.args.problem.now c.args.pa
 pub choose_with-requires-clause-part : goal.choose_with-requires-clause-part
 choose_with-requires-clause-part c = c.in_ok-narrowed.ensures.value ∙ ap (narrowed c.args.problem.now (pair_at c.args.problem.now c.args.pair)) c.one.ensures
 
-pub seen_with-requires-clause-met : goal.seen_with-requires-clause-met
-seen_with-requires-clause-met c =
+pub gather-requires-clause-met : goal.gather-requires-clause-met
+gather-requires-clause-met c =
     let p = c.args.problem.now in
     let met = subst (IsChoice c.in_ok-narrowed.narrowed) c.in-Met.is c.in_ok-choice.ensures.choice in
     met_by_above p c.in_ok-narrowed.narrowed c.args.pair c.args.rel c.one.result c.in-Met.family c.one.ensures c.in_ok-narrowed.ensures.value met

@@ -5,7 +5,7 @@ use Rattle.std.proofs.lemmas.List.Elements.{All-pop}
 use denote.Enum.Bare.{same_true}
 use Rattle.rcc5_core.specs.contracts.Rel.{the_type}
 use Rattle.world_model.proofs.PointPositions.{relation_in}
-use Rattle.split_search.specs.Choosing.{IsMetBy}
+use Rattle.set_family.specs.Meeting.{IsMetBy}
 use Rattle.mir_report.proofs.found.shown_by.Goals as goal
 
 pub returns-then-eq : goal.returns-then-eq

@@ -2,7 +2,8 @@ use Rattle.std.proofs.Common.{◌≡◌, ◌∙◌, true≢false, All, Ok, refl,
 use Rattle.std.proofs.lemmas.List.Elements.{All-push}
 use Rattle.cert_text.specs.declared.line.Subject.TheVariants.{Narrowed}
 use Rattle.search_log.proofs.Logs.{log_as, log_memory, log_ok_as, log_then_memory}
-use Rattle.split_search.specs.Choosing.{IsMetBy, IsChoice}
+use Rattle.set_family.specs.Meeting.{IsMetBy}
+use Rattle.split_search.specs.Choosing.{IsChoice}
 use Rattle.claim_blocks.specs.Blocks.{claimed, settled, KeepsClaims}
 use Rattle.claim_blocks.proofs.Joins.{keeps_err}
 use Rattle.mir_report.proofs.Subjects.{pair_problem, met_by_above, met_is_possible}

@@ -3,7 +3,7 @@ use Rattle.world_model.specs.Questions.{IsPossibleRelation}
 use Rattle.point_query.proofs.Choosing.{HasThose}
 use Rattle.search_log.specs.Leading.{KeepsLeading}
 use Rattle.search_log.specs.Logging.{LogGoes}
-use Rattle.split_search.specs.Choosing.{IsMetBy}
+use Rattle.set_family.specs.Meeting.{IsMetBy}
 use Rattle.claim_blocks.specs.Blocks.{KeepsClaims}
 use Rattle.mir_report.specs.Steps.{claims_of}
 use Rattle.mir_report.proofs.possible.settle_pair.Given as goal

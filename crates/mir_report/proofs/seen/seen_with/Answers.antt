@@ -13,7 +13,7 @@ pairs-preserved c =
     let p = c.args.problem.now in
     let k = c.pairs.pair in
     let within = cross_within p k (omega arith) in
-    let there = ap (relation_in c.args.family.now) (sym c.pair_at-left.ensures.value) ∙ sym c.relation-rel.ensures in
-    let possible = possible_by p k c.relation-rel.result c.args.family.now within c.requires.met.met there in
+    let there = ap (relation_in c.args.family.now) (sym c.pair_at-left.ensures.value) ∙ sym c.rel-rel.ensures in
+    let possible = possible_by p k c.rel-rel.result c.args.family.now within c.requires.met.met there in
     seen_pair p k c.pairs.more.items c.push.new.self.items c.with.result c.pairs.invariant
-    (subst (AllPossible p k) (sym c.with.ensures) (seen_more p k _ c.relation-rel.result (c.requires.seen.each k _ (omega arith)) possible)) (search rules)
+    (subst (AllPossible p k) (sym c.with.ensures) (seen_more p k _ c.rel-rel.result (c.requires.seen.each k _ (omega arith)) possible)) (search rules)

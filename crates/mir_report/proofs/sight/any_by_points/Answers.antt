@@ -1,7 +1,6 @@
 use Rattle.std.proofs.Common.{subst}
 use Rattle.family_solver.specs.Showing.{IsFound}
-use Rattle.mir_report.proofs.Granting.{shown_met}
 use Rattle.mir_report.proofs.sight.any_by_points.Goals as goal
 
 pub returns-in-Met : goal.returns-in-Met
-returns-in-Met c = shown_met c.args.problem.now c.in-Met.family (subst (IsFound c.args.problem.now) c.in-Met.is c.in_ok-family.ensures.answer)
+returns-in-Met c = subst (IsFound c.args.problem.now) c.in-Met.is c.in_ok-family.ensures.answer
