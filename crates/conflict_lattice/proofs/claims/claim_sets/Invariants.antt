@@ -1,0 +1,18 @@
+use Rattle.std.proofs.Common.{◌≡◌, true, take, Ok}
+use Rattle.search_log.specs.Leading.{KeepsLeading}
+use Rattle.search_log.specs.Logging.{LogGoes}
+use Rattle.claim_blocks.specs.Blocks.{AreClaimsMade, FromClaims}
+use Rattle.conflict_lattice.specs.Lattice.{claims_of}
+use Rattle.conflict_lattice.specs.Rounds.{IsJudge}
+use Rattle.conflict_lattice.proofs.claims.claim_sets.Given as goal
+
+-- the sets so far are claimed
+abbrev pub invariant-sets : goal.invariant-sets
+invariant-sets g l = record {
+  shape : l.asker.shape ≡ l.fn.asker.shape;
+  own : l.own.shape ≡ l.fn.own.shape;
+  judge : IsJudge l.problem l.judge;
+  made : FromClaims l.problem (g.L.TreeLog.lines l.fn.log) l.fn.asker (λ claims. AreClaimsMade l.problem (λ more. more ≡ claims_of true (take l.set-index l.sets)) claims (g.L.TreeLog.lines l.log) l.asker);
+  leads : KeepsLeading (g.L.TreeLog.lines l.fn.log) (g.L.TreeLog.lines l.log) l.fn.asker l.asker;
+  log : LogGoes g.L.TreeLog.drops g.L.TreeLog.lines g.L.TreeLog.faults g.L.TreeLog.steady g.L.TreeLog.quiet (Ok (tt {0})) l.fn.log l.log;
+}

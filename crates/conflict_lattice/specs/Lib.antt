@@ -1,0 +1,4 @@
+pub mod Subsets
+pub mod Lattice
+pub mod Explaining
+pub mod Rounds
