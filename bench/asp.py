@@ -10,6 +10,15 @@ import sys
 WORDS = {"equals": "=", "==": "=", "includes": ">", ">": ">", "is_included_in": "<", "<": "<", "overlaps": "x", "><": "x", "disjoint": "!", "!": "!"}
 EMPTY = {"=": "lr", ">": "r", "<": "l", "x": "", "!": "b"}
 FULL = {"=": "", ">": "l", "<": "r", "x": "lbr", "!": "lr"}
+# The relation of a pair, by the regions that have a point.
+RELATIONS = ["left(X,Y) :- pair(X,Y), in(P), has(P,X), not has(P,Y).",
+             "both(X,Y) :- pair(X,Y), in(P), has(P,X), has(P,Y).",
+             "right(X,Y) :- pair(X,Y), in(P), has(P,Y), not has(P,X).",
+             "rel(X,Y,0) :- pair(X,Y), not left(X,Y), not right(X,Y).",
+             "rel(X,Y,1) :- pair(X,Y), left(X,Y), not right(X,Y).",
+             "rel(X,Y,2) :- pair(X,Y), not left(X,Y), right(X,Y).",
+             "rel(X,Y,3) :- pair(X,Y), left(X,Y), right(X,Y), both(X,Y).",
+             "rel(X,Y,4) :- pair(X,Y), left(X,Y), right(X,Y), not both(X,Y)."]
 CONVERSE = {"=": "=", ">": "<", "<": ">", "x": "x", "!": "!"}
 
 
@@ -114,15 +123,7 @@ def program(problem, switches):
         lines += [f"concept(0..{len(problem.owner) - 1}).", "some(C) :- in(P), has(P,C).", ":- concept(C), not some(C)."]
     lines += [f"pair({x},{y})." for x, y in problem.pairs()]
     lines += [f"no({x},{y},{'=><x!'.index(r)})." for (x, y), letters in problem.sets.items() for r in "=><x!" if r not in letters]
-    lines += ["left(X,Y) :- pair(X,Y), in(P), has(P,X), not has(P,Y).",
-              "both(X,Y) :- pair(X,Y), in(P), has(P,X), has(P,Y).",
-              "right(X,Y) :- pair(X,Y), in(P), has(P,Y), not has(P,X).",
-              "rel(X,Y,0) :- pair(X,Y), not left(X,Y), not right(X,Y).",
-              "rel(X,Y,1) :- pair(X,Y), left(X,Y), not right(X,Y).",
-              "rel(X,Y,2) :- pair(X,Y), not left(X,Y), right(X,Y).",
-              "rel(X,Y,3) :- pair(X,Y), left(X,Y), right(X,Y), both(X,Y).",
-              "rel(X,Y,4) :- pair(X,Y), left(X,Y), right(X,Y), not both(X,Y).",
-              ":- no(X,Y,R), rel(X,Y,R).", "#show rel/3."]
+    lines += RELATIONS + [":- no(X,Y,R), rel(X,Y,R).", "#show rel/3."]
     return lines
 
 

@@ -7,26 +7,8 @@ import sys
 
 import asp
 
-CONFLICT = """
-def main(prg):
-    prg.ground([("base", [])])
-    count = COUNT
-    asked = [0]
-    def holds(kept):
-        asked[0] += 1
-        return prg.solve(assumptions=[(clingo.Function("kept", [clingo.Number(i)]), kept[i]) for i in range(count)]).satisfiable
-    kept = [True] * count
-    if holds(kept):
-        print("consistent", asked[0])
-        return
-    for i in range(count):
-        kept[i] = False
-        if holds(kept):
-            kept[i] = True
-    print("conflict", sum(kept), [i + 1 for i in range(count) if kept[i]], "questions", asked[0])
-"""
-
-LATTICE = """
+# What both scripts begin with: whether some statements hold together, by their places.
+HEAD = """
 def main(prg):
     prg.ground([("base", [])])
     count = COUNT
@@ -34,13 +16,25 @@ def main(prg):
     def holds(kept):
         asked[0] += 1
         return prg.solve(assumptions=[(clingo.Function("kept", [clingo.Number(i)]), i in kept) for i in range(count)]).satisfiable
+"""
+
+CONFLICT = """
+    kept = set(range(count))
+    if holds(kept):
+        print("consistent", asked[0])
+        return
+    for i in range(count):
+        if not holds(kept - {i}):
+            kept = kept - {i}
+    print("conflict", len(kept), [i + 1 for i in sorted(kept)], "questions", asked[0])
+"""
+
+LATTICE = """
     seeds = clingo.Control(["--heuristic=Domain"])
     seeds.add("base", [], "{ in(0..%d) }. #heuristic in(X) : X = 0..%d. [1,true]" % (count - 1, count - 1) if count else "")
     seeds.ground([("base", [])])
     conflicts, sets = [], []
     everything = set(range(count))
-    def block(rules):
-        seeds.add("r", [], rules)
     number = 0
     while True:
         seed = None
@@ -98,15 +92,8 @@ def program(text, mode, switches):
             lines.append(f":- kept({index}), in(P), has(P,{whole}), {tests}.")
             lines += [f":- kept({index}), in(P), has(P,{c}), not has(P,{whole})." for c in parts]
     lines += [f"pair({x},{y})." for x, y in sorted(used)]
-    lines += ["left(X,Y) :- pair(X,Y), in(P), has(P,X), not has(P,Y).",
-              "both(X,Y) :- pair(X,Y), in(P), has(P,X), has(P,Y).",
-              "right(X,Y) :- pair(X,Y), in(P), has(P,Y), not has(P,X).",
-              "rel(X,Y,0) :- pair(X,Y), not left(X,Y), not right(X,Y).",
-              "rel(X,Y,1) :- pair(X,Y), left(X,Y), not right(X,Y).",
-              "rel(X,Y,2) :- pair(X,Y), not left(X,Y), right(X,Y).",
-              "rel(X,Y,3) :- pair(X,Y), left(X,Y), right(X,Y), both(X,Y).",
-              "rel(X,Y,4) :- pair(X,Y), left(X,Y), right(X,Y), not both(X,Y)."]
-    script = (CONFLICT if mode == "conflict" else LATTICE).replace("COUNT", str(len(entries)))
+    lines += asp.RELATIONS
+    script = (HEAD.rstrip("\n") + (CONFLICT if mode == "conflict" else LATTICE)).replace("COUNT", str(len(entries)))
     return lines + ["#script (python)", "import clingo", script, "#end."]
 
 
