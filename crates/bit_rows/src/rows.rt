@@ -75,8 +75,8 @@ impl Rows {
         Ok(())
     }
 
-    // Writes into a row what two others have in common in some cells of two sets.
-    fn write(&mut self, row: usize, one: &[u64], other: &[u64], sides: &Sides, cells: Cells)
+    /// Writes into a row what two others have in common in some cells of two sets.
+    pub fn write(&mut self, row: usize, one: &[u64], other: &[u64], sides: &Sides, cells: Cells)
         requires row { row < self.old.count }
         requires width { length one.now ≤ self.old.width }
         ensures { IsPut self.old self.new row (meets_at one.now other.now sides.now.left.now sides.now.right.now cells) }

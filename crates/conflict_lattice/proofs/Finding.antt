@@ -6,21 +6,14 @@ use Rattle.std.proofs.lemmas.Bool.{false≢true}
 use Rattle.world_model.specs.Problem.{Problem}
 use Rattle.world_model.specs.Questions.{HasFlags}
 use Rattle.world_model.specs.Trial.{bit_lists}
-use Rattle.world_model.proofs.Members.{In, here, there, In-left, In-map, In-right, any_at, any_from, contains_from_in, in_from_contains, place_of, In-get_or}
+use Rattle.world_model.proofs.Members.{In, here, there, any_at, any_from, contains_from_in, in_from_contains, place_of, In-get_or}
+use Rattle.world_model.proofs.TrialPoints.{in_bit_lists}
 use Rattle.kept_solver.specs.Keeping.{IsWithin}
 use Rattle.kept_solver.proofs.Fewer.{consistent_fewer}
 use Rattle.conflict_lattice.specs.Lattice.{IsLattice, IsMaximalConsistent, IsMinimalConflict, Subsets, ascend}
 use Rattle.conflict_lattice.specs.Rounds.{IsFoundSoFar, holds_one, is_open, is_part, unexplored}
 use Rattle.conflict_lattice.proofs.Inserting.{Adds}
 use Rattle.conflict_lattice.proofs.Parts.{part_cases, part_within, within_part}
-
--- each list of n bits is among them all
-in_bit_lists : (n : ℕ) (bits : List Bool) → length bits ≡ n → In bits (bit_lists n)
-in_bit_lists zero [] h = here refl
-in_bit_lists zero (b ∷ bits) h = absurd (omega arith)
-in_bit_lists (suc n) [] h = absurd (omega arith)
-in_bit_lists (suc n) (false ∷ bits) h = In-left (map (λ bits. true ∷ bits) (bit_lists n)) (In-map (λ bits. false ∷ bits) (in_bit_lists n bits (omega arith)))
-in_bit_lists (suc n) (true ∷ bits) h = In-right (map (λ bits. false ∷ bits) (bit_lists n)) (In-map (λ bits. true ∷ bits) (in_bit_lists n bits (omega arith)))
 
 -- the two parts of what is opened
 pub open_parts : (s : Subsets) (flags : List Bool) → is_open s flags ≡ true → (holds_one s.conflicts flags ≡ false) × (list_any (is_part flags) s.consistent ≡ false)

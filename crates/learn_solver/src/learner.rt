@@ -75,13 +75,6 @@ impl Learner {
         self.trail.facts();
     }
 
-    // Has some variables decided before others, as true: a hint.
-    pub(crate) fn prefer(&mut self, variables: &[u32])
-        ensures { self.new ≡ self.old }
-    {
-        self.order.prefer(variables);
-    }
-
     // Adds a given clause and answers its id. All memory is taken before anything changes.
     pub(crate) fn add(&mut self, lits: &[Lit]) -> Result<u64, AllocError>
         requires sound { IsLearner self.old }

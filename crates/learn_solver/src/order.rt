@@ -68,14 +68,6 @@ impl Order {
         self.heap.bump_all(variables);
     }
 
-    // Some variables become more active, and are decided true where nothing else was decided since: a hint.
-    pub(crate) fn prefer(&mut self, variables: &[u32])
-        ensures { self.new ≡ self.old }
-    {
-        prefer_true(&mut self.phases, variables);
-        self.heap.bump_all(variables);
-    }
-
     // A literal is true no more.
     pub(crate) fn unassign(&mut self, lit: Lit)
         ensures { self.new ≡ self.old }
@@ -100,16 +92,6 @@ impl Order {
             None => unassigned(&self.noted, self.end, trail)?,
         };
         Some(literal(variable, &self.phases))
-    }
-}
-
-// Notes of some variables that they were true last.
-fn prefer_true(phases: &mut [bool], variables: &[u32]) {
-    for variable in variables {
-        let index = *variable as usize;
-        if index < phases.len() {
-            phases[index] = true;
-        }
     }
 }
 

@@ -76,14 +76,6 @@ impl Solver {
         self.learner.solve(assumptions, more)
     }
 
-    /// Has the next search decide some variables before others, and as true: a hint, by which a caller that wants many of them true
-    /// finds bits with more of them.
-    pub fn prefer(&mut self, variables: &[u32])
-        ensures { self.new ≡ self.old }
-    {
-        self.learner.prefer(variables);
-    }
-
     /// Adds a clause that live clauses show, with its line, and answers its id; none exactly where a literal is of no variable of
     /// the solver, or the hints do not show it.
     ///

@@ -10,7 +10,7 @@ use Rattle.world_model.specs.Trial.{bit_lists, points_by_trial, alive_by_trial}
 use Rattle.world_model.proofs.Members.{In, here, Found, all_at, all_from, any_at, any_from, In-filter, from_filter, In-map, In-left, In-right, in_from_contains, contains_from_in}
 
 -- each list of n bits is among them all
-in_bit_lists : (n : ℕ) (bits : List Bool) → length bits ≡ n → In bits (bit_lists n)
+pub in_bit_lists : (n : ℕ) (bits : List Bool) → length bits ≡ n → In bits (bit_lists n)
 in_bit_lists zero [] h = here refl
 in_bit_lists zero (b ∷ bits) h = absurd (omega arith)
 in_bit_lists (suc n) [] h = absurd (omega arith)
