@@ -1,4 +1,5 @@
 pub mod Ladders
+pub mod Groups
 pub mod Barren
 pub mod Bounds
 pub mod Stretches

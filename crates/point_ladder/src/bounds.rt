@@ -84,19 +84,24 @@ pub(crate) fn bound(frame: &Frame, sides: &Sides, set: RelSet) -> RelSet
     }
 }
 
-// Goes on to the frame after words were said of two sets.
+// The frame after words were said of two sets. It is made anew only where much has changed since it was made.
 fn narrow_frame(
     alloc: Global,
     sides: &Sides,
     words: Regions,
-    frame: &mut Frame,
-) -> Result<(), AllocError>
-    ensures { OnOk result (IsNarrowed frame.old frame.new (has_bit sides.now.left.now) (has_bit sides.now.right.now) words) }
+    frame: Frame,
+) -> Result<Frame, AllocError>
+    ensures { IfOk result (λ next. IsNarrowed frame next (has_bit sides.now.left.now) (has_bit sides.now.right.now) words) }
 {
-    if !frame.is_same(sides, words) {
-        *frame = narrowed(alloc, frame, sides, words, MOST_COMPARED)?;
+    if frame.is_same(sides, words) {
+        return Ok(frame);
     }
-    Ok(())
+    if !frame.is_stale() {
+        return frame.narrow(alloc, sides, words, MOST_COMPARED);
+    }
+    let mut next = narrowed(alloc, &frame, sides, words, MOST_COMPARED)?;
+    next.group(alloc)?;
+    Ok(next)
 }
 
 // Narrows the next pair to the relations with which it is alive by itself.
@@ -105,29 +110,50 @@ fn narrow_pair(
     problem: &Problem,
     rows: &Rows,
     pair: u32,
-    bounds: &mut Bounds,
-) -> Result<(), AllocError>
+    bounds: Bounds,
+) -> Result<Bounds, AllocError>
     requires rows { AreRowsOf problem.now rows.now }
-    requires bounds { AreBounds problem.now bounds.old }
-    requires alive { bounds.old.alive ≡ true }
-    requires next { bounds.old.count ≡ pair }
+    requires bounds { AreBounds problem.now bounds }
+    requires alive { bounds.alive ≡ true }
+    requires next { bounds.count ≡ pair }
     requires within { pair < pair_count problem.now }
-    ensures bounds { OnOk result (AreBounds problem.now bounds.new) }
-    ensures next { OnOk result (bounds.new.count ≡ pair + 1) }
+    ensures bounds { IfOk result (AreBounds problem.now) }
+    ensures next { IfOk result (λ next. next.count ≡ pair + 1) }
 {
     let sides = sides_of(problem, rows, pair);
-    let old = bounds.sets[pair as usize];
-    let set = bound(&bounds.frame, &sides, old);
-    bounds.count = pair as usize + 1;
+    let Bounds {
+        mut sets,
+        count: _,
+        alive,
+        frame,
+    } = bounds;
+    let old = sets[pair as usize];
+    let set = bound(&frame, &sides, old);
+    let count = pair as usize + 1;
     if are_same(set, old) {
-        return Ok(());
+        return Ok(Bounds {
+            sets,
+            count,
+            alive,
+            frame,
+        });
     }
-    bounds.sets[pair as usize] = set;
+    sets[pair as usize] = set;
     if set.is_empty() {
-        bounds.alive = false;
-        return Ok(());
+        return Ok(Bounds {
+            sets,
+            count,
+            alive: false,
+            frame,
+        });
     }
-    narrow_frame(alloc, &sides, forced(set), &mut bounds.frame)
+    let frame = narrow_frame(alloc, &sides, forced(set), frame)?;
+    Ok(Bounds {
+        sets,
+        count,
+        alive,
+        frame,
+    })
 }
 
 // Narrows each pair, unless the problem turns out to be dead.
@@ -135,18 +161,19 @@ pub(crate) fn narrow_all(
     alloc: Global,
     problem: &Problem,
     rows: &Rows,
-    bounds: &mut Bounds,
-) -> Result<(), AllocError>
+    bounds: Bounds,
+) -> Result<Bounds, AllocError>
     requires rows { AreRowsOf problem.now rows.now }
-    requires bounds { AreBounds problem.now bounds.old }
-    requires none { bounds.old.count ≡ 0 }
-    ensures { OnOk result (AreBounds problem.now bounds.new) }
+    requires bounds { AreBounds problem.now bounds }
+    requires none { bounds.count ≡ 0 }
+    ensures { IfOk result (AreBounds problem.now) }
 {
+    let mut bounds = bounds;
     for pair in 0..problem.pair_count() {
         if !bounds.alive {
             break;
         }
-        narrow_pair(alloc, problem, rows, pair, bounds)?;
+        bounds = narrow_pair(alloc, problem, rows, pair, bounds)?;
     }
-    Ok(())
+    Ok(bounds)
 }

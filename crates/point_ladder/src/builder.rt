@@ -1,9 +1,11 @@
 //! The making of frames: needs are added one by one to the rows of what is left and what has to stay.
-ghost use Rattle.std.specs.Prelude.{◌≡◌, ℕ, ◌<◌, ◌≤◌, ◌&&◌, Bool, true, length, IfOk, OnOk};
+ghost use Rattle.std.specs.Prelude.{◌≡◌, ◌-◌, ℕ, ◌<◌, ◌≤◌, ◌&&◌, Bool, true, length, IfOk, OnOk};
 ghost use Rattle.bit_rows.specs.Rows.{has_bit, bit_in, meets_at, SomePlace};
+ghost use Rattle.point_ladder.specs.Groups.{KeepsOpen};
 ghost use Rattle.point_ladder.specs.Ladders.{left_of, IsLaid, AreWithin, Satisfies, IsRegionMet, AreRegionsMet, open_at, IsOwing, IsNarrowed};
 
-use crate::frame::{FIRST_OPEN, Frame};
+use crate::frame::Frame;
+use crate::groups::FIRST_OPEN;
 use crate::words::{is_occupied, kept_cells, region_cell};
 use bit_rows::{Cells, Rows, Sides, first_place, has_bit, has_single, have_common, is_inside};
 use rcc5_core::{Region, Regions};
@@ -58,7 +60,8 @@ fn is_needless(rows: &Rows, sieve: &Sieve, last: usize) -> bool
 fn reduce_last(rows: &mut Rows, sieve: &Sieve)
     requires some { 0 < rows.old.width }
     requires three { 3 ≤ rows.old.count }
-    ensures { IsOwing rows.old rows.new (λ _. Unit {0}) }
+    ensures owing { IsOwing rows.old rows.new (λ _. Unit {0}) }
+    ensures kept { KeepsOpen rows.old rows.new (rows.old.count - 1) }
 {
     let last = rows.count() - 1;
     if is_needless(rows, sieve, last) {
@@ -102,6 +105,33 @@ impl Builder {
         Ok(Builder { rows, sieve })
     }
 
+    /// From the rows of a frame, whose first places are known.
+    pub(crate) fn again(rows: Rows, firsts: Vec<usize>, most: usize) -> Builder
+        ensures { result.rows ≡ rows }
+    {
+        let sieve = Sieve { firsts, most };
+        Builder { rows, sieve }
+    }
+
+    /// The frame of the rows.
+    pub(crate) fn finish(self, alloc: Global) -> Frame
+        requires { IsLaid self.rows }
+        ensures { result ≡ self.rows }
+    {
+        let Builder { rows, sieve } = self;
+        let Sieve { firsts, most: _ } = sieve;
+        Frame::new(alloc, rows, firsts)
+    }
+
+    /// The rows and their first places.
+    pub(crate) fn parts(self) -> (Rows, Vec<usize>)
+        ensures { result.0 ≡ self.rows }
+    {
+        let Builder { rows, sieve } = self;
+        let Sieve { firsts, most: _ } = sieve;
+        (rows, firsts)
+    }
+
     /// Adds that one place has to stay of what two rows have in common in some cells of two sets.
     pub(crate) fn add_need(
         &mut self,
@@ -112,7 +142,8 @@ impl Builder {
     ) -> Result<(), AllocError>
         requires laid { IsLaid self.old.rows }
         requires width { length one.now ≤ self.old.rows.width }
-        ensures { OnOk result (IsOwing self.old.rows self.new.rows (λ some. SomePlace (λ k. meets_at one.now other.now sides.now.left.now sides.now.right.now cells k && some k))) }
+        ensures kept { OnOk result (KeepsOpen self.old.rows self.new.rows self.old.rows.count) }
+        ensures owing { OnOk result (IsOwing self.old.rows self.new.rows (λ some. SomePlace (λ k. meets_at one.now other.now sides.now.left.now sides.now.right.now cells k && some k))) }
     {
         self.rows.push(one, other, sides, cells)?;
         reduce_last(&mut self.rows, &self.sieve);
@@ -131,7 +162,8 @@ impl Builder {
         requires laid { IsLaid self.old.rows }
         requires width { length places.now ≤ self.old.rows.width }
         requires places { AreWithin (left_of self.old.rows) (has_bit places.now) }
-        ensures { OnOk result (IsOwing self.old.rows self.new.rows (λ some. IsRegionMet words (has_bit sides.now.left.now) (has_bit sides.now.right.now) some region)) }
+        ensures kept { OnOk result (KeepsOpen self.old.rows self.new.rows self.old.rows.count) }
+        ensures owing { OnOk result (IsOwing self.old.rows self.new.rows (λ some. IsRegionMet words (has_bit sides.now.left.now) (has_bit sides.now.right.now) some region)) }
     {
         if is_occupied(words, region) {
             self.add_need(places, places, sides, region_cell(region))?;
@@ -149,7 +181,8 @@ impl Builder {
         requires laid { IsLaid self.old.rows }
         requires width { length places.now ≤ self.old.rows.width }
         requires places { AreWithin (left_of self.old.rows) (has_bit places.now) }
-        ensures { OnOk result (IsOwing self.old.rows self.new.rows (AreRegionsMet words (has_bit sides.now.left.now) (has_bit sides.now.right.now))) }
+        ensures kept { OnOk result (KeepsOpen self.old.rows self.new.rows self.old.rows.count) }
+        ensures owing { OnOk result (IsOwing self.old.rows self.new.rows (AreRegionsMet words (has_bit sides.now.left.now) (has_bit sides.now.right.now))) }
     {
         self.add_region(places, sides, words, Region::LeftOnly)?;
         self.add_region(places, sides, words, Region::Both)?;
@@ -189,5 +222,5 @@ pub(crate) fn narrowed(
     let mut next = Builder::new(alloc, rows, most)?;
     next.add_regions(left, sides, words)?;
     next.add_open(frame, sides, kept)?;
-    Ok(Frame::new(next.rows))
+    Ok(next.finish(alloc))
 }

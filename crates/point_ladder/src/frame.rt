@@ -1,30 +1,40 @@
 //! Frames: the points that are left, those of them that have to stay, and rows of which one point each has to stay.
-ghost use Rattle.std.specs.Prelude.{◌≡◌, ℕ, ◌<◌, ◌≤◌, ◌↔◌, true, length, IsTrue};
+ghost use Rattle.std.specs.Prelude.{◌≡◌, ℕ, ◌<◌, ◌≤◌, ◌↔◌, true, length, IfOk, IsTrue};
 ghost use Rattle.bit_rows.specs.Rows.{has_bit, bit_in, SomePlace};
 ghost use Rattle.point_ladder.specs.Ladders.{left_of, must_of, IsLaid, IsAliveFrame, open_at, LeadsOn, IsNarrowed, IsSeen};
 
+use crate::builder::Builder;
+use crate::groups::{FIRST_OPEN, Group, groups_met, groups_of};
 use crate::words::{
     are_regions_met, cells_with, has_empty, has_occupied, is_region_met, kept_cells,
 };
 use bit_rows::{Cells, Rows, Sides, is_inside, meets};
 use rcc5_core::{Region, Regions};
+use std::alloc::{AllocError, Global};
 use std::marker::Model;
 
 /// The rows of a frame: the places that are left, those that have to stay, and from the third on those of which one each has to.
 #[derive(Drop)]
 pub(crate) struct Frame {
     rows: Rows,
+    // The first places of rows: a hint for what makes further rows.
+    firsts: Vec<usize>,
+    // The open rows below a number are in groups. How many places were left then is a hint.
+    groups: Vec<Group>,
+    grouped: usize,
+    left_then: usize,
 }
 
 impl Model for Frame {
     ghost use Rattle.bit_rows.specs.Rows.{BitRows};
     ghost use Rattle.point_ladder.specs.Ladders.{IsLaid};
+    ghost use Rattle.point_ladder.specs.Groups.{AreGrouped};
 
     ghost Value = { BitRows };
 
     ghost view = { λ s. s.rows };
 
-    ghost invariant = { λ s. IsLaid s.rows };
+    ghost invariant = { λ s. IsLaid s.rows × AreGrouped s.rows s.groups.items s.grouped };
 }
 
 /// The cells of two sets in which places of a frame lie: any that is left, and one that has to stay.
@@ -34,16 +44,70 @@ pub(crate) struct Seen {
     must: Cells,
 }
 
-/// The number of a frame's first open row, of which one place has to stay.
-pub(crate) const FIRST_OPEN: usize = 2;
-
 impl Frame {
-    /// The frame that has some rows.
-    pub(crate) fn new(rows: Rows) -> Frame
+    /// The frame that has some rows, with their first places as a hint.
+    pub(crate) fn new(alloc: Global, rows: Rows, firsts: Vec<usize>) -> Frame
         requires { IsLaid rows }
         ensures { result ≡ rows }
     {
-        Frame { rows }
+        Frame {
+            rows,
+            firsts,
+            groups: Vec::new(alloc),
+            grouped: FIRST_OPEN,
+            left_then: 0,
+        }
+    }
+
+    /// Puts the open rows into groups, so that further looks take less.
+    pub(crate) fn group(&mut self, alloc: Global) -> Result<(), AllocError>
+        ensures { self.new ≡ self.old }
+    {
+        if let Some(groups) = groups_of(alloc, &self.rows)? {
+            self.left_then = count_places(self.left());
+            self.grouped = self.rows.count();
+            self.groups = groups;
+        }
+        Ok(())
+    }
+
+    /// Whether so many rows were added since they were put into groups, or so many places went, that they should be made anew: a hint.
+    pub(crate) fn is_stale(&self) -> bool {
+        let added = self.rows.count().saturating_sub(self.grouped);
+        let gone = self.left_then.saturating_sub(count_places(self.left()));
+        added > 16 + self.grouped / 4 || gone > 16 + self.left_then / 4
+    }
+
+    /// The frame after words were said of two sets: its rows stay as they are, and places that went are left in them.
+    pub(crate) fn narrow(
+        self,
+        alloc: Global,
+        sides: &Sides,
+        words: Regions,
+        most: usize,
+    ) -> Result<Frame, AllocError>
+        ensures { IfOk result (λ next. IsNarrowed self next (has_bit sides.now.left.now) (has_bit sides.now.right.now) words) }
+    {
+        let Frame {
+            rows: mut rows,
+            firsts,
+            groups,
+            grouped,
+            left_then,
+        } = self;
+        let left = Vec::from_slice(alloc, rows.row(0))?;
+        let places = left.as_slice();
+        rows.write(0, places, places, sides, kept_cells(words));
+        let mut next = Builder::again(rows, firsts, most);
+        next.add_regions(places, sides, words)?;
+        let (rows, firsts) = next.parts();
+        Ok(Frame {
+            rows,
+            firsts,
+            groups,
+            grouped,
+            left_then,
+        })
     }
 
     /// How many rows there are.
@@ -103,8 +167,11 @@ impl Frame {
     fn open_met(&self, sides: &Sides, cells: Cells) -> bool
         ensures { IsTrue result ↔ ((r : ℕ) → 2 ≤ r → r < self.now.count → SomePlace (open_at self.now (has_bit sides.now.left.now) (has_bit sides.now.right.now) cells r)) }
     {
+        if !groups_met(&self.rows, &self.groups, self.grouped, sides, cells) {
+            return false;
+        }
         let left = self.left();
-        for row in FIRST_OPEN..self.count() {
+        for row in self.grouped..self.count() {
             if !meets(self.row(row), left, sides, cells) {
                 return false;
             }
@@ -171,4 +238,13 @@ impl Frame {
         }
         are_regions_met(self.must(), sides, words)
     }
+}
+
+// How many places a row has.
+fn count_places(row: &[u64]) -> usize {
+    let mut count: usize = 0;
+    for word in row {
+        count = count.saturating_add(word.count_ones() as usize);
+    }
+    count
 }

@@ -125,10 +125,10 @@ impl Ladder {
         ensures { IfOk result (λ found. IfSome found (IsBoundOf problem.now)) }
     {
         problem.facts();
-        let Some((rows, mut bounds)) = begin(alloc, problem, most, tries)? else {
+        let Some((rows, bounds)) = begin(alloc, problem, most, tries)? else {
             return Ok(None);
         };
-        narrow_all(alloc, problem, &rows, &mut bounds)?;
+        let bounds = narrow_all(alloc, problem, &rows, bounds)?;
         Ok(Some(stand(alloc, problem.copy()?, rows, bounds)?))
     }
 

@@ -7,6 +7,7 @@ mod behind;
 mod bounds;
 mod builder;
 mod frame;
+mod groups;
 mod ladder;
 mod sides;
 mod start;

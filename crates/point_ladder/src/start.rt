@@ -111,7 +111,9 @@ pub(crate) fn first_frame(
     let mut frame = Builder::new(alloc, two, MOST_COMPARED)?;
     add_pairs(problem, sets, rows, &full, &mut frame)?;
     add_nonempty(problem, rows, &mut frame)?;
-    Ok(Frame::new(frame.rows))
+    let mut frame = frame.finish(alloc);
+    frame.group(alloc)?;
+    Ok(frame)
 }
 
 // Whether each pair allows a relation.

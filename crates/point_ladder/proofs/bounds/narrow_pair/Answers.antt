@@ -1,5 +1,4 @@
-use Rattle.std.proofs.Common.{◌+◌, false, set, Ok, Err, refl, sym, ap, ◌∙◌, subst}
-use Rattle.std.specs.Prelude.{Result, OnOk}
+use Rattle.std.proofs.Common.{◌+◌, false, set, refl, sym, ap, ◌∙◌, subst}
 use Rattle.std.specs.Vec.{with_item}
 use Rattle.world_model.specs.Trial.{points_by_trial}
 use Rattle.bit_rows.specs.Rows.{has_bit}
@@ -13,7 +12,7 @@ use Rattle.point_ladder.proofs.bounds.narrow_pair.Goals as goal
 pub bound-set-requires : goal.bound-set-requires
 bound-set-requires c =
     let p = c.args.problem.now in
-    let b = c.args.bounds.now in
+    let b = c.args.bounds in
     let are = c.requires.bounds in
     let alive = are.lives.0 c.requires.alive in
     (alive_here (bound_to p b.sets.items b.count) (points_by_trial p) b.frame alive.allow (are.holds c.requires.alive) (are.frame c.requires.alive)).1 alive
@@ -21,7 +20,7 @@ bound-set-requires c =
 pub returns-then-are_same-clause-bounds : goal.returns-then-are_same-clause-bounds
 returns-then-are_same-clause-bounds c =
     let p = c.args.problem.now in
-    let b = c.args.bounds.now in
+    let b = c.args.bounds in
     let l = has_bit c.sides_of-sides.result.left.now in
     let r = has_bit c.sides_of-sides.result.right.now in
     let old = c.index-old.result.now in
@@ -40,7 +39,7 @@ returns-then-are_same-clause-bounds c =
 pub returns-then-is_empty-clause-bounds : goal.returns-then-is_empty-clause-bounds
 returns-then-is_empty-clause-bounds c =
     let p = c.args.problem.now in
-    let b = c.args.bounds.now in
+    let b = c.args.bounds in
     let l = has_bit c.sides_of-sides.result.left.now in
     let r = has_bit c.sides_of-sides.result.right.now in
     let old = c.index-old.result.now in
@@ -59,7 +58,7 @@ returns-then-is_empty-clause-bounds c =
 pub returns-clause-bounds : goal.returns-clause-bounds
 returns-clause-bounds c =
     let p = c.args.problem.now in
-    let b = c.args.bounds.now in
+    let b = c.args.bounds in
     let l = has_bit c.sides_of-sides.result.left.now in
     let r = has_bit c.sides_of-sides.result.right.now in
     let old = c.index-old.result.now in
@@ -72,10 +71,5 @@ returns-clause-bounds c =
       read = c.index-old.ensures;
       has_alive = c.bound-set.ensures;
     }) in
-    if_ok c.narrow_frame.result c.narrow_frame.ensures (λ narrowed.
-    bounds_fewer p b (record { sets = with_item b.sets c.args.pair now; count = c.args.pair + 1; alive = b.alive; frame = c.narrow_frame.new.frame }) l r old now c.requires.bounds c.requires.alive is (sym c.is_empty.ensures ∙ c.if-is_empty.false)
-    (ap (λ n. set b.sets.items n now) (sym c.requires.next)) (ap (λ n. n + 1) (sym c.requires.next)) refl (subst (λ words. IsNarrowed b.frame c.narrow_frame.new.frame l r words) c.forced.ensures narrowed))
-  where
-    if_ok : {T E : Type 0} {P Q : Type 0} (result : Result T E) → OnOk result P → (P → Q) → OnOk result Q
-    if_ok (Ok x) h f = f h
-    if_ok (Err e) h f = h
+    bounds_fewer p b (record { sets = with_item b.sets c.args.pair now; count = c.args.pair + 1; alive = b.alive; frame = c.in_ok-frame.frame }) l r old now c.requires.bounds c.requires.alive is (sym c.is_empty.ensures ∙ c.if-is_empty.false)
+    (ap (λ n. set b.sets.items n now) (sym c.requires.next)) (ap (λ n. n + 1) (sym c.requires.next)) refl (subst (λ words. IsNarrowed b.frame c.in_ok-frame.frame l r words) c.forced.ensures c.in_ok-frame.ensures)

@@ -18,7 +18,7 @@ returns c =
     let first = c.in_ok-push_copy.ensures in
     let second : IsPushed one two (λ _. false) = subst (λ v. IsPushed one v (λ _. false)) (sym c.in_ok-frame.ensures) c.in_ok-push_empty.ensures in
     let counted : one.count ≡ 1 = first.count ∙ ap (λ n. n + 1) none in
-    subst (IsFrame p points) (sym c.new-2.ensures)
+    subst (IsFrame p points) (sym (c.group.ensures ∙ c.finish-frame.ensures))
     (first_is_frame p two c.add_nonempty.new.frame.rows (second.count ∙ ap (λ n. n + 1) counted)
     (second.width ∙ first.width ∙ c.new-two.ensures.width ∙ c.width-2.ensures ∙ c.requires.rows.width)
     (λ k. second.before 0 k (omega (arith, counted)) ∙ ap (λ n. bit_in one n k) (sym none) ∙ first.there k ∙ c.row.ensures.bits k ∙ c.in_ok-full.ensures.places k ∙ ap (nat_lt k) c.requires.count)
