@@ -3,7 +3,7 @@ use Rattle.std.proofs.Common.{◌≡◌, ℕ, List, [], ◌∷◌, ◌++◌, Opt
 use Rattle.std.specs.Prelude.{unwrap_or}
 use Rattle.std.specs.Option.{option_to_list}
 use Rattle.command_line.specs.declared.table.Command.TheVariants as command
-use Rattle.command_line.specs.declared.table.Key.TheVariants.{In, Cert, Token, Resume, Kinds}
+use Rattle.command_line.specs.declared.table.Key.TheVariants.{In, Cert, Token, Resume, Kinds, Left, Right, Set}
 use Rattle.command_line.specs.declared.table.KeyKind.TheVariants.{FileName}
 use Rattle.command_line.specs.declared.Operand.{Operand}
 use Rattle.command_line.specs.Table.{row_of}
@@ -46,5 +46,7 @@ rows command.Check operands lacking = both _ _
     refl
 rows command.Mir operands lacking = claims operands lacking
 rows command.Conflict operands lacking = claims operands lacking
+rows command.Lattice operands lacking = claims operands lacking
+rows command.Explain operands lacking = both _ _ (needed (value_of operands In) (needs_first operands In (Left ∷ Right ∷ Set ∷ []) lacking) ∙ one_given (value_of operands In)) refl
 rows command.Report operands lacking = both _ _ (needed (value_of operands In) (needs_first operands In (Kinds ∷ []) lacking) ∙ one_given (value_of operands In)) refl
 rows command.Trial operands lacking = refl

@@ -4,7 +4,7 @@ use Rattle.std.specs.Option.{option_to_list}
 use Rattle.command_line.specs.declared.request.AlignArgs.{AlignArgs}
 use Rattle.command_line.specs.declared.request.TrialArgs.{TrialArgs}
 use Rattle.command_line.specs.declared.request.Request.{Request}
-use Rattle.command_line.specs.declared.request.Request.TheVariants.{Align, Check, Mir, Conflict, Report, Trial}
+use Rattle.command_line.specs.declared.request.Request.TheVariants.{Align, Check, Mir, Conflict, Lattice, Explain, Report, Trial}
 use Rattle.command_line.specs.declared.table.Key.{Key}
 use Rattle.command_line.specs.declared.table.KeyKind.{KeyKind}
 use Rattle.command_line.specs.declared.table.Command.{Command}
@@ -37,6 +37,8 @@ IsMade known (Align args) = IsAlign args
 IsMade known (Check args) = ⊤
 IsMade known (Mir args) = ⊤
 IsMade known (Conflict args) = ⊤
+IsMade known (Lattice args) = ⊤
+IsMade known (Explain args) = ⊤
 IsMade known (Report args) = names_fault known args.kinds ≡ None
 IsMade known (Trial args) = IsTrial args
 
@@ -51,6 +53,8 @@ names_of (Align args) = record { read = args.input ∷ option_to_list args.resum
 names_of (Check args) = record { read = args.input ∷ args.cert ∷ []; written = [] }
 names_of (Mir args) = record { read = args.input ∷ []; written = option_to_list args.cert }
 names_of (Conflict args) = record { read = args.input ∷ []; written = option_to_list args.cert }
+names_of (Lattice args) = record { read = args.input ∷ []; written = option_to_list args.cert }
+names_of (Explain args) = record { read = args.input ∷ []; written = [] }
 names_of (Report args) = record { read = args.input ∷ []; written = [] }
 names_of (Trial args) = record { read = []; written = [] }
 

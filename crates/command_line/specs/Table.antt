@@ -1,9 +1,9 @@
 -- The table of commands: a row for each, with its keys and which of them name files; and what each key's value is.
 use Rattle.std.specs.Prelude.{ℕ, ◌-◌, ◌^◌, Bool, List, [], ◌∷◌, find, Option, bytes_eq, codes}
 use Rattle.command_line.specs.declared.table.Key.{Key}
-use Rattle.command_line.specs.declared.table.Key.TheVariants.{In, Cert, Nonempty, Sibling, Coverage, Nodes, Worlds, Token, Resume, Kinds, Seed, Size}
+use Rattle.command_line.specs.declared.table.Key.TheVariants.{In, Cert, Nonempty, Sibling, Coverage, Nodes, Worlds, Token, Resume, Kinds, Seed, Size, Left, Right, Set}
 use Rattle.command_line.specs.declared.table.KeyKind.{KeyKind}
-use Rattle.command_line.specs.declared.table.KeyKind.TheVariants.{Switch, FileName, ReportNames, Limit, Number, EvenNumber}
+use Rattle.command_line.specs.declared.table.KeyKind.TheVariants.{Switch, FileName, ReportNames, Text, Letters, Limit, Number, EvenNumber}
 use Rattle.command_line.specs.declared.table.Command.{Command}
 use Rattle.command_line.specs.declared.table.Command.TheVariants as command
 
@@ -21,6 +21,9 @@ key_name Resume = codes "resume"
 key_name Kinds = codes "kinds"
 key_name Seed = codes "seed"
 key_name Size = codes "size"
+key_name Left = codes "left"
+key_name Right = codes "right"
+key_name Set = codes "set"
 
 -- what a key's value is
 abbrev pub kind_of : Key → KeyKind
@@ -36,6 +39,9 @@ kind_of Resume = FileName
 kind_of Kinds = ReportNames
 kind_of Seed = Number 0 (2 ^ 64 - 1)
 kind_of Size = EvenNumber 14 256
+kind_of Left = Text
+kind_of Right = Text
+kind_of Set = Letters
 
 -- whether two keys are one
 abbrev pub same_key : Key → Key → Bool
@@ -80,6 +86,20 @@ row_of command.Conflict = record {
   reads = In ∷ [];
   writes = Cert ∷ [];
 }
+row_of command.Lattice = record {
+  name = codes "lattice";
+  required = In ∷ [];
+  optional = Cert ∷ Nonempty ∷ Sibling ∷ Coverage ∷ [];
+  reads = In ∷ [];
+  writes = Cert ∷ [];
+}
+row_of command.Explain = record {
+  name = codes "explain";
+  required = In ∷ Left ∷ Right ∷ Set ∷ [];
+  optional = Nonempty ∷ Sibling ∷ Coverage ∷ [];
+  reads = In ∷ [];
+  writes = [];
+}
 row_of command.Report = record {
   name = codes "report";
   required = In ∷ Kinds ∷ [];
@@ -97,7 +117,7 @@ row_of command.Trial = record {
 
 -- the commands, in the order of the table
 abbrev pub all_commands : List Command
-all_commands = command.Align ∷ command.Check ∷ command.Mir ∷ command.Conflict ∷ command.Report ∷ command.Trial ∷ []
+all_commands = command.Align ∷ command.Check ∷ command.Mir ∷ command.Conflict ∷ command.Lattice ∷ command.Explain ∷ command.Report ∷ command.Trial ∷ []
 
 -- the command with this name
 abbrev pub command_named : List ℕ → Option Command

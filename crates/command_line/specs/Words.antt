@@ -2,12 +2,13 @@
 use Rattle.std.specs.Prelude.{ℕ, ◌==◌, ◌%◌, Bool, true, false, not, ◌||◌, ◌&&◌, ◌-◌, ◌^◌, List, [], ◌∷◌, ◌++◌, length, find, Option, Some, None, option_map, option_and_then, unwrap_or, Result, Ok, Err, if◌then◌else◌, bytes_eq, codes, ⊤}
 use Rattle.std.specs.List.{list_any, list_all, flat_map, before_first, after_first}
 use Rattle.rcc5_core.specs.declared.RelSet.{RelSet}
+use Rattle.rcc5_core.specs.RelationSet.{no_rels}
 use Rattle.proof_text.specs.Numbers.{number_in}
 use Rattle.proof_text.specs.Words.{words_of}
 use Rattle.text_words.specs.Words.{set_of_letters}
 use Rattle.world_model.specs.declared.Switches.{Switches}
 use Rattle.command_line.specs.declared.table.Key.{Key}
-use Rattle.command_line.specs.declared.table.Key.TheVariants.{In, Cert, Nonempty, Sibling, Coverage, Nodes, Worlds, Token, Resume, Kinds, Seed, Size}
+use Rattle.command_line.specs.declared.table.Key.TheVariants.{In, Cert, Nonempty, Sibling, Coverage, Nodes, Worlds, Token, Resume, Kinds, Seed, Size, Left, Right, Set}
 use Rattle.command_line.specs.declared.table.KeyKind.{KeyKind}
 use Rattle.command_line.specs.declared.table.KeyKind.TheVariants.{Switch, FileName, FileNames, ReportNames, Text, Letters, Limit, Number, EvenNumber}
 use Rattle.command_line.specs.declared.table.Command.{Command}
@@ -16,8 +17,9 @@ use Rattle.command_line.specs.declared.Operand.{Operand}
 use Rattle.command_line.specs.declared.UsageKind.{UsageKind}
 use Rattle.command_line.specs.declared.UsageKind.TheVariants.{NoCommand, UnknownCommand, NotOperand, UnknownKey, KeyTwice, BadSwitch, BadNumber, BadSet, ZeroBudget, EmptyName, UnknownKind, KindTwice, MissingKey, BudgetWithoutToken, SameName}
 use Rattle.command_line.specs.declared.request.Request.{Request}
-use Rattle.command_line.specs.declared.request.Request.TheVariants.{Align, Check, Mir, Conflict, Report, Trial}
+use Rattle.command_line.specs.declared.request.Request.TheVariants.{Align, Check, Mir, Conflict, Lattice, Explain, Report, Trial}
 use Rattle.command_line.specs.declared.request.ClaimsArgs.{ClaimsArgs}
+use Rattle.command_line.specs.declared.request.ExplainArgs.{ExplainArgs}
 use Rattle.command_line.specs.declared.WordsFault.{WordsFault}
 use Rattle.command_line.specs.declared.WordsFault.TheVariants.{Usage, NoMemory}
 use Rattle.command_line.specs.Table.{Row, row_of, command_named, key_name, kind_of, same_key}
@@ -194,7 +196,7 @@ abbrev pub has_same_name : List Operand → Bool
 has_same_name [] = false
 has_same_name (operand ∷ operands) = list_any (is_among (flat_map file_names operands)) (file_names operand) || has_same_name operands
 
--- the names of reports, the seed and the size that are given
+-- the names of reports, the seed, the size and the set of relations that are given
 abbrev pub kinds_of : List Operand → List (List ℕ)
 kinds_of operands = names_in (unwrap_or (value_of operands Kinds) [])
 
@@ -204,9 +206,22 @@ seed_in operands = unwrap_or (limit_of operands Seed) 0
 abbrev pub size_in : List Operand → ℕ
 size_in operands = unwrap_or (option_and_then (number_in 14 256) (value_of operands Size)) 0
 
+abbrev pub set_in : List Operand → RelSet
+set_in operands = unwrap_or (option_and_then set_of_letters (value_of operands Set)) no_rels
+
 -- the arguments of a question that is answered by claims
 abbrev pub claims_args : List Operand → ClaimsArgs
 claims_args operands = record { input = unwrap_or (value_of operands In) []; cert = value_of operands Cert; switches = switches_of operands }
+
+-- the arguments of a question about the relation of a pair
+abbrev pub explain_args : List Operand → ExplainArgs
+explain_args operands = record {
+  input = unwrap_or (value_of operands In) [];
+  left = unwrap_or (value_of operands Left) [];
+  right = unwrap_or (value_of operands Right) [];
+  set = set_in operands;
+  switches = switches_of operands;
+}
 
 -- the request of a command, whose required keys are given
 abbrev pub request_for : Command → List Operand → Request
@@ -226,6 +241,8 @@ request_for command.Check operands = Check (record {
 })
 request_for command.Mir operands = Mir (claims_args operands)
 request_for command.Conflict operands = Conflict (claims_args operands)
+request_for command.Lattice operands = Lattice (claims_args operands)
+request_for command.Explain operands = Explain (explain_args operands)
 request_for command.Report operands = Report (record {
   input = unwrap_or (value_of operands In) [];
   kinds = kinds_of operands;

@@ -1,16 +1,18 @@
 //! The request of a command, by the values of its keys.
 ghost use Rattle.std.specs.Prelude.{◌≡◌, ◌≤◌, [], IfOk, unwrap_or};
-ghost use Rattle.command_line.specs.Words.{value_of, is_on, switches_of, kinds_of, seed_in, size_in, claims_args, request_for};
+ghost use Rattle.command_line.specs.Words.{value_of, is_on, switches_of, kinds_of, seed_in, size_in, set_in, claims_args, explain_args, request_for};
 ghost use Rattle.command_line.specs.declared.table.Command.TheVariants as commands;
 
 use crate::kinds::{split_names, word_of};
 use crate::words::{limit_of, value_of};
 use crate::{
-    AlignArgs, CheckArgs, ClaimsArgs, Command, Key, Operand, ReportArgs, Request, TrialArgs, Word,
-    WordList,
+    AlignArgs, CheckArgs, ClaimsArgs, Command, ExplainArgs, Key, Operand, ReportArgs, Request,
+    TrialArgs, Word, WordList,
 };
 use proof_text::read_number;
+use rcc5_core::RelSet;
 use std::alloc::{AllocError, Global};
+use text_words::set_of_letters;
 use world_model::Switches;
 
 fn is_on(operands: &[Operand], key: Key) -> bool
@@ -75,6 +77,16 @@ fn size_in(operands: &[Operand]) -> u32
     }
 }
 
+// The relations whose letters are given.
+fn set_in(operands: &[Operand]) -> RelSet
+    ensures { result ≡ set_in operands.now }
+{
+    let Some(value) = value_of(operands, Key::Set) else {
+        return RelSet::none();
+    };
+    set_of_letters(value.as_bytes()).unwrap_or(RelSet::none())
+}
+
 fn align_request(alloc: Global, operands: &[Operand]) -> Result<Request, AllocError>
     ensures { IfOk result (λ request. request ≡ request_for commands.Align operands.now) }
 {
@@ -110,6 +122,19 @@ fn claims_args(alloc: Global, operands: &[Operand]) -> Result<ClaimsArgs, AllocE
     })
 }
 
+// The arguments of a question about the relation of a pair.
+fn explain_args(alloc: Global, operands: &[Operand]) -> Result<ExplainArgs, AllocError>
+    ensures { IfOk result (λ args. args ≡ explain_args operands.now) }
+{
+    Ok(ExplainArgs {
+        input: required_name(alloc, operands, Key::In)?,
+        left: required_name(alloc, operands, Key::Left)?,
+        right: required_name(alloc, operands, Key::Right)?,
+        set: set_in(operands),
+        switches: switches_of(operands),
+    })
+}
+
 fn report_request(alloc: Global, operands: &[Operand]) -> Result<Request, AllocError>
     ensures { IfOk result (λ request. request ≡ request_for commands.Report operands.now) }
 {
@@ -133,6 +158,8 @@ pub(crate) fn make_request(
         Command::Check => check_request(alloc, operands),
         Command::Mir => Ok(Request::Mir(claims_args(alloc, operands)?)),
         Command::Conflict => Ok(Request::Conflict(claims_args(alloc, operands)?)),
+        Command::Lattice => Ok(Request::Lattice(claims_args(alloc, operands)?)),
+        Command::Explain => Ok(Request::Explain(explain_args(alloc, operands)?)),
         Command::Report => report_request(alloc, operands),
         Command::Trial => Ok(Request::Trial(TrialArgs {
             seed: seed_in(operands),

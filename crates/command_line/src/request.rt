@@ -1,6 +1,7 @@
 //! What the words ask for: a command with its arguments, each by its name.
 
 use crate::{Word, WordList};
+use rcc5_core::RelSet;
 use world_model::Switches;
 
 /// What `align` is given: list the possible worlds of the problem in a file.
@@ -28,12 +29,25 @@ pub struct CheckArgs {
     pub switches: Switches,
 }
 
-/// What `mir` and `conflict` are given: answer a question about the problem in a file by claims.
+/// What `mir`, `conflict` and `lattice` are given: answer a question about the problem in a file by claims.
 #[derive(Drop)]
 pub struct ClaimsArgs {
     pub input: Word,
     /// The file for the certificate.
     pub cert: Option<Word>,
+    pub switches: Switches,
+}
+
+/// What `explain` is given: tell why the relation of two concepts of the problem in a file is one of a set.
+#[derive(Drop)]
+pub struct ExplainArgs {
+    pub input: Word,
+    /// A concept of the problem, as TAXONOMY.CONCEPT.
+    pub left: Word,
+    /// Another, as TAXONOMY.CONCEPT.
+    pub right: Word,
+    /// The relations of which the pair is to have one.
+    pub set: RelSet,
     pub switches: Switches,
 }
 
@@ -64,6 +78,10 @@ pub enum Request {
     Mir(ClaimsArgs),
     /// Find the least set of statements that are in conflict.
     Conflict(ClaimsArgs),
+    /// Find all least sets of statements that are in conflict, and all largest that fit together.
+    Lattice(ClaimsArgs),
+    /// Find the least set of statements from which it follows that the relation of a pair is one of a set.
+    Explain(ExplainArgs),
     /// Report of all possible worlds.
     Report(ReportArgs),
     /// Make a problem and try the program on it.

@@ -9,6 +9,8 @@ pub enum Command {
     Check,
     Mir,
     Conflict,
+    Lattice,
+    Explain,
     Report,
     Trial,
 }
@@ -28,6 +30,9 @@ pub enum Key {
     Kinds,
     Seed,
     Size,
+    Left,
+    Right,
+    Set,
 }
 
 /// What a key's value is.
@@ -53,11 +58,13 @@ pub enum KeyKind {
     EvenNumber { least: u64, most: u64 },
 }
 
-static COMMANDS: [Command; 6] = [
+static COMMANDS: [Command; 8] = [
     Command::Align,
     Command::Check,
     Command::Mir,
     Command::Conflict,
+    Command::Lattice,
+    Command::Explain,
     Command::Report,
     Command::Trial,
 ];
@@ -67,6 +74,8 @@ static IN: [Key; 1] = [Key::In];
 static CERT: [Key; 1] = [Key::Cert];
 
 static IN_CERT: [Key; 2] = [Key::In, Key::Cert];
+
+static IN_LEFT_RIGHT_SET: [Key; 4] = [Key::In, Key::Left, Key::Right, Key::Set];
 
 static IN_KINDS: [Key; 2] = [Key::In, Key::Kinds];
 
@@ -110,6 +119,8 @@ impl Command {
             Command::Check => "check",
             Command::Mir => "mir",
             Command::Conflict => "conflict",
+            Command::Lattice => "lattice",
+            Command::Explain => "explain",
             Command::Report => "report",
             Command::Trial => "trial",
         }
@@ -120,8 +131,9 @@ impl Command {
         ensures { result.now ≡ (row_of self).required }
     {
         match self {
-            Command::Align | Command::Mir | Command::Conflict => &IN,
+            Command::Align | Command::Mir | Command::Conflict | Command::Lattice => &IN,
             Command::Check => &IN_CERT,
+            Command::Explain => &IN_LEFT_RIGHT_SET,
             Command::Report => &IN_KINDS,
             Command::Trial => &SEED_SIZE,
         }
@@ -133,8 +145,8 @@ impl Command {
     {
         match self {
             Command::Align => &LISTING,
-            Command::Check | Command::Report => &SWITCHES,
-            Command::Mir | Command::Conflict => &CERT_SWITCHES,
+            Command::Check | Command::Explain | Command::Report => &SWITCHES,
+            Command::Mir | Command::Conflict | Command::Lattice => &CERT_SWITCHES,
             Command::Trial => &NONE,
         }
     }
@@ -146,7 +158,11 @@ impl Command {
         match self {
             Command::Align => &IN_RESUME,
             Command::Check => &IN_CERT,
-            Command::Mir | Command::Conflict | Command::Report => &IN,
+            Command::Mir
+            | Command::Conflict
+            | Command::Lattice
+            | Command::Explain
+            | Command::Report => &IN,
             Command::Trial => &NONE,
         }
     }
@@ -157,8 +173,8 @@ impl Command {
     {
         match self {
             Command::Align => &CERT_TOKEN,
-            Command::Mir | Command::Conflict => &CERT,
-            Command::Check | Command::Report | Command::Trial => &NONE,
+            Command::Mir | Command::Conflict | Command::Lattice => &CERT,
+            Command::Check | Command::Explain | Command::Report | Command::Trial => &NONE,
         }
     }
 }
@@ -181,6 +197,9 @@ impl Key {
             Key::Kinds => "kinds",
             Key::Seed => "seed",
             Key::Size => "size",
+            Key::Left => "left",
+            Key::Right => "right",
+            Key::Set => "set",
         }
     }
 
@@ -201,6 +220,8 @@ impl Key {
                 least: 14,
                 most: 256,
             },
+            Key::Left | Key::Right => KeyKind::Text,
+            Key::Set => KeyKind::Letters,
         }
     }
 }
