@@ -12,5 +12,5 @@ pub use begun::begin;
 pub use clauses::has_concept;
 pub use family::met_by;
 pub use ground::{Ground, ground_of};
-pub use relations::{rel_lit, rule};
+pub use relations::{give_place, rel_lit, rule};
 pub use solver::{FamilySolver, Grant};

@@ -207,14 +207,16 @@ fn give_relation(
     Ok(())
 }
 
-// Gives a solver what the relations that the pair at a place allows say of its regions. Where the pair allows a whole set, what is
-// empty is given only if that is wanted: else it is left to the questions.
-fn give_place(
+/// Gives a solver what the relations of a set say of the regions of the pair at a place, as far as the pair allows them, and that it
+/// has one that it allows. Where it allows a whole set, what is empty is given only if that is wanted: else it is left to the
+/// questions.
+pub fn give_place(
     alloc: Global,
     solver: &mut Solver,
     problem: &Problem,
     ground: &Ground,
     place: usize,
+    set: RelSet,
     empties: bool,
 ) -> Result<(), AllocError>
     requires ground { IsGround problem.now ground.now }
@@ -223,26 +225,25 @@ fn give_place(
     ensures begun { OnOk result (IsBegun problem.now ground.now solver.new) }
     ensures exact { OnOk result (solver.new.variables ≡ solver.old.variables) }
 {
-    let set = problem.allowed(ground.pairs[place]);
-    let empties = empties || !set.is_whole();
-    if !set.is_whole() {
+    let allowed = problem.allowed(ground.pairs[place]);
+    let empties = empties || !allowed.is_whole();
+    if !allowed.is_whole() {
         give_rule(alloc, solver, problem, ground, place)?;
     }
     'rels: for rel in RELS {
-        if set.has(rel) {
+        if set.has(rel) && allowed.has(rel) {
             give_relation(alloc, solver, problem, ground, place, rel, empties)?;
         }
     }
     Ok(())
 }
 
-// Gives a solver all of that.
+// Gives a solver what the relations that they allow say of the pairs at all places.
 pub(crate) fn give_places(
     alloc: Global,
     solver: &mut Solver,
     problem: &Problem,
     ground: &Ground,
-    empties: bool,
 ) -> Result<(), AllocError>
     requires ground { IsGround problem.now ground.now }
     requires begun { IsBegun problem.now ground.now solver.old }
@@ -250,7 +251,8 @@ pub(crate) fn give_places(
     ensures exact { OnOk result (solver.new.variables ≡ solver.old.variables) }
 {
     for place in 0..ground.pairs.len() {
-        give_place(alloc, solver, problem, ground, place, empties)?;
+        let set = problem.allowed(ground.pairs[place]);
+        give_place(alloc, solver, problem, ground, place, set, false)?;
     }
     Ok(())
 }

@@ -8,7 +8,7 @@ use crate::begun::begin;
 use crate::clauses::{REGIONS, is_empty, lies};
 use crate::family::met_by;
 use crate::ground::Ground;
-use crate::relations::rel_lit;
+use crate::relations::{give_places, rel_lit};
 use constraint_set::Problem;
 use learn_solver::{Answer, Solver};
 use lits_core::{Bits, Lit, law_derived_clauses_follow, law_literals_are_sets};
@@ -107,7 +107,8 @@ impl FamilySolver {
         requires ground { IsGround problem.now ground.now }
         ensures { IfOk result (IsFamilySolver problem.now ground.now) }
     {
-        let solver = begin(alloc, problem, ground, 0, false)?;
+        let mut solver = begin(alloc, problem, ground, 0)?;
+        give_places(alloc, &mut solver, problem, ground)?;
         Ok(FamilySolver { solver })
     }
 

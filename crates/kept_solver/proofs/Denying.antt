@@ -29,6 +29,14 @@ pub on_true : (flags : List Bool) (place : ℕ) (d : Bool) → place < length fl
 on_true flags place d small on = slice_get-get_or flags place d small ∙ ap Some on
 
 -- a call of the solver keeps what it is
+pub kept_goes : DerivedClausesFollow → LiteralsAreSets → (p : Problem) (one : KeptSolver) (new : SolverState) → GoesTo one.solver new → IsKeptSolver p one → IsKeptSolver p (record one { solver = new })
+kept_goes follow law p one new goes before = record {
+  ground = before.ground;
+  few = before.few;
+  variables = goes.variables ∙ before.variables;
+  ruled = λ kept flags f met. given_stays follow law one.solver new goes (truths (bare p) one.ground f kept) ∙ before.ruled kept flags f met;
+}
+
 pub kept_stays : DerivedClausesFollow → LiteralsAreSets → (p : Problem) (one : KeptSolver) (mid new : SolverState) → mid ≡ record one.solver { waiting = [] } → GoesTo mid new → IsKeptSolver p one → IsKeptSolver p (record one { solver = new })
 kept_stays follow law p one mid new is goes before = record {
   ground = before.ground;

@@ -1,5 +1,5 @@
 //! The clauses on what articulations say.
-ghost use Rattle.family_solver.specs.Showing.{variable_count};
+ghost use Rattle.family_solver.specs.Showing.{IsBegun, IsGround, variable_count};
 ghost use Rattle.kept_solver.specs.Keeping.{IsBegunKept, IsSoKept};
 ghost use Rattle.std.specs.List.{list_any};
 ghost use Rattle.std.specs.Prelude.{IsTrue, OnOk, Some, length, not, slice_get, ◌+◌, ◌<◌, ◌^◌, ◌≡◌};
@@ -11,7 +11,7 @@ ghost use Rattle.world_model.specs.declared.Articulation.TheVariants.{Pair, Sum}
 use crate::flags::flag_lit;
 use crate::ground::place_of;
 use constraint_set::Problem;
-use family_solver::{Ground, has_concept, rule};
+use family_solver::{Ground, give_place, has_concept, rule};
 use learn_solver::Solver;
 use lits_core::{Bits, Lit, law_literals_are_sets};
 use rcc5_core::RelSet;
@@ -166,6 +166,68 @@ pub(crate) fn give_articulations(
 {
     for index in 0..problem.articulation_count() {
         give_articulation(alloc, solver, problem, ground, index)?;
+    }
+    Ok(())
+}
+
+// The relations that one of two sets has.
+fn either(one: RelSet, other: RelSet) -> RelSet {
+    RelSet {
+        equals: one.equals || other.equals,
+        includes: one.includes || other.includes,
+        included_in: one.included_in || other.included_in,
+        overlaps: one.overlaps || other.overlaps,
+        disjoint: one.disjoint || other.disjoint,
+    }
+}
+
+// For each place the relations of which some articulation speaks, and all that the pair allows where it does not allow a whole set.
+fn spoken_of(
+    alloc: Global,
+    problem: &Problem,
+    base: &Problem,
+    ground: &Ground,
+) -> Result<Vec<RelSet>, AllocError>
+    requires { IsGround base.now ground.now }
+{
+    let mut spoken = Vec::new(alloc);
+    for pair in &ground.pairs {
+        let allowed = base.allowed(*pair);
+        spoken.push(if allowed.is_whole() {
+            RelSet::none()
+        } else {
+            allowed
+        })?;
+    }
+    for index in 0..problem.articulation_count() {
+        if let Articulation::Pair { left, right, set } = problem.articulation(index) {
+            if let Some(place) = place_of(ground, problem.pair_index(*left, *right)) {
+                if let Some(said) = spoken.get_mut(place) {
+                    *said = either(*said, *set);
+                }
+            }
+        }
+    }
+    Ok(spoken)
+}
+
+// Gives a solver what these relations say.
+pub(crate) fn give_spoken(
+    alloc: Global,
+    solver: &mut Solver,
+    problem: &Problem,
+    base: &Problem,
+    ground: &Ground,
+) -> Result<(), AllocError>
+    requires ground { IsGround base.now ground.now }
+    requires begun { IsBegun base.now ground.now solver.old }
+    ensures begun { OnOk result (IsBegun base.now ground.now solver.new) }
+    ensures exact { OnOk result (solver.new.variables ≡ solver.old.variables) }
+{
+    let spoken = spoken_of(alloc, problem, base, ground)?;
+    for place in 0..ground.pairs.len() {
+        let set = spoken.get(place).copied().unwrap_or(RelSet::all());
+        give_place(alloc, solver, base, ground, place, set, true)?;
     }
     Ok(())
 }

@@ -7,7 +7,7 @@ ghost use Rattle.std.specs.Prelude.{IfOk, IfSome, length, ◌+◌, ◌≡◌};
 ghost use Rattle.watch_arena.specs.Trails.{AreInRange};
 ghost use Rattle.world_model.specs.Questions.{HasFlags};
 
-use crate::clauses::give_articulations;
+use crate::clauses::{give_articulations, give_spoken};
 use crate::flags::{assumed, core_of};
 use crate::ground::{bare, few_points};
 use constraint_set::Problem;
@@ -36,6 +36,9 @@ pub struct KeptSolver {
     pub(crate) solver: Solver,
 }
 
+// Where more learnt clauses than these are idle, they are forgotten before a question.
+const MOST_IDLE: u64 = 500;
+
 impl KeptSolver {
     /// A solver for a problem, if its points are few. Which articulations the problem keeps itself doesn't matter.
     pub fn new(alloc: Global, problem: &Problem) -> Result<Option<KeptSolver>, AllocError>
@@ -46,9 +49,24 @@ impl KeptSolver {
             return Ok(None);
         };
         let more = problem.articulation_count();
-        let mut solver = begin(alloc, &base, &ground, more, true)?;
+        let mut solver = begin(alloc, &base, &ground, more)?;
+        give_spoken(alloc, &mut solver, problem, &base, &ground)?;
         give_articulations(alloc, &mut solver, problem, &ground)?;
         Ok(Some(KeptSolver { ground, solver }))
+    }
+
+    // Forgets what was learnt where that is much, since each clause takes time at every step.
+    fn forget(&mut self, problem: &Problem) -> Result<(), AllocError>
+        requires { IsKeptSolver problem.now self.old }
+        ensures solver { IsKeptSolver problem.now self.new }
+        ensures ground { self.new.ground ≡ self.old.ground }
+    {
+        law_literals_are_sets();
+        law_derived_clauses_follow();
+        if self.solver.has_more_idle(MOST_IDLE) {
+            self.solver.tidy()?;
+        }
+        Ok(())
     }
 
     // Bits that meet all clauses and some literals, or the clause that shows that there are none.
@@ -62,6 +80,7 @@ impl KeptSolver {
     {
         law_literals_are_sets();
         law_derived_clauses_follow();
+        self.forget(problem)?;
         self.solver.clear_lines();
         self.solver.solve(&[], lits)
     }

@@ -6,5 +6,5 @@ use Rattle.kept_solver.proofs.solver.KeptSolver.new.Goals as goal
 pub give_articulations-requires-clause-begun : goal.give_articulations-requires-clause-begun
 give_articulations-requires-clause-begun c =
     let g = c.in-Some.ground in
-    let s = c.in_ok-solver.solver in
-    begun_kept c.args.problem.now g s (subst (λ q. IsBegun q g s) c.in_ok-base.ensures c.in_ok-solver.ensures.begun) (c.in_ok-solver.ensures.exact ∙ ap (λ n. variable_count g + n) c.articulation_count-more.ensures)
+    let s = c.give_spoken.new.solver in
+    begun_kept c.args.problem.now g s (subst (λ q. IsBegun q g s) c.in_ok-base.ensures c.in_ok-give_spoken.ensures.begun) (c.in_ok-give_spoken.ensures.exact ∙ c.in_ok-solver.ensures.exact ∙ ap (λ n. variable_count g + n) c.articulation_count-more.ensures)
