@@ -33,6 +33,13 @@ impl Worlds {
     {
         &self.list
     }
+
+    /// The worlds, for who keeps them longer than what was accepted.
+    pub fn into_list(self) -> Vec<Position>
+        ensures { result.items ≡ self }
+    {
+        self.list
+    }
 }
 
 /// That a family meets the problem of a subject, or that none does.
