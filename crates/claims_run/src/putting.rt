@@ -1,14 +1,13 @@
 //! The lines of answers.
-ghost use Rattle.std.specs.Prelude.{◌≡◌, ◌<◌, length, string_bytes, IfOk, OnOk};
+ghost use Rattle.std.specs.Prelude.{◌≡◌, string_bytes, IfOk};
 ghost use Rattle.world_model.specs.Questions.{HasFlags};
-ghost use Rattle.conflict_min.specs.Conflicts.{places_from};
 ghost use Rattle.run_ends.specs.Runs.{LeavesPiece};
 ghost use Rattle.claims_run.specs.Answering.{mir_line, conflict_line, answer_text};
-ghost use Rattle.claims_run.specs.Putting.{IsFlagged, IsNumberedAt};
+ghost use Rattle.claims_run.specs.Putting.{IsFlagged};
 ghost use Rattle.claims_run.specs.declared.question.Answer.TheVariants.{Possible, Conflict};
 
+use crate::kept_lines::{count_kept, put_kept};
 use crate::question::Answer;
-use cleantax_text::articulation_text;
 use constraint_set::Problem;
 use mir_report::MirSets;
 use outer_store::{Sink, StoreFault};
@@ -34,43 +33,11 @@ fn mir_text(alloc: Global, problem: &Problem, mir: &MirSets) -> Result<Vec<u8>, 
     Ok(text)
 }
 
-// How many flags are true.
-fn count_kept(kept: &[bool]) -> usize
-    ensures { result ≡ length (places_from 0 kept.now) }
-{
-    let mut count = 0;
-    for place in 0..kept.len() {
-        if kept[place] {
-            count += 1;
-        }
-    }
-    count
-}
-
 // The first line of a conflict.
 fn conflict_line(alloc: Global, count: usize) -> Result<String, AllocError>
     ensures { IfOk result (λ line. string_bytes line ≡ conflict_line count) }
 {
     format!(in alloc; "conflict {count}\n")
-}
-
-// Puts the number of an articulation, from 1, and its canonical text.
-fn put_articulation(
-    alloc: Global,
-    problem: &Problem,
-    index: u32,
-    text: &mut Vec<u8>,
-) -> Result<(), AllocError>
-    requires { index < length problem.now.articulations }
-    ensures { OnOk result (IsNumberedAt problem.now index text.old.items text.new.items) }
-{
-    problem.facts();
-    let number = index + 1;
-    let number = format!(in alloc; "{number} ")?;
-    text.extend_from_slice(number.as_bytes())?;
-    text.extend_from_slice(&articulation_text(alloc, problem, index)?)?;
-    text.push(b'\n')?;
-    Ok(())
 }
 
 // The lines of a conflict.
@@ -80,11 +47,7 @@ fn conflict_text(alloc: Global, problem: &Problem, kept: &[bool]) -> Result<Vec<
 {
     let first = conflict_line(alloc, count_kept(kept))?;
     let mut text = Vec::from_slice(alloc, first.as_bytes())?;
-    for index in 0..problem.articulation_count() {
-        if kept[index as usize] {
-            put_articulation(alloc, problem, index, &mut text)?;
-        }
-    }
+    put_kept(alloc, problem, kept, &mut text)?;
     Ok(text)
 }
 

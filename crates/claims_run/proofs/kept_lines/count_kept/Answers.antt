@@ -1,7 +1,7 @@
 use Rattle.std.proofs.Common.{sym, arith}
-use Rattle.claims_run.proofs.PutLemmas.{counted_kept, counted_dropped, counted_all}
-use Rattle.claims_run.proofs.putting.count_kept.Goals as goal
-use Rattle.claims_run.proofs.putting.count_kept.Goals.{then-kept-place, else-kept-place}
+use Rattle.claims_run.proofs.KeptLemmas.{counted_kept, counted_dropped, counted_all}
+use Rattle.claims_run.proofs.kept_lines.count_kept.Goals as goal
+use Rattle.claims_run.proofs.kept_lines.count_kept.Goals.{then-kept-place, else-kept-place}
 
 pub loop-place-preserved : goal.loop-place-preserved
 loop-place-preserved c =
