@@ -4,7 +4,7 @@ use Rattle.outer_store.specs.Contents.{Contents}
 use Rattle.outer_store.specs.States.{StoreState, SinkState}
 use Rattle.command_line.specs.declared.UsageKind.{UsageKind}
 use Rattle.command_line.specs.declared.request.Request.{Request}
-use Rattle.command_line.specs.declared.request.Request.TheVariants.{Align, Check, Mir, Conflict, Report, Trial}
+use Rattle.command_line.specs.declared.request.Request.TheVariants.{Align, Check, Mir, Conflict, Lattice, Explain, Report, Trial}
 use Rattle.command_line.specs.Words.{request_of}
 use Rattle.command_line.specs.Requests.{Names, names_of}
 use Rattle.run_ends.specs.declared.Status.{Status}
@@ -15,6 +15,7 @@ use Rattle.listing_run.specs.Output.{IsListingAnswer}
 use Rattle.check_run.specs.Checking.{IsCheckAnswer}
 use Rattle.claims_run.specs.declared.question.Question.TheVariants as question
 use Rattle.claims_run.specs.Answering.{IsClaimsAnswer}
+use Rattle.explain_run.specs.Answering.{IsExplainAnswer}
 use Rattle.report_run.specs.Reporting.{Watched, IsReportAnswer}
 use Rattle.trial_run.specs.Trials.{IsTrialAnswer}
 
@@ -29,6 +30,8 @@ answers_to watchers (Ok (Align args)) held status text files = IsListingAnswer a
 answers_to watchers (Ok (Check args)) held status text files = IsCheckAnswer args.input args.cert args.switches held status text files
 answers_to watchers (Ok (Mir args)) held status text files = IsClaimsAnswer question.Relations args.input args.cert args.switches held status text files
 answers_to watchers (Ok (Conflict args)) held status text files = IsClaimsAnswer question.Conflicts args.input args.cert args.switches held status text files
+answers_to watchers (Ok (Lattice args)) held status text files = IsClaimsAnswer question.Lattice args.input args.cert args.switches held status text files
+answers_to watchers (Ok (Explain args)) held status text files = IsExplainAnswer args held status text files
 answers_to watchers (Ok (Report args)) held status text files = IsReportAnswer args.input args.kinds args.switches watchers held status text files
 answers_to watchers (Ok (Trial args)) held status text files = IsTrialAnswer args.seed args.size held status text files
 answers_to watchers (Err kind) held status text files = (status ≡ Usage kind) × (text ≡ end_line (Usage kind)) × (files ≡ [])

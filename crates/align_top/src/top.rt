@@ -10,6 +10,7 @@ use crate::words::read_words;
 use check_run::run_check;
 use claims_run::{Question, run_claims};
 use command_line::{Request, WordsFault};
+use explain_run::run_explain;
 use listing_run::run_listing;
 use outer_store::{Sink, Store};
 use report_run::run_report;
@@ -63,6 +64,16 @@ fn run_plain<S: Store, W: Sink>(
             &args.cert,
             args.switches,
         ),
+        Request::Lattice(args) => run_claims(
+            alloc,
+            store,
+            out,
+            Question::Lattice,
+            args.input.text(),
+            &args.cert,
+            args.switches,
+        ),
+        Request::Explain(args) => run_explain(alloc, store, out, &args),
         Request::Trial(args) => run_trial(alloc, out, args.seed, args.size),
         Request::Report(_) => unreachable!(),
     }

@@ -3,6 +3,7 @@
 use crate::files::{explain_read, explain_write};
 use crate::help::{certificate_help, rejection_help, token_help};
 use crate::line::{line_of, read_again, show_line};
+use crate::pairs::{explain_many, explain_open, explain_pair};
 use crate::unknown::unknown_names;
 use crate::usage::{asks_for_help, explain_fault, explain_program};
 use crate::words::{kind_of, value_of};
@@ -118,6 +119,9 @@ pub(crate) fn explain(
             explain_certificate(rt, words, *line, rejection_help(*kind), advice)
         }
         Status::NoWorld => explain_no_world(rt, words),
+        Status::RefusedPair(kind) => explain_pair(rt, words, *kind),
+        Status::TooMany => explain_many(rt, words),
+        Status::NotEntailed => explain_open(rt, words),
         Status::NoMemory => eprintln!(rt;
             "out of memory; free some, or ask for less: `mir` in place of a listing, or `worlds=` for a part of it"
         ),

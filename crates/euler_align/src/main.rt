@@ -6,6 +6,7 @@ mod files;
 mod help;
 mod line;
 mod nearest;
+mod pairs;
 mod unknown;
 mod usage;
 mod words;

@@ -97,16 +97,17 @@ fn no_taxonomy(
 // The sentence on a reference whose taxonomy has no such concept.
 fn no_concept(
     alloc: Global,
+    rows: &str,
     near: &str,
     home: &str,
     taxonomy: &str,
     concept: &str,
 ) -> Result<String, AllocError> {
-    let mut said = format!(in alloc; "no row above has {taxonomy}.{concept}")?;
+    let mut said = format!(in alloc; "{rows} has {taxonomy}.{concept}")?;
     match (near.is_empty(), home.is_empty()) {
         (true, true) => write!(
             said,
-            ", and {taxonomy} has no name like it; put it into a row there, or spell it as it stands there"
+            ", and {taxonomy} has no name like it; spell it as it stands there, or put it into a row there"
         )?,
         (false, true) => write!(said, "; is it {taxonomy}.{near}?")?,
         (true, false) => write!(said, "; is it {home}.{concept}?")?,
@@ -115,10 +116,11 @@ fn no_concept(
     Ok(said)
 }
 
-// What to say of a reference; nothing where there is such a concept, or where its names may not be shown.
+// What to say of a reference, which rows may have; nothing where there is such a concept, or where its names may not be shown.
 fn told_of(
     alloc: Global,
     problem: &Problem,
+    rows: &str,
     reference: Reference<'_>,
 ) -> Result<Option<String>, AllocError> {
     let taxonomy = shown(reference.taxonomy);
@@ -136,7 +138,37 @@ fn told_of(
         return Ok(None);
     }
     let near = nearest(alloc, concept, &names)?;
-    Ok(Some(no_concept(alloc, near, home, taxonomy, concept)?))
+    let said = no_concept(alloc, rows, near, home, taxonomy, concept)?;
+    Ok(Some(said))
+}
+
+// A problem, to look for its names: which there are doesn't hang on the switches.
+fn problem_of(alloc: Global, text: &[u8]) -> Option<Problem> {
+    let switches = Switches {
+        nonempty: true,
+        sibling: true,
+        coverage: true,
+    };
+    read_problem(alloc, text, switches).ok()
+}
+
+/// What to say of a word that was to name a concept of a problem, by its text; nothing where it names one.
+pub(crate) fn unknown_name(
+    alloc: Global,
+    text: &[u8],
+    word: &str,
+) -> Result<Option<String>, AllocError> {
+    let Some(problem) = problem_of(alloc, text) else {
+        return Ok(None);
+    };
+    let Some(reference) = reference_of(word.as_bytes()) else {
+        let said = String::from_str(
+            alloc,
+            "this names no concept; write the name of its taxonomy, a full stop and its own",
+        )?;
+        return Ok(Some(said));
+    };
+    told_of(alloc, &problem, "no row", reference)
 }
 
 /// What to say of each name of a statement that no row above has, by the text and the number of the statement's line.
@@ -147,20 +179,14 @@ pub(crate) fn unknown_names(
 ) -> Result<Vec<String>, AllocError> {
     let mut told = Vec::new(alloc);
     let above = above(alloc, text, number)?;
-    // Which names there are doesn't hang on the switches.
-    let switches = Switches {
-        nonempty: true,
-        sibling: true,
-        coverage: true,
-    };
-    let Ok(problem) = read_problem(alloc, above.as_bytes(), switches) else {
+    let Some(problem) = problem_of(alloc, above.as_bytes()) else {
         return Ok(told);
     };
     let mut rest = bare(line_of(text, number).as_bytes());
     while let Some((token, after)) = next_token(rest) {
         if let Token::Word(word) = token
             && let Some(reference) = reference_of(word)
-            && let Some(sentence) = told_of(alloc, &problem, reference)?
+            && let Some(sentence) = told_of(alloc, &problem, "no row above", reference)?
         {
             told.push(sentence)?;
         }

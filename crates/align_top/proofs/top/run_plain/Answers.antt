@@ -52,3 +52,20 @@ returns-in-Conflict g c = λ watchers.
     (g.S.Store.state c.args.store.now) (g.S.Store.state c.run_claims-in-Conflict.new.store)
     (g.W.Sink.state c.args.out.now) (g.W.Sink.state c.run_claims-in-Conflict.new.out)) c.text-in-Conflict.ensures
     c.run_claims-in-Conflict.ensures)
+
+pub returns-in-Lattice : goal.returns-in-Lattice
+returns-in-Lattice g c = λ watchers.
+    subst (λ r. IsRunOf (names_of r) (answers_to watchers (Ok r)) c.run_claims-in-Lattice.result
+    (g.S.Store.state c.args.store.now) (g.S.Store.state c.run_claims-in-Lattice.new.store)
+    (g.W.Sink.state c.args.out.now) (g.W.Sink.state c.run_claims-in-Lattice.new.out)) (sym c.in-Lattice.is)
+    (subst (λ (input : List ℕ). IsRunOf (claims_names input c.in-Lattice.args.cert) (IsClaimsAnswer question.Lattice input c.in-Lattice.args.cert c.in-Lattice.args.switches) c.run_claims-in-Lattice.result
+    (g.S.Store.state c.args.store.now) (g.S.Store.state c.run_claims-in-Lattice.new.store)
+    (g.W.Sink.state c.args.out.now) (g.W.Sink.state c.run_claims-in-Lattice.new.out)) c.text-in-Lattice.ensures
+    c.run_claims-in-Lattice.ensures)
+
+pub returns-in-Explain : goal.returns-in-Explain
+returns-in-Explain g c = λ watchers.
+    subst (λ r. IsRunOf (names_of r) (answers_to watchers (Ok r)) c.run_explain.result
+    (g.S.Store.state c.args.store.now) (g.S.Store.state c.run_explain.new.store)
+    (g.W.Sink.state c.args.out.now) (g.W.Sink.state c.run_explain.new.out)) (sym c.in-Explain.is)
+    c.run_explain.ensures
