@@ -1,5 +1,5 @@
 -- How a question ends, by its parts.
-use Rattle.std.proofs.Common.{◌≡◌, ℕ, true, false, List, [], Option, None, Some, IfSome, Result, Ok, Err, refl, sym, ap, subst, ◌∙◌, inl, inr, arith}
+use Rattle.std.proofs.Common.{◌≡◌, ℕ, Bool, true, false, List, [], Option, None, Some, IfSome, Result, Ok, Err, refl, sym, ap, subst, ◌∙◌, inl, inr, arith}
 use Rattle.std.specs.Prelude.{is_some, IsTrue, ⊤}
 use Rattle.std.specs.Result.{IsErrAnd}
 use Rattle.std.specs.Option.{option_to_list}
@@ -16,14 +16,14 @@ use Rattle.run_ends.specs.declared.Status.{Status}
 use Rattle.run_ends.specs.declared.Status.TheVariants as status
 use Rattle.run_ends.specs.Ends.{end_line}
 use Rattle.run_ends.specs.Reads.{problem_in, ComesOf, IsWithout}
-use Rattle.outer_store.specs.States.{StoreState, SinkState}
-use Rattle.run_ends.specs.Runs.{LeavesPiece, AreKeptBut, IsHeld, AreWritten, Answered, ending_of, IsEarlyEnd, IsCarriedOut}
+use Rattle.outer_store.specs.States.{StoreState, SinkState, IsQuiet}
+use Rattle.run_ends.specs.Runs.{File, LeavesPiece, AreKeptBut, IsHeld, AreWritten, Answered, ending_of, IsEarlyEnd, IsCarriedOut}
 use Rattle.run_ends.proofs.EndLemmas.{carried_as}
 use Rattle.run_ends.proofs.TextLemmas.{says_problem, without_text}
 use Rattle.claims_run.specs.declared.question.Question.{Question}
 use Rattle.claims_run.specs.declared.question.Answer.{Answer}
-use Rattle.claims_run.specs.declared.question.Answer.TheVariants.{Possible, Consistent, Conflict}
-use Rattle.claims_run.specs.Answering.{answer_text, answer_status, IsClaimed, IsClaimsCert, IsAnswerPut, IsAnswerBy, IsClaimsAnswer, claims_names}
+use Rattle.claims_run.specs.declared.question.Answer.TheVariants.{Possible, Consistent, Conflict, Lattice}
+use Rattle.claims_run.specs.Answering.{has_too_many, answer_text, answer_status, IsClaimed, IsClaimsCert, IsAnswerPut, IsAnswerAbout, IsAnswerBy, IsClaimsAnswer, claims_names}
 use Rattle.run_ends.specs.Runs.{file_under}
 use Rattle.claims_run.specs.Certifying.{IsCertLeft, IsSettledWith}
 
@@ -39,18 +39,32 @@ without_problem asked input cert switches s one other end =
     })
     end
 
--- an answer about a problem is what was asked for, behind a read that left the store as it was
-pub question_carried : (asked : Question) (input : List ℕ) (cert : Option (List ℕ)) (switches : Switches) (p : Problem) (r : Result Status StoreFault) (one mid other : StoreState) (old new : SinkState) → mid ≡ one
-    → ComesOf one.held input (problem_in switches) (Ok p) → IsCarriedOut (IsAnswerPut p asked cert) r (option_to_list cert) mid other old new
-    → IsCarriedOut (IsClaimsAnswer asked input cert switches) r (option_to_list cert) one other old new
-question_carried asked input cert switches p r one mid other old new same comes carried =
-    let text = says_problem one.held input switches p comes in
-    carried_as (IsAnswerPut p asked cert) (IsClaimsAnswer asked input cert switches) r (option_to_list cert) one other old new
-    (λ s put files settled. record {
+-- what comes of a problem answers the question about the name that it comes of
+answers_by : (many : Bool) (asked : Question) (input : List ℕ) (cert : Option (List ℕ)) (switches : Switches) (p : Problem) (held : Contents) (s : Status) (put : List ℕ) (files : List File)
+    → has_too_many p asked ≡ many → ComesOf held input (problem_in switches) (Ok p) → IsAnswerAbout many p asked cert held s put files → IsClaimsAnswer asked input cert switches held s put files
+answers_by many asked input cert switches p held s put files is comes about =
+    let text = says_problem held input switches p comes in
+    record {
       bytes = text.bytes;
       told = text.told_are;
-      answer = subst (λ x. IsAnswerBy x asked cert one.held s put files) (sym text.is) settled;
-    })
+      answer =
+          subst (λ x. IsAnswerBy x asked cert held s put files) (sym text.is)
+          (subst (λ (many : Bool). IsAnswerAbout many p asked cert held s put files) (sym is) about);
+    }
+
+-- a run whose problem has more articulations than the question takes
+pub with_too_many : (asked : Question) (input : List ℕ) (cert : Option (List ℕ)) (switches : Switches) (p : Problem) (one other : StoreState) → true ≡ has_too_many p asked
+    → ComesOf one.held input (problem_in switches) (Ok p) → IsQuiet one other → IsEarlyEnd (claims_names input cert) (IsClaimsAnswer asked input cert switches) status.TooMany one other
+with_too_many asked input cert switches p one other many comes quiet =
+    inl (answers_by true asked input cert switches p one.held status.TooMany (end_line status.TooMany) [] (sym many) comes (refl, refl, refl), refl, quiet)
+
+-- an answer about a problem is what was asked for, behind a read that left the store as it was
+pub question_carried : (asked : Question) (input : List ℕ) (cert : Option (List ℕ)) (switches : Switches) (p : Problem) (r : Result Status StoreFault) (one mid other : StoreState) (old new : SinkState) → false ≡ has_too_many p asked
+    → mid ≡ one → ComesOf one.held input (problem_in switches) (Ok p) → IsCarriedOut (IsAnswerPut p asked cert) r (option_to_list cert) mid other old new
+    → IsCarriedOut (IsClaimsAnswer asked input cert switches) r (option_to_list cert) one other old new
+question_carried asked input cert switches p r one mid other old new few same comes carried =
+    carried_as (IsAnswerPut p asked cert) (IsClaimsAnswer asked input cert switches) r (option_to_list cert) one other old new
+    (λ s put files settled. answers_by false asked input cert switches p one.held s put files (sym few) comes settled)
     (subst (λ (state : StoreState). IsCarriedOut (IsAnswerPut p asked cert) r (option_to_list cert) state other old new) same carried)
 
 -- a run that has an answer ends well
@@ -59,6 +73,7 @@ answered (Possible mir true) = refl
 answered (Possible mir false) = refl
 answered Consistent = refl
 answered (Conflict kept) = refl
+answered (Lattice s) = refl
 
 -- the certificate that is left under a name, told where the name told its bytes
 pub cert_file : (p : Problem) (IsMade : List Claim → Type 0) (cert : Option (List ℕ)) (held held' : Contents) → IsCertLeft p IsMade cert held held' → AreKeptBut (option_to_list cert) held held'

@@ -7,14 +7,26 @@ use Rattle.world_model.specs.Problem.{Problem, cross_pairs}
 use Rattle.rcc5_core.specs.RelationSet.{has}
 use Rattle.mir_report.specs.declared.possible.MirSets.{MirSets}
 use Rattle.conflict_min.specs.Conflicts.{places_from}
+use Rattle.conflict_lattice.proofs.Claiming.{lattice_minimal, lattice_maximal}
 use Rattle.world_watch.specs.Kinds.{set_at, seen_lines}
 use Rattle.run_ends.specs.Ends.{in_lines}
 use Rattle.outer_store.specs.States.{SinkState}
 use Rattle.run_ends.specs.Runs.{LeavesPiece}
 use Rattle.run_ends.proofs.PieceLemmas.{IsEnded, ended_line, ended_behind, ended_lines}
 use Rattle.claims_run.specs.declared.question.Answer.{Answer}
-use Rattle.claims_run.specs.declared.question.Answer.TheVariants.{Possible, Consistent, Conflict}
-use Rattle.claims_run.specs.Answering.{numbered_line, numbered_lines, mir_line, conflict_line, answer_text}
+use Rattle.claims_run.specs.declared.question.Answer.TheVariants.{Possible, Consistent, Conflict, Lattice}
+use Rattle.claims_run.specs.Answering.{IsTrueOf, count_line, numbered_line, numbered_lines, sets_text, lattice_line, answer_text}
+use Rattle.claims_run.specs.Putting.{IsFlagged}
+
+-- a true answer has one flag for each articulation
+pub flagged : (p : Problem) (a : Answer) → IsTrueOf p a → IsFlagged p a
+flagged p (Possible mir some) is = tt
+flagged p Consistent is = tt
+flagged p (Conflict kept) is = is.flags
+flagged p (Lattice s) is = record {
+  conflicts = λ k d low. (lattice_minimal p s is k d low).flags;
+  consistent = λ k d low. (lattice_maximal p s is k d low).flags;
+}
 
 -- the lines of an answer end with a line feed
 ended_numbered : (p : Problem) (number : ℕ) (rows : List Articulation) (flags : List Bool) (before : List ℕ) → IsEnded before → IsEnded (before ++ numbered_lines p number rows flags)
@@ -26,9 +38,17 @@ ended_numbered p number (a ∷ more) (true ∷ flags) before ended =
 ended_numbered p number (a ∷ more) (false ∷ flags) before ended = ended_numbered p (number + 1) more flags before ended
 
 ended_answer : (p : Problem) (a : Answer) → IsEnded (answer_text p a)
-ended_answer p (Possible mir some) = ended_behind (seen_lines p (λ k. has (set_at mir.sets.items k))) (mir_line (length (cross_pairs p))) (ended_line (codes "mir " ++ decimal (length (cross_pairs p))))
+ended_answer p (Possible mir some) =
+    ended_behind (seen_lines p (λ k. has (set_at mir.sets.items k))) (count_line (codes "mir") (length (cross_pairs p)))
+    (ended_line (codes "mir" ++ 32 ∷ decimal (length (cross_pairs p))))
 ended_answer p Consistent = ended_line (codes "consistent")
-ended_answer p (Conflict kept) = ended_numbered p 1 p.articulations kept (conflict_line (length (places_from 0 kept))) (ended_line (codes "conflict " ++ decimal (length (places_from 0 kept))))
+ended_answer p (Conflict kept) =
+    ended_numbered p 1 p.articulations kept (count_line (codes "conflict") (length (places_from 0 kept)))
+    (ended_line (codes "conflict" ++ 32 ∷ decimal (length (places_from 0 kept))))
+ended_answer p (Lattice s) =
+    ended_behind (sets_text (codes "conflicts") s.conflicts) (sets_text (codes "consistent") s.consistent ++ lattice_line s)
+    (ended_behind (sets_text (codes "consistent") s.consistent) (lattice_line s)
+    (ended_line (codes "lattice " ++ (decimal (length s.conflicts) ++ 32 ∷ decimal (length s.consistent)))))
 
 -- so what is put in lines is the answer
 pub answer_put : {T : Type 0} (p : Problem) (a : Answer) (text : List ℕ) (r : Result T StoreFault) (old new : SinkState) → text ≡ answer_text p a → LeavesPiece r (in_lines text) old new

@@ -1,5 +1,5 @@
 //! Answers, and their claims in a log.
-ghost use Rattle.std.specs.Prelude.{◌≡◌, ◌∷◌, [], Some, IfOk};
+ghost use Rattle.std.specs.Prelude.{◌≡◌, ◌∷◌, [], false, Some, IfOk};
 ghost use Rattle.constraint_set.specs.Facts.{IsAsRead};
 ghost use Rattle.constraint_set.specs.Shape.{shape_of};
 ghost use Rattle.point_query.specs.Asking.{IsNewAsker};
@@ -7,11 +7,12 @@ ghost use Rattle.cert_text.specs.declared.line.CertLine.TheVariants.{Claims};
 ghost use Rattle.search_log.specs.Logging.{LogGoes};
 ghost use Rattle.claim_blocks.specs.Blocks.{KeepsClaims};
 ghost use Rattle.claims_run.specs.declared.question.Question.TheVariants as question;
-ghost use Rattle.claims_run.specs.Answering.{IsRight, IsClaimed};
+ghost use Rattle.claims_run.specs.Answering.{IsRight, IsClaimed, has_too_many};
 ghost use Rattle.claims_run.specs.Certifying.{AreAllTold, IsToldWhole};
 
 use crate::question::{Answer, Question};
 use cert_text::{CertLine, Flags, TreeLog};
+use conflict_lattice::{LatticeFault, all_conflicts};
 use conflict_min::{ConflictFault, least_conflict};
 use constraint_set::Problem;
 use mir_report::{has_world, mir};
@@ -57,6 +58,27 @@ fn conflict<L: TreeLog>(
     }
 }
 
+// All minimal conflicts, and all maximal consistent sets.
+fn lattice<L: TreeLog>(
+    alloc: Global,
+    problem: &Problem,
+    asker: &mut Asker,
+    log: &mut L,
+) -> Result<Answer, StepFault>
+    requires shape { asker.old.shape ≡ shape_of problem.now }
+    requires few { has_too_many problem.now question.Lattice ≡ false }
+    ensures right { IfOk result (IsRight problem.now question.Lattice) }
+    ensures keeps { KeepsClaims problem.now result (IsClaimed problem.now) (L.lines log.old) (L.lines log.new) asker.old asker.new }
+    ensures log { LogGoes L.drops L.lines L.faults L.steady L.quiet result log.old log.new }
+{
+    match all_conflicts(alloc, problem, asker, log) {
+        Ok(lattice) => Ok(Answer::Lattice(lattice)),
+        Err(LatticeFault::TooMany) => unreachable!(),
+        Err(LatticeFault::LogFailed) => Err(StepFault::LogFailed),
+        Err(LatticeFault::NoMemory) => Err(StepFault::NoMemory),
+    }
+}
+
 // The answer to a question.
 fn answer<L: TreeLog>(
     alloc: Global,
@@ -67,6 +89,7 @@ fn answer<L: TreeLog>(
 ) -> Result<Answer, StepFault>
     requires shape { asker.old.shape ≡ shape_of problem.now }
     requires as_read { IsAsRead problem.now }
+    requires few { has_too_many problem.now asked ≡ false }
     ensures right { IfOk result (IsRight problem.now asked) }
     ensures keeps { KeepsClaims problem.now result (IsClaimed problem.now) (L.lines log.old) (L.lines log.new) asker.old asker.new }
     ensures log { LogGoes L.drops L.lines L.faults L.steady L.quiet result log.old log.new }
@@ -74,6 +97,7 @@ fn answer<L: TreeLog>(
     match asked {
         Question::Relations => possible(alloc, problem, asker, log),
         Question::Conflicts => conflict(alloc, problem, asker, log),
+        Question::Lattice => lattice(alloc, problem, asker, log),
     }
 }
 
@@ -87,6 +111,7 @@ fn tell_rest<L: TreeLog>(
 ) -> Result<Answer, StepFault>
     requires new { IsNewAsker problem.now asker.old }
     requires as_read { IsAsRead problem.now }
+    requires few { has_too_many problem.now asked ≡ false }
     ensures right { IfOk result (IsRight problem.now asked) }
     ensures told { IfOk result (λ answer. L.lines log.old ≡ Some (Claims problem.now.switches ∷ []) → AreAllTold problem.now (IsClaimed problem.now answer) (L.lines log.new)) }
     ensures log { LogGoes L.drops L.lines L.faults L.steady L.quiet result log.old log.new }
@@ -104,7 +129,8 @@ pub(crate) fn tell<L: TreeLog>(
     asked: Question,
     log: &mut L,
 ) -> Result<Answer, StepFault>
-    requires { IsAsRead problem.now }
+    requires as_read { IsAsRead problem.now }
+    requires few { has_too_many problem.now asked ≡ false }
     ensures right { IfOk result (IsRight problem.now asked) }
     ensures told { IfOk result (λ answer. IsToldWhole problem.now (IsClaimed problem.now answer) (L.lines log.old) (L.lines log.new)) }
     ensures log { LogGoes L.drops L.lines L.faults L.steady L.quiet result log.old log.new }

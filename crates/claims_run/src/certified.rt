@@ -1,7 +1,7 @@
 //! An answer with its certificate.
-ghost use Rattle.std.specs.Prelude.{Some, IfOk};
+ghost use Rattle.std.specs.Prelude.{◌≡◌, false, Some, IfOk};
 ghost use Rattle.constraint_set.specs.Facts.{IsAsRead};
-ghost use Rattle.claims_run.specs.Answering.{IsRight};
+ghost use Rattle.claims_run.specs.Answering.{IsRight, has_too_many};
 ghost use Rattle.claims_run.specs.Certifying.{IsSettledWith};
 
 use crate::answering::tell;
@@ -21,7 +21,8 @@ fn settle_certified<S: Store>(
     asked: Question,
     name: &str,
 ) -> Result<Answer, StoreFault>
-    requires { IsAsRead problem.now }
+    requires as_read { IsAsRead problem.now }
+    requires few { has_too_many problem.now asked ≡ false }
     ensures { IsSettledWith problem.now asked (Some name.now) result (S.state store.old) (S.state store.new) }
 {
     store.create(name)?;
@@ -34,7 +35,8 @@ fn settle_certified<S: Store>(
 
 // Answers without a certificate.
 fn settle_bare(alloc: Global, problem: &Problem, asked: Question) -> Result<Answer, AllocError>
-    requires { IsAsRead problem.now }
+    requires as_read { IsAsRead problem.now }
+    requires few { has_too_many problem.now asked ≡ false }
     ensures { IfOk result (IsRight problem.now asked) }
 {
     match tell(alloc, problem, asked, &mut NoLog::new()) {
@@ -51,7 +53,8 @@ pub(crate) fn settled<S: Store>(
     asked: Question,
     cert: &Option<Word>,
 ) -> Result<Answer, StoreFault>
-    requires { IsAsRead problem.now }
+    requires as_read { IsAsRead problem.now }
+    requires few { has_too_many problem.now asked ≡ false }
     ensures { IsSettledWith problem.now asked cert.now result (S.state store.old) (S.state store.new) }
 {
     match cert {

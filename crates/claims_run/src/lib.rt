@@ -1,9 +1,12 @@
-//! The commands that settle questions about a problem by claims: what remains possible, and what is in conflict.
+//! The commands that settle questions about a problem by claims: what remains possible, what is in conflict, and what
+//! holds together.
 #![tactic(auto)]
 
 mod answering;
 mod certified;
+mod count_line;
 mod kept_lines;
+mod lattice_lines;
 mod putting;
 mod question;
 mod running;

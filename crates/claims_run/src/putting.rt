@@ -1,12 +1,14 @@
 //! The lines of answers.
-ghost use Rattle.std.specs.Prelude.{◌≡◌, string_bytes, IfOk};
+ghost use Rattle.std.specs.Prelude.{◌≡◌, IfOk};
 ghost use Rattle.world_model.specs.Questions.{HasFlags};
 ghost use Rattle.run_ends.specs.Runs.{LeavesPiece};
-ghost use Rattle.claims_run.specs.Answering.{mir_line, conflict_line, answer_text};
+ghost use Rattle.claims_run.specs.Answering.{answer_text};
 ghost use Rattle.claims_run.specs.Putting.{IsFlagged};
 ghost use Rattle.claims_run.specs.declared.question.Answer.TheVariants.{Possible, Conflict};
 
+use crate::count_line::put_count;
 use crate::kept_lines::{count_kept, put_kept};
+use crate::lattice_lines::lattice_text;
 use crate::question::Answer;
 use constraint_set::Problem;
 use mir_report::MirSets;
@@ -15,29 +17,14 @@ use run_ends::put_lines;
 use std::alloc::{AllocError, Global};
 use world_watch::put_sets;
 
-// The last line of possible relations.
-fn mir_line(alloc: Global, count: u32) -> Result<String, AllocError>
-    ensures { IfOk result (λ line. string_bytes line ≡ mir_line count) }
-{
-    format!(in alloc; "mir {count}\n")
-}
-
 // The lines of possible relations.
 fn mir_text(alloc: Global, problem: &Problem, mir: &MirSets) -> Result<Vec<u8>, AllocError>
     ensures { IfOk result (λ text. (some : _) → text.items ≡ answer_text problem.now (Possible mir.now some)) }
 {
     let mut text = Vec::new(alloc);
     put_sets(&mut text, alloc, problem, &mir.sets)?;
-    let last = mir_line(alloc, problem.cross_count())?;
-    text.extend_from_slice(last.as_bytes())?;
+    put_count(alloc, "mir", u64::from(problem.cross_count()), &mut text)?;
     Ok(text)
-}
-
-// The first line of a conflict.
-fn conflict_line(alloc: Global, count: usize) -> Result<String, AllocError>
-    ensures { IfOk result (λ line. string_bytes line ≡ conflict_line count) }
-{
-    format!(in alloc; "conflict {count}\n")
 }
 
 // The lines of a conflict.
@@ -45,8 +32,8 @@ fn conflict_text(alloc: Global, problem: &Problem, kept: &[bool]) -> Result<Vec<
     requires { HasFlags problem.now kept.now }
     ensures { IfOk result (λ text. text.items ≡ answer_text problem.now (Conflict kept.now)) }
 {
-    let first = conflict_line(alloc, count_kept(kept))?;
-    let mut text = Vec::from_slice(alloc, first.as_bytes())?;
+    let mut text = Vec::new(alloc);
+    put_count(alloc, "conflict", count_kept(kept) as u64, &mut text)?;
     put_kept(alloc, problem, kept, &mut text)?;
     Ok(text)
 }
@@ -60,6 +47,7 @@ fn text_of(alloc: Global, problem: &Problem, answer: &Answer) -> Result<Vec<u8>,
         Answer::Possible { mir, .. } => mir_text(alloc, problem, mir),
         Answer::Consistent => Vec::from_slice(alloc, b"consistent\n"),
         Answer::Conflict(kept) => conflict_text(alloc, problem, kept.list()),
+        Answer::Lattice(lattice) => lattice_text(alloc, problem, lattice),
     }
 }
 

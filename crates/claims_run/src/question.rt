@@ -1,5 +1,6 @@
 //! Questions, and what is answered.
 use cert_text::Flags;
+use conflict_lattice::Lattice;
 use mir_report::MirSets;
 
 /// What is asked of a problem.
@@ -9,6 +10,8 @@ pub enum Question {
     Relations,
     /// What is in conflict.
     Conflicts,
+    /// All minimal conflicts, and all maximal sets of articulations that hold together.
+    Lattice,
 }
 
 /// What is answered.
@@ -20,4 +23,6 @@ pub enum Answer {
     Consistent,
     /// The articulations whose flag is true are the least conflict.
     Conflict(Flags),
+    /// All minimal conflicts, and all maximal sets of articulations that hold together.
+    Lattice(Lattice),
 }

@@ -1,9 +1,9 @@
 //! A question, from its words to its status.
-ghost use Rattle.std.specs.Prelude.{◌≡◌};
+ghost use Rattle.std.specs.Prelude.{◌≡◌, false};
 ghost use Rattle.constraint_set.specs.Facts.{IsAsRead};
 ghost use Rattle.std.specs.Option.{option_to_list};
 ghost use Rattle.run_ends.specs.Runs.{IsCarriedOut, IsRunOf};
-ghost use Rattle.claims_run.specs.Answering.{answer_status, IsAnswerPut, IsClaimsAnswer, claims_names};
+ghost use Rattle.claims_run.specs.Answering.{has_too_many, answer_status, IsAnswerPut, IsClaimsAnswer, claims_names};
 
 use crate::certified::settled;
 use crate::putting::put_answer;
@@ -15,13 +15,26 @@ use run_ends::{Status, problem_under, put_end};
 use std::alloc::Global;
 use world_model::Switches;
 
+// With more articulations than these not all conflicts are looked for.
+const MOST_ARTICULATIONS: u32 = 128;
+
+// Whether a problem has more articulations than a question takes.
+fn has_too_many(problem: &Problem, asked: Question) -> bool
+    ensures { result ≡ has_too_many problem.now asked }
+{
+    match asked {
+        Question::Relations | Question::Conflicts => false,
+        Question::Lattice => problem.articulation_count() > MOST_ARTICULATIONS,
+    }
+}
+
 // A good end by the answer.
 fn status_of(answer: &Answer) -> Status
     ensures { result ≡ answer_status answer.now }
 {
     match answer {
         Answer::Possible { some: false, .. } => Status::NoWorld,
-        Answer::Possible { .. } | Answer::Conflict(_) => Status::Done,
+        Answer::Possible { .. } | Answer::Conflict(_) | Answer::Lattice(_) => Status::Done,
         Answer::Consistent => Status::Consistent,
     }
 }
@@ -35,7 +48,8 @@ fn carry_out<S: Store, W: Sink>(
     asked: Question,
     cert: &Option<Word>,
 ) -> Result<Status, StoreFault>
-    requires { IsAsRead problem.now }
+    requires as_read { IsAsRead problem.now }
+    requires few { has_too_many problem.now asked ≡ false }
     ensures { IsCarriedOut (IsAnswerPut problem.now asked cert.now) result (option_to_list cert.now) (S.state store.old) (S.state store.new) (W.state out.old) (W.state out.new) }
 {
     let answer = settled(alloc, store, problem, asked, cert)?;
@@ -60,6 +74,9 @@ pub fn run_claims<S: Store, W: Sink>(
         Ok(problem) => problem,
         Err(status) => return put_end(alloc, out, status),
     };
+    if has_too_many(&problem, asked) {
+        return put_end(alloc, out, Status::TooMany);
+    }
     match carry_out(alloc, store, out, &problem, asked, cert) {
         Ok(status) => status,
         Err(StoreFault::Failed) => Status::WriteFault,

@@ -1,4 +1,5 @@
 use Rattle.claims_run.proofs.EndLemmas.{settled_done, nothing_settled, part_settled}
+use Rattle.claims_run.proofs.PutLemmas.{flagged}
 use Rattle.claims_run.proofs.running.carry_out.Goals as goal
 
 pub returns-in_err-answer : goal.returns-in_err-answer
@@ -8,6 +9,9 @@ returns-in_err-answer g c =
     (g.S.Store.state c.settled.new.store)
     (g.W.Sink.state c.args.out.now)
     c.from_residual.ensures.1 c.in_err-answer.ensures
+
+pub put_answer-requires : goal.put_answer-requires
+put_answer-requires g c = flagged c.args.problem.now c.in_ok-answer.answer c.in_ok-answer.ensures.right.1
 
 pub returns-in_err-put_answer : goal.returns-in_err-put_answer
 returns-in_err-put_answer g c =
