@@ -8,7 +8,7 @@ _euler_align() {
   elif ((COMP_CWORD > 1)) && [[ ${COMP_WORDS[COMP_CWORD - 1]} == = ]]; then
     word=${COMP_WORDS[COMP_CWORD - 2]}=
   elif ((COMP_CWORD == 1)); then
-    mapfile -t COMPREPLY < <(compgen -W "align check mir conflict report trial" -- "$current")
+    mapfile -t COMPREPLY < <(compgen -W "align check mir conflict lattice explain report trial" -- "$current")
     return
   else
     case $command in
@@ -16,6 +16,8 @@ _euler_align() {
       check) keys="in= cert= nonempty= sibling= coverage=" ;;
       mir) keys="in= cert= nonempty= sibling= coverage=" ;;
       conflict) keys="in= cert= nonempty= sibling= coverage=" ;;
+      lattice) keys="in= cert= nonempty= sibling= coverage=" ;;
+      explain) keys="in= left= right= set= nonempty= sibling= coverage=" ;;
       report) keys="in= kinds= nonempty= sibling= coverage=" ;;
       trial) keys="seed= size=" ;;
     esac

@@ -25,11 +25,13 @@ function __euler_align_list
 end
 
 complete -c euler_align -f
-set -l commands align check mir conflict report trial
+set -l commands align check mir conflict lattice explain report trial
 complete -c euler_align -n "not __fish_seen_subcommand_from $commands" -a align -d 'List the possible worlds in order, one to a line, with a letter for each pair of concepts'
 complete -c euler_align -n "not __fish_seen_subcommand_from $commands" -a check -d 'Check a certificate, and print what it says'
 complete -c euler_align -n "not __fish_seen_subcommand_from $commands" -a mir -d 'For each pair of concepts from two taxonomies, print the relations that are possible'
 complete -c euler_align -n "not __fish_seen_subcommand_from $commands" -a conflict -d 'Find a minimal set of statements that can\'t stand together'
+complete -c euler_align -n "not __fish_seen_subcommand_from $commands" -a lattice -d 'Find all conflicts and all ways out of them'
+complete -c euler_align -n "not __fish_seen_subcommand_from $commands" -a explain -d 'Tell why a relation follows'
 complete -c euler_align -n "not __fish_seen_subcommand_from $commands" -a report -d 'Report on all possible worlds at once'
 complete -c euler_align -n "not __fish_seen_subcommand_from $commands" -a trial -d 'Make a problem from a seed and a size, list its worlds, check the certificate of that listing, and print a summary'
 complete -c euler_align -n "__fish_seen_subcommand_from align" -a '(__euler_align_files in)' -d 'The problem'
@@ -56,6 +58,18 @@ complete -c euler_align -n "__fish_seen_subcommand_from conflict" -a '(__euler_a
 complete -c euler_align -n "__fish_seen_subcommand_from conflict" -a 'nonempty=on nonempty=off' -d 'Three rules, each on (the default) or off'
 complete -c euler_align -n "__fish_seen_subcommand_from conflict" -a 'sibling=on sibling=off' -d 'Three rules, each on (the default) or off'
 complete -c euler_align -n "__fish_seen_subcommand_from conflict" -a 'coverage=on coverage=off' -d 'Three rules, each on (the default) or off'
+complete -c euler_align -n "__fish_seen_subcommand_from lattice" -a '(__euler_align_files in)' -d 'The problem'
+complete -c euler_align -n "__fish_seen_subcommand_from lattice" -a '(__euler_align_files cert)' -d 'The certificate'
+complete -c euler_align -n "__fish_seen_subcommand_from lattice" -a 'nonempty=on nonempty=off' -d 'Three rules, each on (the default) or off'
+complete -c euler_align -n "__fish_seen_subcommand_from lattice" -a 'sibling=on sibling=off' -d 'Three rules, each on (the default) or off'
+complete -c euler_align -n "__fish_seen_subcommand_from lattice" -a 'coverage=on coverage=off' -d 'Three rules, each on (the default) or off'
+complete -c euler_align -n "__fish_seen_subcommand_from explain" -a '(__euler_align_files in)' -d 'The problem'
+complete -c euler_align -n "__fish_seen_subcommand_from explain" -a left= -d 'The two concepts, each as TAXONOMY.CONCEPT'
+complete -c euler_align -n "__fish_seen_subcommand_from explain" -a right= -d 'The two concepts, each as TAXONOMY.CONCEPT'
+complete -c euler_align -n "__fish_seen_subcommand_from explain" -a set= -d 'Relations of left to right, as letters'
+complete -c euler_align -n "__fish_seen_subcommand_from explain" -a 'nonempty=on nonempty=off' -d 'Three rules, each on (the default) or off'
+complete -c euler_align -n "__fish_seen_subcommand_from explain" -a 'sibling=on sibling=off' -d 'Three rules, each on (the default) or off'
+complete -c euler_align -n "__fish_seen_subcommand_from explain" -a 'coverage=on coverage=off' -d 'Three rules, each on (the default) or off'
 complete -c euler_align -n "__fish_seen_subcommand_from report" -a '(__euler_align_files in)' -d 'The problem'
 complete -c euler_align -n "__fish_seen_subcommand_from report" -a '(__euler_align_list kinds count tally seen merge json)' -d 'count (how many worlds), tally (how often each pair has each relation), seen (which relations it has), merge (the merged classifications) or json (the same as JSON)'
 complete -c euler_align -n "__fish_seen_subcommand_from report" -a 'nonempty=on nonempty=off' -d 'Three rules, each on (the default) or off'

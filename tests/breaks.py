@@ -21,7 +21,7 @@ from commands import files_read, files_written
 
 HERE = os.path.dirname(os.path.abspath(__file__))
 # in the order in which they import each other
-MODULES = ["plain", "random_cases", "plain_words", "certificate_lines", "certificates", "certificate_writer", "differential"]
+MODULES = ["plain", "plain_lattice", "random_cases", "plain_words", "certificate_lines", "certificates", "certificate_writer", "differential"]
 
 # name, file, old text, new text
 BREAKS = [
@@ -56,14 +56,26 @@ BREAKS = [
     ("an old token for three taxonomies", "plain", "if old and len(problem.taxonomies) > 2:", "if old and len(problem.taxonomies) > 3:"),
     ("a token's numbers are ignored", "plain", "if new and (int(words[2])", "if False and (int(words[2])"),
     # answers
-    ("the greatest conflict", "plain", 'itertools.product("01", repeat=count)', 'itertools.product("10", repeat=count)'),
+    ("the greatest conflict", "plain", "return next(bits for bits in all_bits(problem)", "return max(bits for bits in all_bits(problem)"),
     ("statements are numbered from 0", "plain", "enumerate(zip(problem.articulations, bits), 1)", "enumerate(zip(problem.articulations, bits))"),
     ("possible is what all worlds have", "plain", "for r in LETTERS if any(w[k] == r for w in worlds)) for k in", "for r in LETTERS if all(w[k] == r for w in worlds)) for k in"),
     ("the tally in another order", "plain", "for w in worlds)) for r in LETTERS)", "for w in worlds)) for r in sorted(LETTERS))"),
     ("under skips what lies between", "plain", "if below(a, b) and not any(below(a, m) and below(m, b) for m in places)", "if below(a, b)"),
     ("a class is led by its last concept", "plain", "leader = [min(", "leader = [max("),
     ("the parts of a split change places", "plain", 'f"{x}\\\\{y}", f"{y}\\\\{x}"', 'f"{y}\\\\{x}", f"{x}\\\\{y}"'),
+    # all conflicts, and explanations
+    ("each conflict is told, minimal or not", "plain_lattice", "if not any(is_proper_part(other, bits) for other in bad)]", "]"),
+    ("each consistent set is told, maximal or not", "plain_lattice", "if not any(is_proper_part(bits, other) for other in good)]", "]"),
+    ("conflicts in the order of their sizes", "plain_lattice", "    return conflicts, [bits", '    return sorted(conflicts, key=lambda bits: bits.count("1")), [bits'),
+    ("the last set is not counted", "plain_lattice", '{len(conflicts)} {len(sets)}"]', '{len(conflicts)} {len(sets) - 1}"]'),
+    ("no statements are a line without bits", "plain_lattice", 'bits or "."', "bits"),
+    ("what follows is what no world excludes", "plain_lattice", "q.allowed[pair] = q.allowed[pair] - set(letters)", "q.allowed[pair] = q.allowed[pair] & set(letters)"),
+    ("the greatest explanation", "plain_lattice", "next((bits for bits in plain.all_bits(problem) if entails(problem, bits, number, letters)), None)", "max((bits for bits in plain.all_bits(problem) if entails(problem, bits, number, letters)), default=None)"),
+    ("what is to be explained is not turned round", "plain_lattice", "pair, letters = pair[::-1], {plain.CONVERSE[r] for r in letters}", "pair = pair[::-1]"),
+    ("a name that is given twice is one concept's", "plain_lattice", "    if left not in every or right not in every:\n", "    if left != right and (left not in every or right not in every):\n"),
     # words
+    ("any letters are a set of relations", "plain_words", "or any(c not in plain.LETTERS for c in value)", "or False"),
+    ("a set of relations may be empty", "plain_words", '(not value or any(c not in', '(any(c not in'),
     ("a key may stand twice", "plain_words", "if key in given:", "if False:"),
     ("names may be the same", "plain_words", "if len(set(files)) < len(files):", "if False:"),
     ("a missing token is looked for first", "plain_words", 'if ("nodes" in given or "worlds" in given) and "token" not in given:', "if False:"),

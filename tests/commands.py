@@ -3,12 +3,16 @@
 SWITCHES = ["nonempty", "sibling", "coverage"]
 KINDS = ["count", "tally", "seen", "merge", "json"]
 
-# what the value of a key is: a switch, the name of a file, names of reports, a limit, or a number from the least to the most by steps
+# what the value of a key is: a switch, the name of a file, names of reports, any text, letters of relations, a limit, or a number from the
+# least to the most by steps
 LIMIT = (0, 2**64 - 1, 1)
 KEYS = {
     **{key: "switch" for key in SWITCHES},
     **{key: "file" for key in ("in", "cert", "token", "resume")},
     "kinds": "reports",
+    "left": "text",
+    "right": "text",
+    "set": "letters",
     "nodes": "limit",
     "worlds": "limit",
     "seed": LIMIT,
@@ -29,6 +33,8 @@ ROWS = {
     "check": Row("in cert", "nonempty sibling coverage", "in cert", ""),
     "mir": Row("in", "cert nonempty sibling coverage", "in", "cert"),
     "conflict": Row("in", "cert nonempty sibling coverage", "in", "cert"),
+    "lattice": Row("in", "cert nonempty sibling coverage", "in", "cert"),
+    "explain": Row("in left right set", "nonempty sibling coverage", "in", ""),
     "report": Row("in kinds", "nonempty sibling coverage", "in", ""),
     "trial": Row("seed size", "", "", ""),
 }
@@ -68,6 +74,7 @@ SPLIT = (
     "[1.A {equals disjoint} 2.B]\n[2.B {equals disjoint} 3.C]\n[1.A overlaps 3.C]\n"
 )
 TORN = SPLIT + "[1.A equals 2.B]\n"
+CROWD = ALONE + "articulation\n" + "[1.A equals 2.B]\n" * 129
 LISTING = "certificate 1 on on on .\nb 0 .\nw 1 = 1 0 0\nw 1 > 2 0,1 0\nw 1 < 2 0 0,1\nw 1 x 3 0,1 0,2\nw 1 ! 2 0 1\nend -\n"
 TOKEN = "token 2 2 1 0e840ad3c362ef009568403e4c4fb237f9a9b4416ef7c8fbc4f86c79753f6d10 <\n"
 ALL_KINDS = "kinds=" + ",".join(KINDS)
@@ -90,6 +97,15 @@ FAILING_CALLS = [
     (TORN, {}, "conflict in=p"),
     (TORN, {}, "conflict in=p cert=c"),
     (SPLIT, {}, "conflict in=p cert=c"),
+    (TORN, {}, "lattice in=p"),
+    (TORN, {}, "lattice in=p cert=c"),
+    (EQUAL, {}, "lattice in=p cert=c"),
+    (PARTINGS, {}, "lattice in=p cert=c"),
+    (CROWD, {}, "lattice in=p cert=c"),
+    (SPLIT, {}, "explain in=p left=2.B right=1.A set=!"),
+    (TORN, {}, "explain in=p left=1.A right=3.C set==!"),
+    (PARTINGS, {}, "explain in=p left=1.B right=2.E set=x"),
+    (PARTINGS, {}, "explain in=p left=1.B right=1.B set=x"),
     (PARTINGS, {}, f"report in=p {ALL_KINDS}"),
     (TORN, {}, "report in=p kinds=merge"),
     (ALONE, {}, "trial seed=1 size=14"),
@@ -107,9 +123,15 @@ REFUSED_MEMORY = [
     (ALONE, {"k": LISTING}, "check in=p cert=k"),
     (SPLIT, {}, "mir in=p cert=c"),
     (TORN, {}, "conflict in=p cert=c"),
+    (TORN, {}, "lattice in=p cert=c"),
+    (EQUAL, {}, "lattice in=p"),
+    (SPLIT, {}, "explain in=p left=2.B right=1.A set=!"),
+    (PARTINGS, {}, "explain in=p left=1.B right=2.E set=x"),
     (PARTINGS, {}, f"report in=p {ALL_KINDS}"),
     (ALONE, {}, "trial seed=1 size=14"),
     ("taxonomy 1\n(A B)\n(B A)\n", {}, "align in=p"),
+    (ALONE, {}, "explain in=p left=1.A right=2.C set=x"),
+    (CROWD, {}, "lattice in=p cert=c"),
     (ALONE, {"r": TOKEN[:-3]}, "align in=p resume=r"),
     (ALONE, {}, "align in=p nodes=0"),
 ]
@@ -120,6 +142,8 @@ ON_DEVICES = {
     "check": "check in=p cert=k",
     "mir": "mir in=p cert=c",
     "conflict": "conflict in=q cert=c",
+    "lattice": "lattice in=q cert=c",
+    "explain": "explain in=p left=1.s1 right=2.r set=<",
     "report": f"report in=p {ALL_KINDS}",
     "trial": "trial seed=7 size=14",
 }
@@ -127,11 +151,14 @@ ON_DEVICES = {
 # words from which random ones are made
 REQUESTS = [
     "align in=p", "align in=p cert=c", "align in=p nodes=3 token=t", "align in=p worlds=2 token=t resume=r cert=c sibling=off", "check in=p cert=c",
-    "mir in=p cert=c coverage=off", "conflict in=p nonempty=off", "report in=p kinds=count,seen", "trial seed=3 size=14",
+    "mir in=p cert=c coverage=off", "conflict in=p nonempty=off", "lattice in=p cert=c sibling=off", "explain in=p left=1.A0 right=2.B0 set==<",
+    "report in=p kinds=count,seen", "trial seed=3 size=14",
 ]
 OTHER_WORDS = [
-    "align", "check", "report", "trial", "mir", "conflict", "lattice", "in=p", "in=", "in=c", "cert=c", "cert=p", "cert=", "token=t", "token=p", "token=c",
-    "resume=r", "resume=t", "resume=p", "nodes=1", "nodes=0", "nodes=01", "worlds=2", "worlds=-1", "worlds=18446744073709551616", "nonempty=on", "nonempty=On",
-    "sibling=off", "coverage=1", "kinds=count", "kinds=", "kinds=count,seen", "kinds=count,count", "kinds=seen,x", "kinds=seen,", "seed=3", "seed=+3", "size=14",
-    "size=15", "size=300", "x", "=x", "y=z", "", "In=p", "--help",
+    "align", "check", "report", "trial", "mir", "conflict", "lattice", "explain", "solve", "in=p", "in=", "in=c", "cert=c", "cert=p", "cert=", "token=t",
+    "token=p", "token=c", "resume=r", "resume=t", "resume=p", "nodes=1", "nodes=0", "nodes=01", "worlds=2", "worlds=-1", "worlds=18446744073709551616",
+    "nonempty=on", "nonempty=On", "sibling=off", "coverage=1", "kinds=count", "kinds=", "kinds=count,seen", "kinds=count,count", "kinds=seen,x",
+    "kinds=seen,", "seed=3", "seed=+3", "size=14", "size=15", "size=300", "left=1.A0", "left=", "left=p", "right=2.B0", "right=1.A0", "set==", "set=",
+    "set=x!x", "set=o", "set==,<", "set=x ", "x", "=x", "y=z", "", "In=p", "--help",
 ]
+OTHER_VALUES = ["", "", "=", "<x", "o", "on", "7", "count", "1.A0"]

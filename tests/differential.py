@@ -5,8 +5,8 @@ certificates.
     tests/differential.py [--count N] [--seed S] [--program PATH] [--alone] [--tally]
 
 Each case makes a small problem (two to four taxonomies, sums, all switches), and compares what the program puts and its exit code with
-what the plain ones say: listings whole, cut and resumed, their tokens, what follows and what conflicts, reports, trials, damaged texts,
-tokens and certificates, and words that are no request. Certificates that the program writes must be accepted by the plain checker too,
+what the plain ones say: listings whole, cut and resumed, their tokens, what follows and why, what conflicts, all that conflicts (of more
+statements too), reports, trials, damaged texts, tokens and certificates, and words that are no request. Certificates that the program writes must be accepted by the plain checker too,
 and its own checker must answer what the plain one does of any bytes. What is accepted must be so by plain.py. With --alone no program is
 run, and the plain ones are set beside each other. It ends with status 1 at the first difference, and shows it.
 """
@@ -23,6 +23,7 @@ import tempfile
 import certificate_writer
 import certificates
 import plain
+import plain_lattice
 import plain_words
 import random_cases
 from commands import KINDS
@@ -40,7 +41,7 @@ class Runner:
         self.folder = os.path.join(folder, "run")
         self.output = os.path.join(folder, "output")
         self.runs = 0
-        os.mkdir(self.folder)
+        os.makedirs(self.folder, exist_ok=True)
         self.answers = collections.Counter()  # last lines that are compared, without their numbers
 
     def hold(self, name, data):
@@ -77,7 +78,9 @@ class Runner:
     def same(self, words, code, text):
         got = self.run(words)
         last = text.split("\n")[-2]
-        self.answers["conflict" if last.endswith("]") else " ".join(word for word in last.split(" ") if not word.isdigit())] += 1
+        if last.endswith("]"):
+            last = text.split("\n")[0]
+        self.answers[" ".join(word for word in last.split(" ") if not word.isdigit())] += 1
         if got != (code, text):
             raise Difference(f"words: {' '.join(words)}\nwanted: {code}\n{text}\ngot: {got[0]}\n{got[1]}")
 
@@ -272,6 +275,60 @@ def check_conflict(runner, problem, words, rng):
         raise Difference(f"conflict claims {claims}\nwanted {wanted}")
 
 
+def check_lattice(runner, problem, words, rng):
+    conflicts, sets = plain_lattice.lattice(problem)
+    text = "".join(row + "\n" for row in plain_lattice.lattice_lines(conflicts, sets))
+    runner.same(["lattice", "in=p"] + words, 0, text)
+    runner.drop("c")
+    runner.same(["lattice", "in=p", "cert=c"] + words, 0, text)
+    claims = check_written(runner, problem, words, rng)
+    wanted = [f"none a {bits}" for bits in conflicts] + [f"some a {bits or '.'}" for bits in sets]
+    if claims != wanted:
+        raise Difference(f"lattice claims {claims}\nwanted {wanted}")
+
+
+def check_explanation(runner, problem, words, rng):
+    """Why two concepts have one of some relations: mostly those that are possible, and now and then names that are none of a concept."""
+    names = [problem.text_name(c) for c in range(len(problem.names))]
+    left, right = rng.sample(names, 2) if len(names) > 1 and rng.random() < 0.9 else rng.choices(names + ["1.X", "A0", ".", "1.", ""], k=2)
+    pair, _ = plain_lattice.pair_named(problem, left, right)
+    letters = {r for r in plain.LETTERS if rng.random() < 0.3}
+    if pair and rng.random() < 0.7:
+        letters |= {world_relation(problem, world, *pair) for world in problem.worlds()}
+    letters = letters or {rng.choice(plain.LETTERS)}
+    code, rows = plain_lattice.explanation(problem, left, right, letters)
+    if pair and (code == 14) != any(world_relation(problem, world, *pair) not in letters for world in problem.worlds()):
+        raise Difference(f"what follows for {left} and {right} is not what all worlds have: {rows}")
+    shown = "".join(rng.sample(sorted(letters), len(letters)) + rng.choices(sorted(letters), k=rng.choice([0, 0, 1])))
+    runner.same(["explain", "in=p", f"left={left}", f"right={right}", f"set={shown}"] + words, code, "".join(row + "\n" for row in rows))
+
+
+def world_relation(problem, world, x, y):
+    letter = world[problem.pairs.index((min(x, y), max(x, y)))]
+    return letter if x < y else plain.CONVERSE[letter]
+
+
+def check_crowded(runner, text, switches, rng):
+    """All conflicts of a problem with more statements, and why something follows there."""
+    words, problem = switch_words(switches), plain.read_problem(text.encode(), switches)
+    text += random_cases.more_statements(rng, problem, 10 if rng.random() < 0.02 else 7)
+    runner.hold("p", text.encode())
+    problem = plain.read_problem(text.encode(), switches).finish()
+    check_lattice(runner, problem, words, rng)
+    check_explanation(runner, problem, words, rng)
+
+
+def check_many(runner, text, switches, rng):
+    """As many statements as all conflicts are looked for among, and one more: those of the problem again and again."""
+    words, problem = switch_words(switches), plain.read_problem(text.encode(), switches).finish()
+    said = [f"{problem.articulation_text(a)}\n" for a in problem.articulations]
+    if not said or not problem.worlds():
+        return
+    for count, code, rows in ((128, 0, plain_lattice.lattice_lines([], ["1" * 128])), (129, 13, ["too many"])):
+        runner.hold("p", (text + "".join(rng.choice(said) for _ in range(count - len(said)))).encode())
+        runner.same(["lattice", "in=p"] + words, code, "".join(row + "\n" for row in rows))
+
+
 def check_trial(runner, rng):
     seed, size = rng.choice([0, 1, 7, rng.randrange(2**64)]), rng.choice([14, 16, 18])
     problem = plain.read_problem(plain.made_text(seed, size).encode(), (True, True, True))
@@ -326,6 +383,11 @@ def case(runner, rng):
     check_reports(runner, problem, words, worlds, rng)
     check_possible(runner, problem, words, worlds, rng)
     check_conflict(runner, problem, words, rng)
+    check_lattice(runner, problem, words, rng)
+    check_explanation(runner, problem, words, rng)
+    check_crowded(runner, text, switches, rng)
+    if rng.random() < 0.05:
+        check_many(runner, text, switches, rng)
     check_text(runner, random_cases.damaged(rng, text.encode(), random_cases.TEXT_PIECES), switches)
     check_words(runner, rng)
     if rng.random() < 0.05:

@@ -1,5 +1,6 @@
 #!/usr/bin/env python3
-"""Whether the figures that docs/GUIDE.md tells of how long it takes are those of docs/BENCHMARKS.md.
+"""Whether the figures that docs/GUIDE.md tells of how long it takes are those of docs/BENCHMARKS.md, and how many wrong bodies README.md
+counts are there.
 
     tests/figures.py
 
@@ -7,11 +8,13 @@ Each row below names a figure of BENCHMARKS (the section, what its row begins wi
 guide in which it stands. A figure that was measured anew has to be put into the guide too.
 """
 
+import glob
 import os
 import re
 import sys
 
-DOCS = os.path.join(os.path.dirname(os.path.abspath(__file__)), "../docs")
+ROOT = os.path.join(os.path.dirname(os.path.abspath(__file__)), "..")
+DOCS = os.path.join(ROOT, "docs")
 # the section, the first cells of the row, the column by its head, and the guide's sentence with # in place of the figure
 ROWS = [
     ("Listing", ["generated, 1,024"], "`align`", "took # seconds for 1,024 concepts with seven worlds"),
@@ -25,6 +28,8 @@ ROWS = [
     ("Revisions of a taxonomy", ["`revised 1 320`"], "`align`", "500 worlds took # seconds for 160 concepts a side"),
     ("Revisions of a taxonomy", ["`revised 1 320`"], "`mir`", "and `mir` # ("),
 ]
+# of README.md, and where what is counted stands
+COUNTS = [("refuses each of # wrong bodies", "crates/*/must-fail/*.edit"), ("# further wrong bodies stand in `tests/edits/`", "tests/edits/*/*.edit")]
 SENTENCES = [("flat 4 beside 5 # s. With `worlds`", "The 693,601 worlds took # seconds so.")]
 
 
@@ -61,9 +66,14 @@ def main():
         shown = told(guide, pattern)
         if measured is None or shown != measured:
             faults.append(f"docs/GUIDE.md has {shown or 'no figure'} in {pattern.strip()!r}; docs/BENCHMARKS.md ({where}) has {measured or 'none'}")
+    readme = read("../README.md")
+    for pattern, files in COUNTS:
+        shown, counted = told(readme, pattern), len(glob.glob(os.path.join(ROOT, files)))
+        if shown != str(counted):
+            faults.append(f"README.md has {shown or 'no number'} in {pattern!r}; there are {counted}")
     for fault in faults:
         print(fault)
-    print(f"figures: {len(pairs)} of the guide, {len(faults)} wrong")
+    print(f"figures: {len(pairs)} of the guide, {len(COUNTS)} of README; {len(faults)} wrong")
     return 1 if faults else 0
 
 

@@ -475,28 +475,42 @@ def restricted(problem, bits):
     return q.finish()
 
 
+def has_world(problem):
+    """Whether there is a world. The pairs of which something is said are walked first, which makes no difference to that."""
+    order = sorted(range(len(problem.pairs)), key=lambda k: len(problem.allowed[k]) == len(LETTERS))
+    for rows in (problem.pairs, problem.allowed, problem.in_region):
+        rows[:] = [rows[k] for k in order]
+    return any(is_world for _, is_world in problem.walk(""))
+
+
 def is_consistent(problem, bits):
-    return any(is_world for _, is_world in restricted(problem, bits).walk(""))
+    known = problem.__dict__.setdefault("consistent", {})
+    if bits not in known:
+        known[bits] = has_world(restricted(problem, bits))
+    return known[bits]
+
+
+def all_bits(problem):
+    """The lists of bits of all subsets of the articulations, ascending."""
+    return map("".join, itertools.product("01", repeat=len(problem.articulations)))
 
 
 def least_conflict(problem):
     """The least list of bits among the subsets that are in conflict, by trying all of them; None where all hold together."""
-    count = len(problem.articulations)
-    if is_consistent(problem, "1" * count):
+    if is_consistent(problem, "1" * len(problem.articulations)):
         return None
-    return next(
-        bits for bits in map("".join, itertools.product("01", repeat=count)) if not is_consistent(problem, bits)
-    )
+    return next(bits for bits in all_bits(problem) if not is_consistent(problem, bits))
+
+
+def numbered(problem, bits):
+    """A line for each articulation that has a bit."""
+    return [f"{k} {problem.articulation_text(a)}" for k, (a, bit) in enumerate(zip(problem.articulations, bits), 1) if bit == "1"]
 
 
 def conflict_lines(problem, bits):
     if bits is None:
         return ["consistent"]
-    rows = [
-        f"{k} {problem.articulation_text(a)}"
-        for k, (a, bit) in enumerate(zip(problem.articulations, bits), 1)
-        if bit == "1"
-    ]
+    rows = numbered(problem, bits)
     return [f"conflict {len(rows)}"] + rows
 
 

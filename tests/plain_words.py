@@ -26,6 +26,8 @@ def usage_of(words):
         least, most, step = LIMIT if kind == "limit" else kind if isinstance(kind, tuple) else (0, 0, 0)
         if step and (not plain.is_number(value, least, most) or int(value) % step):
             return "BadNumber"
+        if kind == "letters" and (not value or any(c not in plain.LETTERS for c in value)):
+            return "BadSet"
         if kind == "limit" and value == "0":
             return "ZeroBudget"
         if kind == "file" and not value:

@@ -3,7 +3,7 @@
 import re
 
 import plain
-from commands import OTHER_WORDS, REQUESTS
+from commands import OTHER_VALUES, OTHER_WORDS, REQUESTS
 
 SWITCHES = [(a, b, c) for a in (True, False) for b in (True, False) for c in (True, False)]
 
@@ -13,16 +13,17 @@ def random_words(rng):
     words = rng.choice(REQUESTS).split(" ")
     for _ in range(rng.choice([1, 1, 2, 3])):
         place, draw = rng.randrange(len(words) + 1), rng.random()
-        if draw < 0.35:
+        if draw < 0.3:
             words.insert(max(place, rng.choice([0, 1, 1, 1])), rng.choice(OTHER_WORDS))
-        elif draw < 0.6:
+        elif draw < 0.45:
             words[place : place + 1] = [rng.choice(OTHER_WORDS)]
-        elif draw < 0.8:
+        elif draw < 0.55:
             del words[place : place + 1]
-        elif draw < 0.9:
+        elif draw < 0.65:
             words[place:place] = words[place : place + 1]
-        elif place < len(words) and words[place].split("=")[0] in ("in", "cert", "token", "resume"):
-            words[place] = words[place].split("=")[0] + "=" + rng.choice("pctr")
+        elif place < len(words) and "=" in words[place]:
+            key = words[place].split("=")[0]
+            words[place] = f"{key}={rng.choice(list('pctr') if key in ('in', 'cert', 'token', 'resume') and draw < 0.85 else OTHER_VALUES)}"
     return words
 
 
@@ -51,21 +52,44 @@ def random_problem(rng):
                 lines.append(f"({row[rng.randrange(len(row))]} {free.pop()})")
         all_names.append([f"{t}.{n}" for n in names])
     lines.append("articulation")
-    words = list(plain.WORDS)
-    places = [t for t in range(count) if all_names[t]]
-    if len(places) >= 2:
-        for _ in range(rng.randint(0, 4)):
-            a, b = rng.sample(places, 2)
-            x, y = rng.choice(all_names[a]), rng.choice(all_names[b])
-            others = [n for t in places if t != a for n in all_names[t]]
-            if rng.random() < 0.2 and len(others) >= 2:
-                lines.append(f"[{x} sums {' '.join(rng.sample(others, rng.randint(2, min(3, len(others)))))}]")
-            elif rng.random() < 0.5:
-                lines.append(f"[{x} {rng.choice(words)} {y}]")
-            else:
-                chosen = rng.sample(words, rng.randint(1, 4))
-                lines.append(f"[{x} {{{' '.join(chosen)}}} {y}]")
+    if can_be_related(all_names):
+        lines += [random_statement(rng, all_names) for _ in range(rng.randint(0, 4))]
     return "".join(line + "\n" for line in lines)
+
+
+def can_be_related(names):
+    return sum(map(bool, names)) >= 2
+
+
+def random_statement(rng, names):
+    """A statement on concepts, of which there are the names, taxonomy by taxonomy."""
+    words, places = list(plain.WORDS), [t for t in range(len(names)) if names[t]]
+    a, b = rng.sample(places, 2)
+    x, y = rng.choice(names[a]), rng.choice(names[b])
+    others = [n for t in places if t != a for n in names[t]]
+    if rng.random() < 0.2 and len(others) >= 2:
+        return f"[{x} sums {' '.join(rng.sample(others, rng.randint(2, min(3, len(others)))))}]"
+    if rng.random() < 0.5:
+        return f"[{x} {rng.choice(words)} {y}]"
+    return f"[{x} {{{' '.join(rng.sample(words, rng.randint(1, 4)))}}} {y}]"
+
+
+def more_statements(rng, problem, most):
+    """Further statements on the concepts of a problem, so that there are more conflicts: some are there already, some are on the same pair."""
+    names = [[problem.text_name(c) for c in range(len(problem.names)) if problem.owners[c] == t] for t in range(len(problem.taxonomies))]
+    said = [problem.articulation_text(a) for a in problem.articulations]
+    if not can_be_related(names):
+        return ""
+    more = []
+    for _ in range(rng.randint(1, max(1, most - len(said)))):
+        draw, old = rng.random(), rng.choice(said + more) if said + more else ""
+        if old and draw < 0.15:
+            more.append(old)
+        elif old and " sums " not in old and draw < 0.55:
+            more.append(f"{old.split(' ')[0]} {rng.choice(list(plain.WORDS))} {old.split(' ')[-1]}")
+        else:
+            more.append(random_statement(rng, names))
+    return "".join(line + "\n" for line in more)
 
 
 def text_at_limit(rng):
