@@ -33,6 +33,12 @@ impl Worlds {
     {
         &self.list
     }
+
+    pub fn into_list(self) -> Vec<Position>
+        ensures { result.items ≡ self }
+    {
+        self.list
+    }
 }
 
 /// That a family meets the problem of a subject, or that none does.
