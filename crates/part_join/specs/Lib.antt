@@ -1,0 +1,5 @@
+pub mod Parts
+pub mod Joining
+pub mod Reads
+pub mod Sweeping
+pub mod Laws
