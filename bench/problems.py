@@ -23,7 +23,10 @@ hidden SEED LEAVES    two trees over the same things, a third more than LEAVES: 
                       a time, up to one root; two true statements for each leaf of the first, half of them with one relation more
 subjects SEED SIZE    two schemes of SIZE concepts over the same things, a root over groups over groups, with two statements for five concepts,
                       each true, a fifth of them sums and a third of the others with a relation more
-repeated SIZE COUNT   flat, SIZE/2 concepts a side, with COUNT statements, each pair's equals again and again, and a disjoint last"""
+repeated SIZE COUNT   flat, SIZE/2 concepts a side, with COUNT statements, each pair's equals again and again, and a disjoint last
+clashing SIZE K       flat, SIZE/2 concepts a side, with 60 statements: K pairs of children that are said to be equal and to be disjoint, which
+                      makes K conflicts that have nothing in common, and others that take part in none
+opposed A B           two concepts, which A statements say to be equal and B to be disjoint: A times B conflicts"""
 import random
 import sys
 
@@ -144,6 +147,20 @@ def repeated(size, count):
     lines = two_roots(half, half)
     lines += [f"[1.a{k % half} equals 2.b{k % half}]" for k in range(count - 2)]
     return lines + ["[1.a0 disjoint 2.b0]"]
+
+
+def clashing(size, count):
+    children = size // 2 - 1
+    lines = two_roots(children, children)
+    # two children a side are left out, since the last one would be equal to the last one by the others
+    lines += [f"[1.a{k} {word} 2.b{k}]" for k in range(count) for word in ("equals", "disjoint")]
+    lines += [f"[1.a{k} equals 2.b{k}]" for k in range(count, min(59 - count, children - 2))]
+    said = len(lines) - lines.index("articulation") - 1
+    return lines + [f"[1.A includes 2.b{k}]" for k in range(60 - said)]
+
+
+def opposed(equal, disjoint):
+    return ["taxonomy 1", "(A)", "taxonomy 2", "(B)", "articulation"] + ["[1.A equals 2.B]"] * equal + ["[1.A disjoint 2.B]"] * disjoint
 
 
 def vague(size, count):
@@ -320,7 +337,7 @@ def unclear(seed, size):
 
 
 FAMILIES = {"generated": generated, "flat": two_roots, "loose": loose, "chain": chain, "sums": sums, "split": split, "roots": roots, "planted": planted,
-            "doubtful": doubtful, "repeated": repeated, "vague": vague, "revised": revised, "unclear": unclear,
+            "doubtful": doubtful, "repeated": repeated, "clashing": clashing, "opposed": opposed, "vague": vague, "revised": revised, "unclear": unclear,
             "copied": copied, "pigeons": pigeons, "hidden": hidden, "subjects": subjects}
 
 if __name__ == "__main__":

@@ -29,12 +29,12 @@ from commands import ON_DEVICES, ROWS, values_of
 HERE = os.path.dirname(os.path.abspath(__file__))
 NOBODY = 65534
 # exit codes whose cause a person is told on standard error
-TOLD = {1, 2, 3, 4, 6, 7, 8}
+TOLD = {1, 2, 3, 4, 6, 7, 8, 12, 13, 14}
 READ_FAULT, WRITE_FAULT = (3, "read fault\n"), (4, "")
 
 # a problem with several worlds, and one statement more that makes it a conflict
-SMALL = b"taxonomy 1\n(A B C)\ntaxonomy 2\n(D E F)\narticulation\n[1.A equals 2.D]\n", b"[1.B disjoint 2.D]\n"
-LARGER = plain.made_text(7, 40).encode(), b"[1.b1 disjoint 2.r]\n"
+SMALL = b"taxonomy 1\n(r b1 s1)\ntaxonomy 2\n(r E F)\narticulation\n[1.r equals 2.r]\n", b"[1.b1 disjoint 2.r]\n"
+LARGER = plain.made_text(7, 40).encode(), SMALL[1]
 # name: words, the files that are read, the files that are written
 COMMANDS = {
     name: (words, *({key: values[key] for key in keys} for keys in (ROWS[name].reads, ROWS[name].writes)))

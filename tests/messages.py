@@ -1,5 +1,6 @@
 #!/usr/bin/env python3
-"""What people are told on standard error: of wrong words, of names that no row has, and where no world is possible.
+"""What people are told on standard error: of wrong words, of names that no row has, where no world is possible, and where a question has no
+answer.
 
     tests/messages.py [PROGRAM]
 
@@ -30,6 +31,11 @@ WORDS = [
         "BadNumber",
         f"size=15: a number is none, or is not one that may stand there; give an even number from 14 to 256, {NUMBER}",
     ),
+    (
+        "explain in=p left=1.A right=2.B set=equals",
+        "BadSet",
+        "set=equals: a set of relations is empty, or has a byte that is no letter of one; give one or more of the letters = > < x !",
+    ),
     ("align in=p nodes=0", "ZeroBudget", f"nodes=0: a limit is 0; give a number from 1 to 18446744073709551615, {NUMBER}"),
     ("align cert=", "EmptyName", "cert=: a file name is empty; write the file's name behind the equals sign"),
     (
@@ -39,12 +45,15 @@ WORDS = [
     ),
     ("report in=p kinds=count,count", "KindTwice", "kinds=count,count: a kind of report is given twice; name it once"),
     ("check in=p", "MissingKey", "cert=FILE: a required key is missing; add it"),
+    ("explain in=p left=1.A right=2.B", "MissingKey", "set=LETTERS: a required key is missing; add it"),
+    ("explain in=p left=1.A set==", "MissingKey", "right=TEXT: a required key is missing; add it"),
+    ("lattice in=p cert=p", "SameName", "cert=p: two keys name the same file; give each a name of its own"),
     ("align in=p worlds=3", "BudgetWithoutToken", "token=FILE: a limit is given, but no file for the token; add it"),
     ("align in=p cert=p", "SameName", "cert=p: two keys name the same file; give each a name of its own"),
 ]
 
 ROWS = "taxonomy old|(Owls Eagle_owl Barn_owl)|taxonomy new|(Strigidae Bubo Tyto)|articulation|"
-NO_LIKE = "has no name like it; put it into a row there, or spell it as it stands there"
+NO_LIKE = "has no name like it; spell it as it stands there, or put it into a row there"
 PLAIN = "a concept here stands in no row above; check how its taxonomy and it are spelled, and that all statements stand below the taxonomies"
 
 # texts, whose lines end in bars, with the line of the fault, and what is told of it
@@ -70,6 +79,33 @@ NAMES = [
     ("taxonomy old|(Owls)|articulation|[old.Owls equals new.Owls]|taxonomy new|(Owls)|", 4, [PLAIN]),
     # what a terminal might take for a command is not shown
     (ROWS + "[old.Owls\u009b equals new.Bubo]|", 6, [PLAIN]),
+]
+NO_NAME = "this names no concept; write the name of its taxonomy, a full stop and its own"
+EQUAL = "[old.Owls equals new.Strigidae]|"
+
+# statements below the rows, words, the exit code, the last line, and what is told, each line up to its first semicolon
+QUESTIONS = [
+    (EQUAL, "explain in=p left=old.Eagle_wol right=new.Bubo set==", 12, "pair UnknownConcept", ["left=old.Eagle_wol: no row has old.Eagle_wol"]),
+    (
+        EQUAL,
+        "explain in=p left=old.Bubo right=nwe.Bubo set==",
+        12,
+        "pair UnknownConcept",
+        ["left=old.Bubo: no row has old.Bubo", "right=nwe.Bubo: there is no taxonomy nwe, in nwe.Bubo"],
+    ),
+    (EQUAL, "explain in=p left=old.Owls right=Bubo set==", 12, "pair UnknownConcept", [f"right=Bubo: {NO_NAME}"]),
+    (EQUAL, "explain in=p left= right=new.Bubo set==", 12, "pair UnknownConcept", [f"left=: {NO_NAME}"]),
+    (EQUAL, "explain in=p left=old.Owls right=old.Owls set=x", 12, "pair SameConcept", ["left and right name one concept, which equals itself; give two concepts"]),
+    (
+        EQUAL,
+        "explain in=p left=old.Barn_owl right=new.Bubo set==",
+        14,
+        "not entailed",
+        ["this doesn't follow: a world is possible in which the relation of old.Barn_owl to new.Bubo is another"],
+    ),
+    (EQUAL * 129, "lattice in=p cert=c", 13, "too many", ["p: this has more than 128 statements, so their conflicts can't all be listed"]),
+    (EQUAL * 128, "lattice in=p cert=c", 0, "lattice 0 1", []),
+    (EQUAL, "explain in=p left=old.Owls right=new.Bubo set=>", 0, "1 [old.Owls equals new.Strigidae]", []),
 ]
 
 
@@ -123,14 +159,24 @@ def no_world_fault(program, folder):
             yield words, code, out, told
 
 
+def questions_fault(program, folder):
+    for statements, words, code, last, sentences in QUESTIONS:
+        with open(os.path.join(folder, "p"), "w", encoding="utf-8") as file:
+            file.write((ROWS + statements).replace("|", "\n"))
+        got, out, told = run(program, words, folder)
+        begins = len(told) == len(sentences) and all(line == said or line.startswith(said + ";") for line, said in zip(told, sentences))
+        if (got, out.split("\n")[-2]) != (code, last) or not begins:
+            yield words, got, out, told
+
+
 def main():
     program = os.path.abspath(sys.argv[1] if len(sys.argv) > 1 else os.path.join(ROOT, "crates/euler_align/out/euler_align"))
     with tempfile.TemporaryDirectory() as folder:
         usage = listed(program, folder)
-        faults = [*words_fault(program, folder, usage), *names_fault(program, folder), *no_world_fault(program, folder)]
+        faults = [*words_fault(program, folder, usage), *names_fault(program, folder), *no_world_fault(program, folder), *questions_fault(program, folder)]
     for case, code, out, told in faults:
         print(f"{case!r}: exit code {code}, {out!r}\n  " + "\n  ".join(told))
-    print(f"messages: {len(WORDS)} faults of words, {len(NAMES)} of names; {len(faults)} wrong")
+    print(f"messages: {len(WORDS)} faults of words, {len(NAMES)} of names, {len(QUESTIONS)} questions; {len(faults)} wrong")
     return 1 if faults else 0
 
 
