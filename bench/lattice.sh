@@ -20,6 +20,10 @@ for problem in "$@"; do
   limited "$folder/c" clingo "$folder/p.lp" > "$folder/clingo" 2> /dev/null
   ours=$(grep -E -o '^(lattice [0-9]+ [0-9]+|too many)' "$folder/ours" || echo "no answer")
   theirs=$(grep -E -o '^lattice [0-9]+ [0-9]+' "$folder/clingo" || echo "no answer")
-  [ "$ours" = "$theirs" ] && same="same" || same="OTHER: $theirs"
+  if [ "$ours" = "no answer" ] || [ "$theirs" = "no answer" ]; then
+    same="$theirs"
+  else
+    [ "$ours" = "$theirs" ] && same="same" || same="OTHER: $theirs"
+  fi
   echo "$problem: $ours, $(took "$folder/a"); clingo $(took "$folder/c") ($same)"
 done
