@@ -8,7 +8,7 @@ _euler_align() {
   elif ((COMP_CWORD > 1)) && [[ ${COMP_WORDS[COMP_CWORD - 1]} == = ]]; then
     word=${COMP_WORDS[COMP_CWORD - 2]}=
   elif ((COMP_CWORD == 1)); then
-    mapfile -t COMPREPLY < <(compgen -W "align check mir conflict lattice explain report trial" -- "$current")
+    mapfile -t COMPREPLY < <(compgen -W "align check mir conflict lattice explain report parts part join trial" -- "$current")
     return
   else
     case $command in
@@ -19,6 +19,9 @@ _euler_align() {
       lattice) keys="in= cert= nonempty= sibling= coverage=" ;;
       explain) keys="in= left= right= set= nonempty= sibling= coverage=" ;;
       report) keys="in= kinds= nonempty= sibling= coverage=" ;;
+      parts) keys="in= count= token= nonempty= sibling= coverage=" ;;
+      part) keys="in= cert= nonempty= sibling= coverage= resume= until=" ;;
+      join) keys="in= certs= nonempty= sibling= coverage=" ;;
       trial) keys="seed= size=" ;;
     esac
     mapfile -t COMPREPLY < <(compgen -W "$keys" -- "$current")
@@ -26,7 +29,7 @@ _euler_align() {
     return
   fi
   case $word in
-    in= | cert= | token= | resume=)
+    in= | cert= | token= | resume= | until=)
       mapfile -t COMPREPLY < <(compgen -f -- "$current")
       compopt -o filenames
       ;;
@@ -38,6 +41,12 @@ _euler_align() {
       local before=
       [[ $current == *,* ]] && before=${current%,*},
       mapfile -t COMPREPLY < <(compgen -P "$before" -W "count tally seen merge json" -- "${current##*,}")
+      ;;
+    certs=)
+      # what stands before the last comma stays
+      local before=
+      [[ $current == *,* ]] && before=${current%,*},
+      mapfile -t COMPREPLY < <(compgen -P "$before" -f -- "${current##*,}")
       ;;
   esac
 }

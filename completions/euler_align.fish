@@ -25,7 +25,7 @@ function __euler_align_list
 end
 
 complete -c euler_align -f
-set -l commands align check mir conflict lattice explain report trial
+set -l commands align check mir conflict lattice explain report parts part join trial
 complete -c euler_align -n "not __fish_seen_subcommand_from $commands" -a align -d 'List the possible worlds in order, one to a line, with a letter for each pair of concepts'
 complete -c euler_align -n "not __fish_seen_subcommand_from $commands" -a check -d 'Check a certificate, and print what it says'
 complete -c euler_align -n "not __fish_seen_subcommand_from $commands" -a mir -d 'For each pair of concepts from two taxonomies, print the relations that are possible'
@@ -33,6 +33,9 @@ complete -c euler_align -n "not __fish_seen_subcommand_from $commands" -a confli
 complete -c euler_align -n "not __fish_seen_subcommand_from $commands" -a lattice -d 'Find all conflicts and all ways out of them'
 complete -c euler_align -n "not __fish_seen_subcommand_from $commands" -a explain -d 'Tell why a relation follows'
 complete -c euler_align -n "not __fish_seen_subcommand_from $commands" -a report -d 'Report on all possible worlds at once'
+complete -c euler_align -n "not __fish_seen_subcommand_from $commands" -a parts -d 'Cut the listing into parts for several machines'
+complete -c euler_align -n "not __fish_seen_subcommand_from $commands" -a part -d 'List the worlds of one part, with a certificate'
+complete -c euler_align -n "not __fish_seen_subcommand_from $commands" -a join -d 'Join the certificates of parts'
 complete -c euler_align -n "not __fish_seen_subcommand_from $commands" -a trial -d 'Make a problem from a seed and a size, list its worlds, check the certificate of that listing, and print a summary'
 complete -c euler_align -n "__fish_seen_subcommand_from align" -a '(__euler_align_files in)' -d 'The problem'
 complete -c euler_align -n "__fish_seen_subcommand_from align" -a '(__euler_align_files cert)' -d 'The certificate'
@@ -75,5 +78,23 @@ complete -c euler_align -n "__fish_seen_subcommand_from report" -a '(__euler_ali
 complete -c euler_align -n "__fish_seen_subcommand_from report" -a 'nonempty=on nonempty=off' -d 'Three rules, each on (the default) or off'
 complete -c euler_align -n "__fish_seen_subcommand_from report" -a 'sibling=on sibling=off' -d 'Three rules, each on (the default) or off'
 complete -c euler_align -n "__fish_seen_subcommand_from report" -a 'coverage=on coverage=off' -d 'Three rules, each on (the default) or off'
+complete -c euler_align -n "__fish_seen_subcommand_from parts" -a '(__euler_align_files in)' -d 'The problem'
+complete -c euler_align -n "__fish_seen_subcommand_from parts" -a count= -d 'How many parts there are to be at the least, from 1 to 1000'
+complete -c euler_align -n "__fish_seen_subcommand_from parts" -a '(__euler_align_files token)' -d 'Where a limit stops the listing, write to this file where to go on'
+complete -c euler_align -n "__fish_seen_subcommand_from parts" -a 'nonempty=on nonempty=off' -d 'Three rules, each on (the default) or off'
+complete -c euler_align -n "__fish_seen_subcommand_from parts" -a 'sibling=on sibling=off' -d 'Three rules, each on (the default) or off'
+complete -c euler_align -n "__fish_seen_subcommand_from parts" -a 'coverage=on coverage=off' -d 'Three rules, each on (the default) or off'
+complete -c euler_align -n "__fish_seen_subcommand_from part" -a '(__euler_align_files in)' -d 'The problem'
+complete -c euler_align -n "__fish_seen_subcommand_from part" -a '(__euler_align_files cert)' -d 'The certificate'
+complete -c euler_align -n "__fish_seen_subcommand_from part" -a 'nonempty=on nonempty=off' -d 'Three rules, each on (the default) or off'
+complete -c euler_align -n "__fish_seen_subcommand_from part" -a 'sibling=on sibling=off' -d 'Three rules, each on (the default) or off'
+complete -c euler_align -n "__fish_seen_subcommand_from part" -a 'coverage=on coverage=off' -d 'Three rules, each on (the default) or off'
+complete -c euler_align -n "__fish_seen_subcommand_from part" -a '(__euler_align_files resume)' -d 'Go on where the token in this file says'
+complete -c euler_align -n "__fish_seen_subcommand_from part" -a '(__euler_align_files until)' -d 'Stop where the token in this file says'
+complete -c euler_align -n "__fish_seen_subcommand_from join" -a '(__euler_align_files in)' -d 'The problem'
+complete -c euler_align -n "__fish_seen_subcommand_from join" -a '(__euler_align_files certs several)' -d 'The certificates of all parts, in any order'
+complete -c euler_align -n "__fish_seen_subcommand_from join" -a 'nonempty=on nonempty=off' -d 'Three rules, each on (the default) or off'
+complete -c euler_align -n "__fish_seen_subcommand_from join" -a 'sibling=on sibling=off' -d 'Three rules, each on (the default) or off'
+complete -c euler_align -n "__fish_seen_subcommand_from join" -a 'coverage=on coverage=off' -d 'Three rules, each on (the default) or off'
 complete -c euler_align -n "__fish_seen_subcommand_from trial" -a seed= -d 'The seed is a number, and the size an even number from 14 to 256'
 complete -c euler_align -n "__fish_seen_subcommand_from trial" -a size= -d 'The seed is a number, and the size an even number from 14 to 256'

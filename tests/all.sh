@@ -59,6 +59,7 @@ part "refused, each 9th allocation" python3 refused.py "$program" --every 9
 part "certificate_bytes" python3 certificate_bytes.py "$program"
 part "hostile, small" python3 hostile.py "$program" --quick
 part "revisions" python3 revisions.py "$program"
+part "cluster" python3 cluster.py "$program"
 part "differential, 500 cases" python3 differential.py --program "$program"
 if [ -z "$quick" ]; then
   part "refused" python3 refused.py "$program"

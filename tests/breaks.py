@@ -21,7 +21,7 @@ from commands import files_read, files_written
 
 HERE = os.path.dirname(os.path.abspath(__file__))
 # in the order in which they import each other
-MODULES = ["plain", "plain_lattice", "random_cases", "plain_words", "certificate_lines", "certificates", "certificate_writer", "differential"]
+MODULES = ["plain", "plain_lattice", "random_cases", "plain_words", "certificate_lines", "certificates", "certificate_writer", "plain_parts", "differential"]
 
 # name, file, old text, new text
 BREAKS = [
@@ -73,11 +73,39 @@ BREAKS = [
     ("the greatest explanation", "plain_lattice", "next((bits for bits in plain.all_bits(problem) if entails(problem, bits, number, letters)), None)", "max((bits for bits in plain.all_bits(problem) if entails(problem, bits, number, letters)), default=None)"),
     ("what is to be explained is not turned round", "plain_lattice", "pair, letters = pair[::-1], {plain.CONVERSE[r] for r in letters}", "pair = pair[::-1]"),
     ("a name that is given twice is one concept's", "plain_lattice", "    if left not in every or right not in every:\n", "    if left != right and (left not in every or right not in every):\n"),
+    # parts, and what joins
+    ("a part more than is asked for", "plain_parts", "if len(nodes) >= count:", "if len(nodes) > count:"),
+    ("parts begin at what follows dead nodes", "plain_parts", "for node in nodes if problem.is_alive(node) for r", "for node in nodes for r"),
+    ("parts begin at alive nodes alone", "plain_parts", "for r in plain.LETTERS if r in letters]", "for r in plain.LETTERS if r in letters and problem.is_alive(node + r)]"),
+    ("parts begin at what no statement allows", "plain_parts", "for r in plain.LETTERS if r in letters]", "for r in plain.LETTERS]"),
+    ("the first node is a beginning", "plain_parts", 'return [""] + nodes[1:]', 'return [""] + nodes'),
+    ("the front is no beginning", "plain_parts", 'return [""] + nodes[1:]', "return nodes"),
+    ("beginnings are numbered from 0", "plain_parts", "enumerate(positions, 1)", "enumerate(positions)"),
+    ("a part has the world at its end", "plain_parts", "not is_below(world, start) and is_below(world, end)]", "not is_below(world, start) and (is_below(world, end) or world == end)]"),
+    ("a part lacks the world at its beginning", "plain_parts", "[world for world in problem.worlds() if not is_below(world, start) and", "[world for world in problem.worlds() if is_below(start, world) and"),
+    ("a part's certificate names its end", "plain_parts", "return None if end is None else next((node for node, _ in problem.walk(end)), None)", "return end"),
+    ("a part that ends where it begins", "plain_parts", "if end is not None and not is_below(start, end):", "if end is not None and is_below(end, start):"),
+    ("a part may end before it begins", "plain_parts", "if end is not None and not is_below(start, end):", "if end == start:"),
+    ("claims are a part of nothing", "plain_parts", 'return None, "1 BadLine"', 'return Part("", "", []), None'),
+    ("certificates are numbered from 0", "plain_parts", "enumerate(files, 1)", "enumerate(files)"),
+    ("the last that is refused is told", "plain_parts", "enumerate(files, 1):", "reversed(list(enumerate(files, 1))):"),
+    ("a part covers its end", "plain_parts", "return not is_below(position, part.start) and is_below(position, part.end)", "return not is_below(position, part.start) and not is_below(part.end or '!' * 99, position)"),
+    ("the last gap is told", "plain_parts", "start = min((end for end in ends", "start = max((end for end in ends"),
+    ("a gap ends at the last beginning", "plain_parts", "return start, min((part.start", "return start, max((part.start"),
+    ("a gap may end where it begins", "plain_parts", "if is_below(start, part.start))", "if not is_below(part.start, start))"),
+    ("no worlds are as good as some", "plain_parts", "return 0 if worlds else 6, worlds", "return 0, worlds"),
+    ("a token of the end is judged first", "differential", 'f"token {kind or other}"', 'f"token {other or kind}"'),
     # words
+    ("a name may be empty among others", "plain_words", 'if kind in ("file", "files") and not all(names_in(key, value)):', 'if kind == "file" and not value:'),
+    ("a certificate may not stand twice", "plain_words", "for name in set(names_in(key, value))]", "for name in names_in(key, value)]"),
+    ("the problem may be a certificate", "plain_words", "for name in set(names_in(key, value))]", 'for name in set(names_in(key, value)) if key != "certs"]'),
+    ("the problem may be the token of a part", "plain_words", 'or (words[0] == "parts" and is_token_of_part(given)):', "or False:"),
+    ("the token of a part is numbered from 0", "plain_words", "file[len(token) :], 1, MOST_PARTS)", "file[len(token) :], 0, MOST_PARTS)"),
+    ("there are tokens with any number", "plain_words", "file[len(token) :], 1, MOST_PARTS)", "file[len(token) :], 1, 9999)"),
     ("any letters are a set of relations", "plain_words", "or any(c not in plain.LETTERS for c in value)", "or False"),
     ("a set of relations may be empty", "plain_words", '(not value or any(c not in', '(any(c not in'),
     ("a key may stand twice", "plain_words", "if key in given:", "if False:"),
-    ("names may be the same", "plain_words", "if len(set(files)) < len(files):", "if False:"),
+    ("names may be the same", "plain_words", "if len(set(files)) < len(files) or", "if"),
     ("a missing token is looked for first", "plain_words", 'if ("nodes" in given or "worlds" in given) and "token" not in given:', "if False:"),
     # the text of certificates
     ("a literal of 2147483648 is refused", "certificate_lines", "2**31", "2**31 - 1"),

@@ -33,6 +33,11 @@ CASES = [
     ("euler_align mir in=problem.txt sibling=o", [None, "on", "off"]),
     ("euler_align report in=problem.txt kinds=me", [None, "merge"]),
     ("euler_align report in=problem.txt kinds=count,ta", [None, "tally"]),
+    ("euler_align par", [None, "parts", "part"]),
+    ("euler_align part in=problem.txt cert=c unt", [None, "until="]),
+    ("euler_align part in=problem.txt until=oth", [None, "other.txt"]),
+    ("euler_align join in=problem.txt certs=pro", [None, "problem.txt"]),
+    ("euler_align join in=problem.txt certs=problem.txt,oth", [None, "other.txt"]),
 ]
 ZSH = """
 emulate -L zsh

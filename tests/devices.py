@@ -6,7 +6,7 @@
 For each command, each file that it reads or writes, and standard output: an endless device, a full one, a folder, a file or a folder
 without permission, an absent name, a name in an absent folder, a closed standard output, a pipe whose reader left, a file that grows; and
 for each file that it writes another name of one that it reads (`./`, a path, a link, a hard link): that file keeps its bytes, and both
-words are told.
+words are told. Tokens of parts, which have a number behind the word that is given, are links to such devices and files.
 Each try looks at the exit code; at standard output, which is the right one, or a first part of it and then the last line of the fault; at
 what is in the folder, where nothing may change but the files that the command writes, and these hold a first part of what is right, or
 what they held; and at standard error, which says something where the fault is one of the words or of a text. Then each command runs under
@@ -24,24 +24,35 @@ import tempfile
 import threading
 
 import plain
-from commands import ON_DEVICES, ROWS, values_of
+from commands import ON_DEVICES, ROWS, files_written, names_in, values_of
 
 HERE = os.path.dirname(os.path.abspath(__file__))
 NOBODY = 65534
 # exit codes whose cause a person is told on standard error
-TOLD = {1, 2, 3, 4, 6, 7, 8, 12, 13, 14}
+TOLD = {1, 2, 3, 4, 6, 7, 8, 12, 13, 14, 15, 16, 17}
 READ_FAULT, WRITE_FAULT = (3, "read fault\n"), (4, "")
 
 # a problem with several worlds, and one statement more that makes it a conflict
 SMALL = b"taxonomy 1\n(r b1 s1)\ntaxonomy 2\n(r E F)\narticulation\n[1.r equals 2.r]\n", b"[1.b1 disjoint 2.r]\n"
 LARGER = plain.made_text(7, 40).encode(), SMALL[1]
-# name: words, the files that are read, the files that are written
-COMMANDS = {
-    name: (words, *({key: values[key] for key in keys} for keys in (ROWS[name].reads, ROWS[name].writes)))
-    for name, words, values in ((name, words, values_of(words.split())) for name, words in ON_DEVICES.items())
-}
+# words that make a file that others read, and its name
+MADE = [
+    ("align in=p worlds=1 token=r", "r"), ("align in=p worlds=3 token=u", "u"), ("align in=p cert=k", "k"),
+    ("part in=p cert=l resume=r", "l"), ("part in=p cert=m until=u", "m"),
+]
+
+
+def named(words, keys):
+    """The names that words give some keys, each with its key."""
+    values = values_of(words.split())
+    return [(key, name) for key in keys for name in names_in(key, values[key])]
+
+
+# name: words, the files that are read and the files that are written, each with its key
+COMMANDS = {name: (words, named(words, ROWS[name].reads), named(words, ROWS[name].writes)) for name, words in ON_DEVICES.items()}
 # what an endless file comes to, by its key; that of a certificate is one line without an end, for which memory is wanting
-ENDLESS = {"in": (1, "refused 0 TooLong\n"), "resume": (7, "token BadToken\n"), "cert": (9, "no memory\n")}
+BAD_TOKEN, NO_MEMORY = (7, "token BadToken\n"), (9, "no memory\n")
+ENDLESS = {"in": (1, "refused 0 TooLong\n"), "resume": BAD_TOKEN, "until": BAD_TOKEN, "cert": NO_MEMORY, "certs": NO_MEMORY}
 
 
 class Failed(Exception):
@@ -64,7 +75,7 @@ class Bench:
 
     def prepare(self):
         """What the commands put and write where nothing fails: differential.py looks at whether it is right."""
-        for words, name in (("align in=p worlds=1 token=r", "r"), ("align in=p cert=k", "k")):
+        for words, name in MADE:
             self.fresh()
             self.run(words.split())
             self.files[name] = self.held()[name]
@@ -72,8 +83,8 @@ class Bench:
             self.fresh()
             code, out, _ = self.run(words.split())
             held = self.held()
-            self.right[name] = code, out, {n: held.get(n) for n in written.values()}
-            if code not in (0, 5) or not all(self.right[name][2].values()):
+            self.right[name] = code, out, {n: held[n] for n in files_written(words.split()) if n in held}
+            if code not in (0, 5) or not all(self.right[name][2].values()) or any(n not in held for _, n in written):
                 raise SystemExit(f"devices: {words} ends with {code}, before anything is tried")
 
     def fresh(self):
@@ -145,16 +156,18 @@ class Bench:
                 raise Failed("right, but its files are not")
 
 
-def changed_words(words, key, value):
-    return [f"{key}={value}" if word.startswith(key + "=") else word for word in words.split()]
+def changed_words(words, key, file, value):
+    """The words with another name in place of one under a key."""
+    names = lambda word: ",".join(value if name == file else name for name in word[len(key) + 1 :].split(","))
+    return [f"{key}={names(word)}" if word.startswith(key + "=") else word for word in words.split()]
 
 
 def tries_of(bench, name):
     """The tries of one command: what each is called, and a function that makes it."""
     words, read, written = COMMANDS[name]
 
-    def with_name(key, value, fault, kilobytes=None):
-        return lambda: bench.judge(name, bench.run(changed_words(words, key, value), kilobytes=kilobytes), fault)
+    def with_name(key, file, value, fault, kilobytes=None):
+        return lambda: bench.judge(name, bench.run(changed_words(words, key, file, value), kilobytes=kilobytes), fault)
 
     def folder(file, fault):
         def make():
@@ -172,40 +185,68 @@ def tries_of(bench, name):
                 raise Failed(f"{file} is changed")
         return make
 
-    def in_closed_folder(key, fault):
+    def in_closed_folder(key, file, fault):
         def make():
             os.mkdir(os.path.join(bench.place, "closed"), 0o555)
             before = bench.held()
-            bench.judge(name, bench.run(changed_words(words, key, "closed/f"), nobody=True), fault, before=before)
+            bench.judge(name, bench.run(changed_words(words, key, file, "closed/f"), nobody=True), fault, before=before)
         return make
 
-    for key, file in read.items():
-        limit = 1 << 20 if key == "cert" else None
-        yield f"{key} endless", with_name(key, "/dev/zero", ENDLESS[key], limit)
-        yield f"{key} a folder", folder(file, READ_FAULT)
-        yield f"{key} without permission", without_permission(file, READ_FAULT)
-        yield f"{key} absent", with_name(key, "absent", READ_FAULT)
-        yield f"{key} in an absent folder", with_name(key, "absent/f", READ_FAULT)
-        yield f"{key} below a file", with_name(key, "p/f", READ_FAULT)
-        yield f"{key} with a name that is too long", with_name(key, "n" * 300, READ_FAULT)
-        yield f"{key} grows", growing(bench, name, key, file)
-    for key, file in written.items():
-        yield f"{key} full", with_name(key, "/dev/full", WRITE_FAULT)
+    def other_names(key, file, fault):
+        yield f"{key} in an absent folder", with_name(key, file, "absent/f", fault)
+        yield f"{key} below a file", with_name(key, file, "p/f", fault)
+        yield f"{key} with a name that is too long", with_name(key, file, "n" * 300, fault)
+
+    for key, file in read:
+        title = key if sum(other == key for other, _ in read) == 1 else f"{file} of {key}"
+        limit = 1 << 20 if key in ("cert", "certs") else None
+        yield f"{title} endless", with_name(key, file, "/dev/zero", ENDLESS[key], limit)
+        yield f"{title} a folder", folder(file, READ_FAULT)
+        yield f"{title} without permission", without_permission(file, READ_FAULT)
+        yield f"{title} absent", with_name(key, file, "absent", READ_FAULT)
+        yield from other_names(key, file, READ_FAULT)
+        yield f"{title} grows", growing(bench, name, key, file)
+    for key, file in written:
+        yield f"{key} full", with_name(key, file, "/dev/full", WRITE_FAULT)
         yield f"{key} a folder", folder(file, WRITE_FAULT)
         yield f"{key} without permission", without_permission(file, WRITE_FAULT)
-        yield f"{key} in a closed folder", in_closed_folder(key, WRITE_FAULT)
-        yield f"{key} in an absent folder", with_name(key, "absent/f", WRITE_FAULT)
-        yield f"{key} below a file", with_name(key, "p/f", WRITE_FAULT)
-        yield f"{key} with a name that is too long", with_name(key, "n" * 300, WRITE_FAULT)
+        yield f"{key} in a closed folder", in_closed_folder(key, file, WRITE_FAULT)
+        yield from other_names(key, file, WRITE_FAULT)
         yield f"{key} held something longer", held_something(bench, name, file)
-        for other, kept in read.items():
+        for other, kept in read:
             for way, alias in ALIASES.items():
-                yield f"{key} is {other} by {way}", one_file(bench, name, key, other, kept, alias)
-    if "token" in written and "cert" in written:
+                yield f"{key} is {other} by {way}", one_file(bench, name, (key, file), (other, kept), alias)
+    if {"token", "cert"} <= {key for key, _ in written}:
         yield "token is cert by another name", both_written(bench, name)
+    if name == "parts":
+        token = values_of(words.split())["token"]
+        yield "tokens in a closed folder", in_closed_folder("token", token, WRITE_FAULT)
+        yield from other_names("token", token, WRITE_FAULT)
+        for file in list(bench.right[name][2])[:2]:
+            yield f"{file} full", linked(bench, name, file, os.symlink, "/dev/full", None)
+            yield f"{file} a folder", folder(file, WRITE_FAULT)
+            yield f"{file} without permission", without_permission(file, WRITE_FAULT)
+            yield f"{file} held something longer", held_something(bench, name, file)
+            yield f"{file} is in by a link", linked(bench, name, file, os.symlink, "p", "in=p")
+            yield f"{file} is in by a hard link", linked(bench, name, file, os.link, "p", "in=p")
+        yield "a token is another by a link", linked(bench, name, f"{token}2", os.symlink, f"{token}1", f"{token}1")
+        yield "a token is another by a hard link", both_tokens(bench, name, f"{token}1", f"{token}2")
     yield "standard output full", output(bench, name, lambda: open("/dev/full", "wb"))
     yield "standard output without a reader", output(bench, name, pipe_without_reader)
     yield "standard output closed", output(bench, name, None)
+
+
+def linked(bench, name, file, link, to, word):
+    """A file that is to be written is a link to another, which isn't written over; where that is a file of this run, both are told."""
+    def make():
+        link(to if link is os.symlink else os.path.join(bench.place, to), os.path.join(bench.place, file))
+        # a link to a file that the run writes before shows that one's bytes then
+        before, changed = bench.held(), (file,) if word == to else ()
+        got = bench.run(COMMANDS[name][0].split())
+        bench.judge(name, got, WRITE_FAULT, changed=changed, before=before)
+        if word:
+            tells_words(got[2], [word, file])
+    return make
 
 
 def held_something(bench, name, file):
@@ -238,26 +279,41 @@ def tells_words(told, words):
             raise Failed(f"{word} is not told: {told!r}")
 
 
-def one_file(bench, name, key, other, file, alias):
+def one_file(bench, name, written, read, alias):
     """What is to be written has another name of a file that is read: nothing of that file is lost, and both words are told."""
     def make():
-        called = alias(bench.place, file)
+        (key, file), (other, kept) = written, read
+        called = alias(bench.place, kept)
         before = bench.held()
-        got = bench.run(changed_words(COMMANDS[name][0], key, called))
+        got = bench.run(changed_words(COMMANDS[name][0], key, file, called))
         bench.judge(name, got, WRITE_FAULT, before=before)
-        tells_words(got[2], [f"{other}={file}", f"{key}={called}"])
+        tells_words(got[2], [f"{other}={kept}", f"{key}={called}"])
     return make
 
 
 def both_written(bench, name):
     """Two files that are to be written are one: the second is not written over the first."""
     def make():
-        code, _, told = bench.run(changed_words(COMMANDS[name][0], "cert", "./t"))
+        code, _, told = bench.run(changed_words(COMMANDS[name][0], "cert", "c", "./t"))
         if code != WRITE_FAULT[0]:
             raise Failed(f"exit code {code}")
         tells_words(told, ["token=t", "cert=./t"])
         if not bench.held()["t"].startswith(b"certificate "):
             raise Failed("the certificate is lost")
+    return make
+
+
+def both_tokens(bench, name, first, second):
+    """Two names of one file that was there before: what is written under the first stays."""
+    def make():
+        bench.hold(first, b"what it held")
+        os.link(os.path.join(bench.place, first), os.path.join(bench.place, second))
+        before = bench.held()
+        got = bench.run(COMMANDS[name][0].split())
+        bench.judge(name, got, WRITE_FAULT, changed=(second,), before=before)
+        tells_words(got[2], [first, second])
+        if bench.held()[first] != bench.right[name][2][first]:
+            raise Failed(f"{first} is lost")
     return make
 
 
@@ -284,11 +340,13 @@ def output(bench, name, opened):
 def growing(bench, name, key, file):
     """The file grows while it is read: it is read as it was at some moment, or is too long, or is no token or certificate then."""
     words = COMMANDS[name][0].split()
-    line = {"in": b"# more\n" * 64, "resume": b"more\n", "cert": b"more\n"}[key]
+    line = b"# more\n" * 64 if key == "in" else b"more\n"
     lines = bench.files[file].count(b"\n")
-    faults = {
-        "in": [None, (1, "refused 0 TooLong\n")], "resume": [None, (7, "token BadToken\n")],
-        "cert": [None, (7, f"certificate {lines + 1} BadLine\n")],
+    place = [other for own, other in COMMANDS[name][1] if own == key].index(file) + 1
+    fault = {
+        **ENDLESS,
+        "cert": (7, f"certificate {lines + 1} BadLine\n"),
+        "certs": (16, f"refused part {place} {lines + 1} BadLine\n"),
     }[key]
 
     def make():
@@ -308,7 +366,7 @@ def growing(bench, name, key, file):
             finally:
                 over.set()
                 writer.join()
-            bench.judge(name, got, faults, changed=(file,))
+            bench.judge(name, got, [None, fault], changed=(file,))
     return make
 
 

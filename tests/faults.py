@@ -4,9 +4,9 @@
     tests/faults.py [RUN_SCENES]
 
 Transcripts for crates/run_scenes are made in which the k-th call fails, for each k until a run ends as the run without a fault does. What
-a run with a fault puts must be a first part of what is right, and `read fault` behind it where it read in vain; the certificate and the
-token must hold what they held, or a first part of what is right; other names must hold what they held. It ends with status 1 at the first
-run that is not so, and shows it.
+a run with a fault puts must be a first part of what is right, and `read fault` behind it where it read in vain; the certificate and
+tokens must hold what they held, or a first part of what is right; other names must hold what they held. It ends with status 1 at the
+first run that is not so, and shows it.
 """
 
 import os
@@ -22,6 +22,11 @@ OLD = {"c": "old c\n", "t": "old t\n", "z": "other\n"}
 
 def file_of(name, text):
     return f"@ {name}\n{text}"
+
+
+def as_lines(files):
+    """Texts whose last line is ended: a transcript has whole lines only."""
+    return {name: text if not text or text.endswith("\n") else text + "\n" for name, text in files.items()}
 
 
 def block(files, words, failing, put):
@@ -103,7 +108,7 @@ def check_case(program, folder, case):
 def main():
     program = os.path.abspath(sys.argv[1] if len(sys.argv) > 1 else os.path.join(HERE, "../crates/run_scenes/out/run_scenes"))
     with tempfile.TemporaryDirectory() as folder:
-        count = sum(check_case(program, folder, case) for case in FAILING_CALLS)
+        count = sum(check_case(program, folder, (problem, as_lines(files), words)) for problem, files, words in FAILING_CALLS)
     print(f"{len(FAILING_CALLS)} runs, {count} calls that fail, nothing wrong")
 
 

@@ -1,15 +1,18 @@
 #!/usr/bin/env python3
-"""Certificates that nobody would write in good faith: what `check` answers of them, and in what time.
+"""Certificates that nobody would write in good faith: what `check` answers of them, and `join` of many, and in what time.
 
     tests/hostile.py [PROGRAM] [--quick]
 
 Each is made of some number of things: bytes of one word, literals, hints, lines, elements, sets, claims. It is tried with a quarter of
 them and with all; the answer must be that of certificates.py both times, and the processor's time may grow by no more than twice as much
 as the bytes do (times below a tenth of a second count as a tenth). There are a million things of each, or ten million bytes of one word;
-with `--quick` a tenth of that. It ends with status 1 if an answer is another one or a time grows too fast.
+with `--quick` a tenth of that. So it is with what is joined, by plain_parts.py: there are as many names as a word may have, and 5,000 that
+are all needed, which is as many as `parts` tells of; with `--quick` a tenth. It ends with status 1 if an answer is another one or a time
+grows too fast.
 """
 
 import argparse
+import itertools
 import os
 import subprocess
 import sys
@@ -88,25 +91,94 @@ CASES = [
     ("the greatest pair of a subject", lambda n: CLAIMS + b"k 0\n" * n + words("none", "m", 2**32 - 1, "="), 1),
 ]
 
+WHOLE = LISTING + ROOT + b"w 1 = 1 0 0\nw 1 > 2 0,1 0\nw 1 < 2 0 0,1\nw 1 x 3 0,1 0,2\nw 1 ! 2 0 1\nend -\n"
+NOTHING = b"certificate 1 on on on !\nend .\n"
+ALL = (0, "=\n>\n<\nx\n!\njoined 5\n")
+# nothing holds together, which only the seventh pair shows
+TORN = b"taxonomy 1\n(A)\ntaxonomy 2\n" + b"".join(words(f"(B{k})") for k in range(7)) + b"articulation\n[1.A == 2.B6]\n[1.A ! 2.B6]\n"
 
-def answered(program, folder):
-    """The exit code and standard output of a check, and its processor seconds."""
+
+def nodes_of(node=""):
+    """The nodes of that problem with six letters at the most, ascending, if each is followed by all letters."""
+    yield node
+    for letter in plain.LETTERS if len(node) < 6 else "":
+        yield from nodes_of(node + letter)
+
+
+def chain(count):
+    """Certificates of one node each, the last first, so that each goes on where the next one named ends."""
+    nodes, files = list(itertools.islice(nodes_of(), count + 1)), {}
+    for number, (node, following) in enumerate(zip(nodes, nodes[1:])):
+        letters = f".{node}"
+        lines = [words("b", depth, letters[depth]) for depth in range(len(node))]
+        lines.append(words("e", 6, letters[-1], 6) if len(node) == 6 else words("b", len(node), letters[-1]))
+        files[f"{number:x}"] = words("certificate", 1, "on", "on", "on", node or ".") + b"".join(lines) + words("end", following)
+    return files, list(files)[::-1], (17, f"gap {nodes[-1]} -\n")
+
+
+# what each is called, the problem, the files, the names of those that are joined and the answer by the number of names, and that number
+JOINS = [
+    ("one certificate again and again", PROBLEM, lambda n: ({"c": WHOLE}, ["c"] * n, ALL), 60_000),
+    ("one that lists nothing again and again", PROBLEM, lambda n: ({"c": NOTHING}, ["c"] * n, (17, "gap . !\n")), 60_000),
+    ("the whole behind many that list nothing", PROBLEM, lambda n: ({"c": NOTHING, "d": WHOLE}, ["c"] * n + ["d"], ALL), 60_000),
+    ("many behind one that is refused", PROBLEM, lambda n: ({"c": WHOLE, "d": b""}, ["d"] + ["c"] * n, (16, "refused part 1 1 EndsEarly\n")), 60_000),
+    ("one that is refused behind many", PROBLEM, lambda n: ({"c": WHOLE, "d": b""}, ["c"] * n + ["d"], (16, f"refused part {n + 1} 1 EndsEarly\n")), 60_000),
+    ("names without a letter", PROBLEM, lambda n: ({}, [""] * n, (2, "usage EmptyName\n")), 120_000),
+    ("the problem's name behind many", PROBLEM, lambda n: ({"c": WHOLE}, ["c"] * n + ["p"], (2, "usage SameName\n")), 60_000),
+    ("as many parts as there may be, the last first", TORN, chain, 5_000),
+    (
+        "clauses that are dropped with each certificate",
+        PROBLEM,
+        lambda n: ({"c": derived(n, lambda k: words("d", 4 + (k * 0x9E3779B97F4A7C15) % (LAST_ID - 4), -3, -1, 2, 0, 1, 0))}, ["c"] * 8, (17, "gap . -\n")),
+        200_000,
+    ),
+]
+
+
+def answered(program, folder, *request):
+    """The exit code and standard output of a run, and its processor seconds."""
     with open(os.path.join(folder, "out"), "wb") as out:
-        run = subprocess.Popen([program, "check", "in=p", "cert=c"], cwd=folder, stdout=out, stderr=subprocess.DEVNULL)
+        run = subprocess.Popen([program, *request], cwd=folder, stdout=out, stderr=subprocess.DEVNULL)
         _, status, used = os.wait4(run.pid, 0)
         run.returncode = os.waitstatus_to_exitcode(status)
     with open(os.path.join(folder, "out"), "rb") as out:
         return (run.returncode, out.read().decode("utf-8", "replace")), used.ru_utime + used.ru_stime
 
 
-def tried(program, folder, problem, make, count):
-    data = make(count)
-    with open(os.path.join(folder, "c"), "wb") as f:
+def hold(folder, name, data):
+    with open(os.path.join(folder, name), "wb") as f:
         f.write(data)
-    got, seconds = answered(program, folder)
+
+
+def fault_of(got, wanted):
+    return "" if got == wanted else f"wanted {wanted[0]} {wanted[1][-200:]!r}, got {got[0]} {got[1][-200:]!r}"
+
+
+def checked(program, folder, problem, make, count):
+    """How many bytes are checked, in which time, the last line, and what is wrong with the answer."""
+    data = make(count)
+    hold(folder, "c", data)
+    got, seconds = answered(program, folder, "check", "in=p", "cert=c")
     wanted = certificates.check(problem, data)
-    fault = "" if got == wanted else f"wanted {wanted[0]} {wanted[1][-200:]!r}, got {got[0]} {got[1][-200:]!r}"
-    return len(data), seconds, wanted[1].split("\n")[-2], fault
+    return len(data), seconds, wanted[1].split("\n")[-2], fault_of(got, wanted)
+
+
+def joined(program, folder, make, count):
+    files, names, wanted = make(count)
+    for name, data in files.items():
+        hold(folder, name, data)
+    got, seconds = answered(program, folder, "join", "in=p", "certs=" + ",".join(names))
+    return sum(len(files.get(name, name)) + 1 for name in names), seconds, wanted[1].split("\n")[-2], fault_of(got, wanted)
+
+
+def judged(name, few, many):
+    """Tells of a try with a quarter of the things and of one with all; whether both are as wanted."""
+    (few_bytes, few_seconds, _, few_fault), (many_bytes, seconds, last, fault) = few, many
+    fault = few_fault or fault
+    if not fault and max(seconds, 0.1) > 2 * max(few_seconds, 0.1) * many_bytes / few_bytes:
+        fault = f"{few_bytes} bytes take {few_seconds:.2f} s, and {many_bytes} bytes {seconds:.2f} s"
+    print(f"{name}: {many_bytes / 1e6:.1f} MB, {seconds:.2f} s: {fault or last}", flush=True)
+    return not fault
 
 
 def main():
@@ -114,22 +186,19 @@ def main():
     parser.add_argument("program", nargs="?", default=os.path.join(HERE, "../crates/euler_align/out/euler_align"))
     parser.add_argument("--quick", action="store_true")
     given = parser.parse_args()
-    program, failed = os.path.abspath(given.program), 0
+    program, part = os.path.abspath(given.program), 10 if given.quick else 1
     problem = plain.read_problem(PROBLEM, (True, True, True)).finish()
     with tempfile.TemporaryDirectory() as folder:
-        with open(os.path.join(folder, "p"), "wb") as f:
-            f.write(PROBLEM)
+        hold(folder, "p", PROBLEM)
+        came = []
         for name, make, times in CASES:
-            count = times * (100_000 if given.quick else 1_000_000)
-            few_bytes, few_seconds, _, few_fault = tried(program, folder, problem, make, count // 4)
-            many_bytes, seconds, last, fault = tried(program, folder, problem, make, count)
-            fault = few_fault or fault
-            if not fault and max(seconds, 0.1) > 2 * max(few_seconds, 0.1) * many_bytes / few_bytes:
-                fault = f"{few_bytes} bytes take {few_seconds:.2f} s, and {many_bytes} bytes {seconds:.2f} s"
-            failed += bool(fault)
-            print(f"{name}: {many_bytes / 1e6:.1f} MB, {seconds:.2f} s: {fault or last}", flush=True)
-    print(f"hostile: {len(CASES) - failed} passed, {failed} failed")
-    return 1 if failed else 0
+            count = times * 1_000_000 // part
+            came.append(judged(name, *(checked(program, folder, problem, make, number) for number in (count // 4, count))))
+        for name, text, make, count in JOINS:
+            hold(folder, "p", text)
+            came.append(judged(f"join, {name}", *(joined(program, folder, make, number // part) for number in (count // 4, count))))
+    print(f"hostile: {sum(came)} passed, {len(came) - sum(came)} failed")
+    return 0 if all(came) else 1
 
 
 if __name__ == "__main__":

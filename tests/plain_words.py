@@ -1,7 +1,7 @@
 """What the words of the command line come to: their first usage fault, as docs/FORMATS.md has it."""
 
 import plain
-from commands import KEYS, KINDS, LIMIT, ROWS
+from commands import KEYS, KINDS, LIMIT, MOST_PARTS, ROWS, names_in
 
 
 def usage_of(words):
@@ -30,7 +30,7 @@ def usage_of(words):
             return "BadSet"
         if kind == "limit" and value == "0":
             return "ZeroBudget"
-        if kind == "file" and not value:
+        if kind in ("file", "files") and not all(names_in(key, value)):
             return "EmptyName"
         if kind == "reports":
             kinds = value.split(",")
@@ -43,7 +43,14 @@ def usage_of(words):
         return "MissingKey"
     if ("nodes" in given or "worlds" in given) and "token" not in given:
         return "BudgetWithoutToken"
-    files = [value for key, value in given.items() if KEYS[key] == "file"]
-    if len(set(files)) < len(files):
+    # a name may stand twice under one key
+    files = [name for key, value in given.items() for name in set(names_in(key, value))]
+    if len(set(files)) < len(files) or (words[0] == "parts" and is_token_of_part(given)):
         return "SameName"
     return None
+
+
+def is_token_of_part(given):
+    """Whether the problem's name is that of the token of a part with a number that parts may have."""
+    token, file = given["token"], given["in"]
+    return file.startswith(token) and plain.is_number(file[len(token) :], 1, MOST_PARTS)

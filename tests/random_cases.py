@@ -3,13 +3,17 @@
 import re
 
 import plain
-from commands import OTHER_VALUES, OTHER_WORDS, REQUESTS
+from commands import KEYS, OTHER_VALUES, OTHER_WORDS, REQUESTS
 
 SWITCHES = [(a, b, c) for a in (True, False) for b in (True, False) for c in (True, False)]
+# names of files in random words, for a key that has one and for a key that has several
+NAMES = {"file": ["p", "c", "t", "r", "u"], "files": ["c", "d", "p", "c,d", "d,c,c", "c,p", "c,", ",c"]}
 
 
 def random_words(rng):
     """The words of a request with a few changes."""
+    if rng.random() < 0.04:
+        return words_with_number(rng)
     words = rng.choice(REQUESTS).split(" ")
     for _ in range(rng.choice([1, 1, 2, 3])):
         place, draw = rng.randrange(len(words) + 1), rng.random()
@@ -23,8 +27,16 @@ def random_words(rng):
             words[place:place] = words[place : place + 1]
         elif place < len(words) and "=" in words[place]:
             key = words[place].split("=")[0]
-            words[place] = f"{key}={rng.choice(list('pctr') if key in ('in', 'cert', 'token', 'resume') and draw < 0.85 else OTHER_VALUES)}"
+            words[place] = f"{key}={rng.choice(NAMES.get(KEYS.get(key), OTHER_VALUES) if draw < 0.85 else OTHER_VALUES)}"
     return words
+
+
+def words_with_number(rng):
+    """Words for parts, whose problem has a name that the token of a part may have."""
+    number = rng.choice(["", "0", "1", "01", "5000", "5001", "05000", "+1", "1.", "x", str(rng.randint(2, 6000))])
+    words = [f"in=t{number}", "count=2", "token=t"]
+    rng.shuffle(words)
+    return ["parts", *words]
 
 
 def random_switches(rng):

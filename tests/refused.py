@@ -4,7 +4,7 @@
     tests/refused.py [PROGRAM] [--every N]
 
 The N-th call of malloc or realloc answers NULL, by refuse.c, which gcc builds here. A run must then end as without a refusal, or with
-exit code 9 and `no memory` behind a first part of what is right (nothing at all where it has no words yet); the certificate and the token
+exit code 9 and `no memory` behind a first part of what is right (nothing at all where it has no words yet); the certificate and tokens
 hold what they held or a first part of what is right, and other files what they held. With --every N only each N-th call is refused. It
 ends with status 1 at the first run that is not so, and shows it.
 """
@@ -15,7 +15,7 @@ import subprocess
 import sys
 import tempfile
 
-from commands import REFUSED_MEMORY
+from commands import REFUSED_MEMORY, files_written
 
 HERE = os.path.dirname(os.path.abspath(__file__))
 OLD = {"c": b"old c\n", "t": b"old t\n", "z": b"other\n"}
@@ -57,7 +57,7 @@ def fault_in(words, files, right, run):
     if put and not (put.endswith(b"no memory\n") and right[1].startswith(put[: -len(b"no memory\n")])):
         return "what is put is not a first part of what is right, and then `no memory`"
     for name, data in held.items():
-        is_written = f"token={name}" in words or (f"cert={name}" in words and not words.startswith("check"))
+        is_written = name in files_written(words.split(" "))
         if data != files[name] and not (is_written and right[2][name].startswith(data)):
             return f"{name} holds something else"
     return None

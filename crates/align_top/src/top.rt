@@ -1,9 +1,8 @@
 //! All that the program does with its words, a store and a sink.
 ghost use Rattle.std.specs.Prelude.{◌≡◌, List, map, string_bytes, true, Ok};
-ghost use Rattle.command_line.specs.Requests.{IsMade, names_of};
-ghost use Rattle.run_ends.specs.Runs.{IsRunOf};
+ghost use Rattle.command_line.specs.Requests.{IsMade};
 ghost use Rattle.report_run.specs.Reporting.{Watched, watched};
-ghost use Rattle.align_top.specs.Output.{answers_to, IsRun};
+ghost use Rattle.align_top.specs.Output.{IsRunFor, IsRun};
 ghost use Rattle.align_top.specs.Steps.{IsPlain, is_report};
 
 use crate::words::read_words;
@@ -11,8 +10,11 @@ use check_run::run_check;
 use claims_run::{Question, run_claims};
 use command_line::{Request, WordsFault};
 use explain_run::run_explain;
+use join_run::run_join;
 use listing_run::run_listing;
 use outer_store::{Sink, Store};
+use part_run::run_part;
+use parts_run::run_parts;
 use report_run::run_report;
 use run_ends::{Status, put_end};
 use std::alloc::Global;
@@ -34,7 +36,7 @@ fn run_plain<S: Store, W: Sink>(
     request: Request,
 ) -> Status
     requires { IsPlain request }
-    ensures { (watchers : List Watched) → IsRunOf (names_of request) (answers_to watchers (Ok request)) result (S.state store.old) (S.state store.new) (W.state out.old) (W.state out.new) }
+    ensures { (watchers : List Watched) → IsRunFor watchers (Ok request) result (S.state store.old) (S.state store.new) (W.state out.old) (W.state out.new) }
 {
     match request {
         Request::Align(args) => run_listing(alloc, store, out, &args),
@@ -46,34 +48,13 @@ fn run_plain<S: Store, W: Sink>(
             args.cert.text(),
             args.switches,
         ),
-        Request::Mir(args) => run_claims(
-            alloc,
-            store,
-            out,
-            Question::Relations,
-            args.input.text(),
-            &args.cert,
-            args.switches,
-        ),
-        Request::Conflict(args) => run_claims(
-            alloc,
-            store,
-            out,
-            Question::Conflicts,
-            args.input.text(),
-            &args.cert,
-            args.switches,
-        ),
-        Request::Lattice(args) => run_claims(
-            alloc,
-            store,
-            out,
-            Question::Lattice,
-            args.input.text(),
-            &args.cert,
-            args.switches,
-        ),
+        Request::Mir(args) => run_claims(alloc, store, out, Question::Relations, &args),
+        Request::Conflict(args) => run_claims(alloc, store, out, Question::Conflicts, &args),
+        Request::Lattice(args) => run_claims(alloc, store, out, Question::Lattice, &args),
         Request::Explain(args) => run_explain(alloc, store, out, &args),
+        Request::Parts(args) => run_parts(alloc, store, out, &args),
+        Request::Part(args) => run_part(alloc, store, out, &args),
+        Request::Join(args) => run_join(alloc, store, out, &args),
         Request::Trial(args) => run_trial(alloc, out, args.seed, args.size),
         Request::Report(_) => unreachable!(),
     }
@@ -89,7 +70,7 @@ fn run_reporting<S: Store, W: Sink>(
 ) -> Status
     requires report { is_report request ≡ true }
     requires made { IsMade (map name watchers.items) request }
-    ensures { IsRunOf (names_of request) (answers_to (watched name text watchers.items) (Ok request)) result (S.state store.old) (S.state store.new) (W.state out.old) (W.state out.new) }
+    ensures { IsRunFor (watched name text watchers.items) (Ok request) result (S.state store.old) (S.state store.new) (W.state out.old) (W.state out.new) }
 {
     let Request::Report(args) = request else {
         unreachable!()
@@ -114,7 +95,7 @@ fn run_request<S: Store, W: Sink>(
     watchers: Vec<Box<dyn WorldWatcher>>,
 ) -> Status
     requires { IsMade (map name watchers.items) request }
-    ensures { IsRunOf (names_of request) (answers_to (watched name text watchers.items) (Ok request)) result (S.state store.old) (S.state store.new) (W.state out.old) (W.state out.new) }
+    ensures { IsRunFor (watched name text watchers.items) (Ok request) result (S.state store.old) (S.state store.new) (W.state out.old) (W.state out.new) }
 {
     if is_report(&request) {
         return run_reporting(alloc, store, out, request, watchers);

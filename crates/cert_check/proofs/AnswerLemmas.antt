@@ -1,8 +1,10 @@
 -- Answers to what there may have been to read.
 use Rattle.std.proofs.Common.{◌≡◌, ℕ, ◌+◌, ◌^◌, ◌<◌, List, [], length, Option, Some, None, OnOk, IfOk, Result, Ok, Err, IsErrAnd, sym, ap, subst, ◌∙◌, arith}
 use Rattle.rcc5_core.specs.declared.Rel.{Rel}
+use Rattle.lits_core.specs.Derivation.{State, first_state}
 use Rattle.world_model.specs.Problem.{Problem}
 use Rattle.constraint_set.specs.Facts.{IsBuilt}
+use Rattle.cert_model.specs.Clauses.{given_clauses}
 use Rattle.cert_text.specs.declared.line.CertLine.{CertLine}
 use Rattle.cert_reader.specs.declared.fault.CertTextKind.{CertTextKind}
 use Rattle.cert_reader.specs.declared.fault.CertTextFault.{CertTextFault}
@@ -55,16 +57,16 @@ on_ok (Ok value) Fact fact = fact
 on_ok (Err f) Fact fact = tt
 
 -- no line is left, or one that has a fault
-bare_from : (checker : Checker) (n : ℕ) (f : CheckFault) (read left : Reading) → IsNextLine (Err f) read left → Tells (answer_from checker n read) (Err f)
-bare_from (kind.Listing c) n (fault.Text line k) read left is = ap (answer_from (kind.Listing c) n) is
-bare_from (kind.Claims c) n (fault.Text line k) read left is = ap (answer_from (kind.Claims c) n) is
-bare_from checker n (fault.Rejected line k) read left is = absurd is
-bare_from checker n fault.ReadFault read left is = tt
-bare_from checker n fault.NoMemory read left is = tt
+bare_from : (proof : State) (checker : Checker) (n : ℕ) (f : CheckFault) (read left : Reading) → IsNextLine (Err f) read left → Tells (answer_from proof checker n read) (Err f)
+bare_from proof (kind.Listing c) n (fault.Text line k) read left is = ap (answer_from proof (kind.Listing c) n) is
+bare_from proof (kind.Claims c) n (fault.Text line k) read left is = ap (answer_from proof (kind.Claims c) n) is
+bare_from proof checker n (fault.Rejected line k) read left is = absurd is
+bare_from proof checker n fault.ReadFault read left is = tt
+bare_from proof checker n fault.NoMemory read left is = tt
 
-none_from : (checker : Checker) (n : ℕ) (read left : Reading) → IsNextLine (Ok None) read left → Tells (answer_from checker n read) (Err (fault.Rejected n MissingBranch))
-none_from (kind.Listing c) n read left is = ap (answer_from (kind.Listing c) n) is
-none_from (kind.Claims c) n read left is = ap (answer_from (kind.Claims c) n) is
+none_from : (proof : State) (checker : Checker) (n : ℕ) (read left : Reading) → IsNextLine (Ok None) read left → Tells (answer_from proof checker n read) (Err (fault.Rejected n MissingBranch))
+none_from proof (kind.Listing c) n read left is = ap (answer_from proof (kind.Listing c) n) is
+none_from proof (kind.Claims c) n read left is = ap (answer_from proof (kind.Claims c) n) is
 
 -- the steps from one reading to the next
 module _ {old new : Reading → Type 0} where
@@ -73,19 +75,19 @@ module _ {old new : Reading → Type 0} where
   line_as o line is goes = subst (λ (o : Option CertLine). GoesOn old new (IsNextLine (Ok o))) is goes
 
   -- a line was read and taken
-  pub turn_line : (checker : Checker) (n : ℕ) (next : Checker) (o : Option CertLine) (line : CertLine) (r : Result Turn CheckFault) → o ≡ Some line → GoesOn old new (IsNextLine (Ok o))
-      → ((left : Reading) → IsTurn checker n (with_first line left) next left r) → GoesOn old new (λ told left. IsTurn checker n told next left r)
-  turn_line checker n next o line r is goes takes =
-      goes_as (line_as o line is goes) (λ told left first. subst (λ told. IsTurn checker n told next left r) (sym first) (takes left))
+  pub turn_line : (proof : State) (checker : Checker) (n : ℕ) (after : State) (next : Checker) (o : Option CertLine) (line : CertLine) (r : Result Turn CheckFault) → o ≡ Some line → GoesOn old new (IsNextLine (Ok o))
+      → ((left : Reading) → IsTurn proof checker n (with_first line left) after next left r) → GoesOn old new (λ told left. IsTurn proof checker n told after next left r)
+  turn_line proof checker n after next o line r is goes takes =
+      goes_as (line_as o line is goes) (λ told left first. subst (λ told. IsTurn proof checker n told after next left r) (sym first) (takes left))
 
   -- none is left
-  pub turn_none : (checker : Checker) (n : ℕ) (next : Checker) (o : Option CertLine) → o ≡ None → GoesOn old new (IsNextLine (Ok o))
-      → GoesOn old new (λ told left. IsTurn checker n told next left (Err (fault.Rejected n MissingBranch)))
-  turn_none checker n next o is goes = goes_as (subst (λ (o : Option CertLine). GoesOn old new (IsNextLine (Ok o))) is goes) (λ told left none. none_from checker n told left none)
+  pub turn_none : (proof : State) (checker : Checker) (n : ℕ) (after : State) (next : Checker) (o : Option CertLine) → o ≡ None → GoesOn old new (IsNextLine (Ok o))
+      → GoesOn old new (λ told left. IsTurn proof checker n told after next left (Err (fault.Rejected n MissingBranch)))
+  turn_none proof checker n after next o is goes = goes_as (subst (λ (o : Option CertLine). GoesOn old new (IsNextLine (Ok o))) is goes) (λ told left none. none_from proof checker n told left none)
 
   -- there is a fault
-  pub turn_fault : (checker : Checker) (n : ℕ) (next : Checker) (f : CheckFault) → GoesOn old new (IsNextLine (Err f)) → GoesOn old new (λ told left. IsTurn checker n told next left (Err f))
-  turn_fault checker n next f goes = goes_as goes (λ told left at. bare_from checker n f told left at)
+  pub turn_fault : (proof : State) (checker : Checker) (n : ℕ) (after : State) (next : Checker) (f : CheckFault) → GoesOn old new (IsNextLine (Err f)) → GoesOn old new (λ told left. IsTurn proof checker n told after next left (Err f))
+  turn_fault proof checker n after next f goes = goes_as goes (λ told left at. bare_from proof checker n f told left at)
 
   -- with one line more read, the lines stay few
   pub few_on : (n : ℕ) (o : Option CertLine) (line : CertLine) → o ≡ Some line → GoesOn old new (IsNextLine (Ok o)) → AreFew n old → AreFew (n + 1) new
@@ -98,23 +100,24 @@ pub too_many : {T : Type 0} (reader : Reader) (left : Option (List ℕ)) (n : �
 too_many reader left n many few = let some = some_read reader left in absurd (omega (arith, many, few some.0 some.1))
 
 -- what was read from the top on, a line after the other
-module _ {first old new : Reading → Type 0} (top checker : Checker) (n : ℕ) (so_far : GoesOn first old (λ all now. answer_from top 1 all ≡ answer_from checker n now)) where
-  pub answers_on : (next : Checker) (t : Turn) → t ≡ turn.Further → GoesOn old new (λ told left. IsTurn checker n told next left (Ok t))
-      → GoesOn first new (λ all now. answer_from top 1 all ≡ answer_from next (n + 1) now)
-  answers_on next t is turns =
-      goes_joins so_far (subst (λ (t : Turn). GoesOn old new (λ told left. IsTurn checker n told next left (Ok t))) is turns) (λ all told left before after. before ∙ after)
+module _ {first old new : Reading → Type 0} (given : State) (top : Checker) (proof : State) (checker : Checker) (n : ℕ)
+    (so_far : GoesOn first old (λ all now. answer_from given top 1 all ≡ answer_from proof checker n now)) where
+  pub answers_on : (after : State) (next : Checker) (t : Turn) → t ≡ turn.Further → GoesOn old new (λ told left. IsTurn proof checker n told after next left (Ok t))
+      → GoesOn first new (λ all now. answer_from given top 1 all ≡ answer_from after next (n + 1) now)
+  answers_on after next t is turns =
+      goes_joins so_far (subst (λ (t : Turn). GoesOn old new (λ told left. IsTurn proof checker n told after next left (Ok t))) is turns) (λ all told left before after. before ∙ after)
 
-  pub answers_end : (next : Checker) (t : Turn) (to : Option (List Rel)) (r : Result Accepted CheckFault) → t ≡ turn.Ended to → GoesOn old new (λ told left. IsTurn checker n told next left (Ok t))
-      → ForSome new (λ read. Tells (ended_answer (verdict_from next to) read.ends) r) → TellsFrom top 1 first r
-  answers_end next t to r is turns told =
-      let joined : GoesOn first new (λ all left. answer_from top 1 all ≡ ended_answer (verdict_from next to) left.ends) =
-      goes_joins so_far (subst (λ (t : Turn). GoesOn old new (λ told left. IsTurn checker n told next left (Ok t))) is turns) (λ all told left before after. before ∙ after) in
+  pub answers_end : (after : State) (next : Checker) (t : Turn) (to : Option (List Rel)) (r : Result Accepted CheckFault) → t ≡ turn.Ended to → GoesOn old new (λ told left. IsTurn proof checker n told after next left (Ok t))
+      → ForSome new (λ read. Tells (ended_answer (verdict_from next to) read.ends) r) → TellsFrom given top 1 first r
+  answers_end after next t to r is turns told =
+      let joined : GoesOn first new (λ all left. answer_from given top 1 all ≡ ended_answer (verdict_from next to) left.ends) =
+      goes_joins so_far (subst (λ (t : Turn). GoesOn old new (λ told left. IsTurn proof checker n told after next left (Ok t))) is turns) (λ all told left before after. before ∙ after) in
       some_before joined (λ read. Tells (ended_answer (verdict_from next to) read.ends) r) told (λ all left same tells. subst (λ answer. Tells answer r) (sym same) tells)
 
-  pub answers_fault : (next : Checker) (f : CheckFault) → (read : Reading) × new read → GoesOn old new (λ told left. IsTurn checker n told next left (Err f)) → TellsFrom top 1 first (Err f)
-  answers_fault next f some turns =
+  pub answers_fault : (after : State) (next : Checker) (f : CheckFault) → (read : Reading) × new read → GoesOn old new (λ told left. IsTurn proof checker n told after next left (Err f)) → TellsFrom given top 1 first (Err f)
+  answers_fault after next f some turns =
       let told = turns.before some.0 some.1 in
-      some_before so_far (λ now. Tells (answer_from checker n now) (Err f)) told (λ all now same tells. subst (λ answer. Tells answer (Err f)) (sym same) tells)
+      some_before so_far (λ now. Tells (answer_from proof checker n now) (Err f)) told (λ all now same tells. subst (λ answer. Tells answer (Err f)) (sym same) tells)
 
 -- a fault is the end of all the text
 fault_end : (f : CheckFault) (all now left : Reading) → all.ends ≡ now.ends → IsNextLine (Err f) now left → IsEnd all (Err f)
@@ -152,7 +155,7 @@ pub finish_fault : {may : Reading → Type 0} (v : Verdict) (f : CheckFault) →
 finish_fault v f end = (end.0, (end.1.0, end_tells v f end.0 end.1.1))
 
 -- the first line was taken, and those behind it have their answer
-pub starts_tells : {may : Reading → Type 0} (p : Problem) (first : CertLine) (checker : Checker) (r : Result Accepted CheckFault) → Starts p first (Ok checker) → TellsFrom checker 1 may r
+pub starts_tells : {may : Reading → Type 0} (p : Problem) (first : CertLine) (checker : Checker) (r : Result Accepted CheckFault) → Starts p first (Ok checker) → TellsFrom (first_state (given_clauses p)) checker 1 may r
     → ForSome may (λ read. IsAnswerOf p (with_first first read) r)
 starts_tells p first checker r starts told = (told.0, (told.1.0, subst (λ answer. Tells answer r) (sym (starts told.0)) told.1.1))
 

@@ -1,20 +1,21 @@
 -- An open tree that branches on no pair yet: a leaf at its root is judged as that of its subject's tree, and nothing comes after it.
-use Rattle.std.proofs.Common.{◌≡◌, ℕ, ◌+◌, ◌≤◌, Bool, true, false, List, [], ◌∷◌, length, Option, Some, None, refl, sym, ap, ◌∙◌, subst, inl, inr, arith, Result, Ok, Err, IfOk}
+use Rattle.std.proofs.Common.{◌≡◌, ℕ, ◌+◌, ◌≤◌, Bool, true, false, List, [], ◌∷◌, length, Option, Some, None, refl, sym, ap, ◌∙◌, subst, inl, inr, arith, true≢false, Result, Ok, Err, IfOk}
 use Rattle.rcc5_core.specs.declared.Rel.{Rel}
 use Rattle.lits_core.specs.Derivation.{State}
 use Rattle.world_model.specs.Problem.{Problem}
 use Rattle.cert_text.specs.declared.line.CertLine.{CertLine}
-use Rattle.cert_text.specs.declared.line.CertLine.TheVariants.{Branch, World}
+use Rattle.cert_text.specs.declared.line.CertLine.TheVariants.{Certificate, Claims, Proof, Branch, NoPoint, NoRelation, World, Holds, Fails, End, Quit, Done}
 use Rattle.cert_rules.specs.Trees.{Branching, sets_of, is_branch, tree_fault, tree_next}
 use Rattle.cert_rules.specs.Order.{onward}
-use Rattle.cert_rules.specs.ClaimLists.{ClaimStand, Block, claim_role, ForNode, subject_problem, subject_tree, take_inside, with_block}
+use Rattle.cert_rules.specs.ClaimLists.{ClaimStand, Block, claim_role, ForNode, subject_problem, subject_tree, stray_kind, take_inside, with_block}
 use Rattle.cert_rules.specs.Listings.{Going, Rejected, unless}
 use Rattle.cert_rules.specs.declared.RejectKind.{RejectKind}
 use Rattle.cert_rules.proofs.FromTheEnd.{found_from_the_end_law}
 use Rattle.cert_tree.specs.Levels.{tree_over, bare_tree}
 use Rattle.cert_tree.specs.Walks.{IsPath, node_of, at_of}
 use Rattle.cert_check.specs.declared.open_tree.OpenTree.{OpenTree}
-use Rattle.cert_check.specs.Claiming.{IsBlock}
+use Rattle.cert_check.specs.Checkers.{is_proof}
+use Rattle.cert_check.specs.Claiming.{IsBlock, is_node}
 
 -- the tree that is made anew is that of the subject
 pub made_anew : (p : Problem) (block : OpenTree) (q : Problem) (from : List Rel) (tree : Branching) → IsBlock p block → q ≡ block.walk.tree.subject → from ≡ [] → tree ≡ tree_over q false from →
@@ -127,3 +128,20 @@ node_taken p n s block line at role fault next =
     ap (take_inside p n s block line) role
     ∙ ap (λ fault. unless fault (n + 1) (Going (n + 1) (with_block s (record block { at = tree_next (subject_tree p block.subject) block.at line })))) fault
     ∙ ap (λ at. Going (n + 1) (with_block s (record block { at = at }))) next
+
+-- a line within a tree that is none of the derivation, of the tree, of its end or of its being left is not taken
+pub stray_rejected : (p : Problem) (s : ClaimStand) (block : Block) (line : CertLine) → is_proof line ≡ false → is_node line ≡ false → (line ≡ Quit → ⊥) → (line ≡ End None → ⊥) → (n : ℕ) →
+    take_inside p n s block line (claim_role line) ≡ Rejected (n + 1) (stray_kind block.at)
+stray_rejected p s block (Certificate switches from) other leaf left ended n = refl
+stray_rejected p s block (Claims switches) other leaf left ended n = refl
+stray_rejected p s block (Proof line) other leaf left ended n = absurd (true≢false other)
+stray_rejected p s block (Branch depth last) other leaf left ended n = absurd (true≢false leaf)
+stray_rejected p s block (NoPoint depth last need clause) other leaf left ended n = absurd (true≢false leaf)
+stray_rejected p s block (NoRelation depth last pair) other leaf left ended n = absurd (true≢false leaf)
+stray_rejected p s block (World depth last family) other leaf left ended n = refl
+stray_rejected p s block (Holds subject family) other leaf left ended n = refl
+stray_rejected p s block (Fails subject) other leaf left ended n = refl
+stray_rejected p s block (End None) other leaf left ended n = absurd (ended refl)
+stray_rejected p s block (End (Some to)) other leaf left ended n = refl
+stray_rejected p s block Quit other leaf left ended n = absurd (left refl)
+stray_rejected p s block Done other leaf left ended n = refl

@@ -1,7 +1,9 @@
 -- How a checker takes a line.
-use Rattle.std.specs.Prelude.{◌≡◌, ℕ, ◌+◌, Result, Ok, Err, ⊤}
+use Rattle.std.specs.Prelude.{◌≡◌, ℕ, ◌+◌, Bool, true, false, Result, Ok, Err, ⊤}
 use Rattle.cert_text.specs.declared.line.CertLine.{CertLine}
+use Rattle.cert_text.specs.declared.line.CertLine.TheVariants.{Proof}
 use Rattle.cert_rules.specs.Trees.{Branching}
+use Rattle.lits_core.specs.Derivation.{State}
 use Rattle.lits_core.specs.declared.LineFault.{LineFault}
 use Rattle.lits_core.specs.declared.LineFault.TheVariants as fault
 use Rattle.cert_rules.specs.Listings.{as_kind, Stand, Going, Ended, Rejected, step}
@@ -20,9 +22,14 @@ stop_of fault.NoConflict = stop.Rejected (as_kind fault.NoConflict)
 stop_of fault.IdUsed = stop.Rejected (as_kind fault.IdUsed)
 stop_of fault.NoMemory = stop.NoMemory
 
--- where a listing stands
-abbrev pub stand_of : Listing → Stand
-stand_of listing = record { proof = listing.book; at = at_of listing.walk; worlds = listing.worlds.items }
+-- whether a line is one of the derivation
+abbrev pub is_proof : CertLine → Bool
+is_proof (Proof line) = true
+is_proof line = false
+
+-- where a listing stands, with its derivation
+abbrev pub stand_of : State → Listing → Stand
+stand_of proof listing = record { proof = proof; at = at_of listing.walk; worlds = listing.worlds.items }
 
 -- a line was taken as the rules take it, whatever its number: they go on, or end there, or reject it
 abbrev pub IsStep : Branching → Stand → CertLine → Stand → Result Turn Stop → Type 0

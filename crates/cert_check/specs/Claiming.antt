@@ -1,5 +1,6 @@
 -- How the lines of a list of claims are taken.
 use Rattle.std.specs.Prelude.{◌≡◌, ℕ, ◌+◌, Bool, true, false, Option, Some, option_map, Result, Ok, Err, IfSome, ⊤, List, Contains, IsTrue, ◌⊎◌}
+use Rattle.lits_core.specs.Derivation.{State}
 use Rattle.world_model.specs.Problem.{Problem}
 use Rattle.world_model.specs.Family.{Family, meets}
 use Rattle.cert_text.specs.declared.line.CertLine.{CertLine}
@@ -19,12 +20,12 @@ use Rattle.cert_tree.specs.Walks.{at_of, IsWalk}
 abbrev pub block_of : OpenTree → Block
 block_of tree = record { subject = tree.subject; at = at_of tree.walk }
 
--- where a list of claims stands, with what is open, and with another tree open
-abbrev pub claim_stand : Claims → ClaimStand
-claim_stand claims = record { proof = claims.book; block = option_map block_of claims.block; claims = claims.claims.items }
+-- where a list of claims stands, with its derivation and what is open, and with another tree open
+abbrev pub claim_stand : State → Claims → ClaimStand
+claim_stand proof claims = record { proof = proof; block = option_map block_of claims.block; claims = claims.claims.items }
 
-abbrev pub with_block : Claims → OpenTree → ClaimStand
-with_block claims tree = record { proof = claims.book; block = Some (block_of tree); claims = claims.claims.items }
+abbrev pub with_block : State → Claims → OpenTree → ClaimStand
+with_block proof claims tree = record { proof = proof; block = Some (block_of tree); claims = claims.claims.items }
 
 -- an open tree is that of its subject, or branches on no pair yet, and then no path in it leads below the root
 pub record IsBlock (p : Problem) (block : OpenTree) : Type 0 where

@@ -1,12 +1,13 @@
 //! A certificate of either kind, line by line.
 
-ghost use Rattle.std.specs.Prelude.{◌≡◌, ◌&&◌, ◌∷◌, not, IfOk, OnOk};
+ghost use Rattle.std.specs.Prelude.{◌≡◌, ◌&&◌, ◌∷◌, not, false, IfOk, OnOk};
 ghost use Rattle.world_model.specs.Alive.{same_bool};
 ghost use Rattle.cert_rules.specs.Listings.{same_switches, header_fault};
 ghost use Rattle.cert_text.specs.declared.line.CertLine.TheVariants.{Certificate, Claims as ClaimsLine};
 ghost use Rattle.cert_rules.specs.declared.RejectKind.TheVariants.{WrongHeader};
 ghost use Rattle.cert_check.specs.declared.fault.CheckFault.TheVariants.{Rejected};
 ghost use Rattle.cert_check.specs.Answers.{verdict_of};
+ghost use Rattle.cert_check.specs.Checkers.{is_proof};
 ghost use Rattle.cert_check.specs.Whole.{IsReady, IsTaken, Starts, verdict_from};
 
 use crate::accepted::Accepted;
@@ -16,6 +17,7 @@ use crate::listing::{Listing, Turn};
 use cert_rules::RejectKind;
 use cert_text::CertLine;
 use constraint_set::Problem;
+use proof_check::Book;
 use rcc5_core::Position;
 use std::alloc::Global;
 use world_model::Switches;
@@ -78,15 +80,16 @@ impl Checker {
         Ok(Checker::Claims(claims))
     }
 
-    /// Takes the next line.
-    pub(crate) fn take(&mut self, line: CertLine) -> Result<Turn, Stop>
-        requires { IsReady self.old }
-        ensures step { IsTaken self.old line self.new result }
+    /// Takes the next line, which is none of the derivation.
+    pub(crate) fn take(&mut self, book: &Book, line: CertLine) -> Result<Turn, Stop>
+        requires ready { IsReady self.old }
+        requires other { is_proof line ≡ false }
+        ensures step { IsTaken book.now self.old line book.now self.new result }
         ensures ready { OnOk result (IsReady self.new) }
     {
         match self {
-            Checker::Listing(listing) => listing.take(line),
-            Checker::Claims(claims) => claims.take(line),
+            Checker::Listing(listing) => listing.take(book, line),
+            Checker::Claims(claims) => claims.take(book, line),
         }
     }
 

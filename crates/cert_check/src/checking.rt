@@ -1,62 +1,51 @@
 //! A certificate, checked from its first line to the end of its text.
 
 ghost use Rattle.std.specs.Prelude.{◌≡◌, ◌≤◌, ◌+◌, ◌^◌, ◌<◌, None, Err, IfOk, OnOk, IfNone};
-ghost use Rattle.cert_reader.specs.Bytes.{IsSpent, MayHold, ForSome, GoesOn};
-ghost use Rattle.cert_reader.specs.Reading.{Reading, reading, with_first};
+ghost use Rattle.lits_core.specs.Derivation.{first_state};
+ghost use Rattle.cert_model.specs.Clauses.{given_clauses};
+ghost use Rattle.cert_reader.specs.Bytes.{IsSpent, ForSome, GoesOn};
+ghost use Rattle.cert_reader.specs.Reading.{Reading, with_first};
 ghost use Rattle.cert_reader.specs.Reader.{MayRead};
-ghost use Rattle.cert_rules.specs.Laws.{VerdictIsSo};
-ghost use Rattle.cert_check.specs.Answers.{verdict_of, IsAnswerOf, IsNextLine, SourceGoes, Tells};
-ghost use Rattle.cert_check.specs.Whole.{IsReady, TellsFrom, AreFew, IsTurn, IsEnd, verdict_from, ended_answer, fault_at};
+ghost use Rattle.cert_check.specs.Answers.{IsAnswerOf, IsNextLine, SourceGoes, Tells};
+ghost use Rattle.cert_check.specs.Whole.{IsReady, IsTaken, TellsFrom, AreFew, IsTurn, IsEnd, verdict_from, ended_answer, fault_at};
 ghost use Rattle.cert_check.specs.declared.fault.CheckFault.TheVariants.{Text, ReadFault};
 ghost use Rattle.cert_reader.specs.declared.fault.CertTextKind.TheVariants.{TooLong};
 
 use crate::accepted::Accepted;
 use crate::checker::{Checker, wrong_header};
+use crate::derivation::take_proof;
 use crate::fault::{CheckFault, Stop};
 use crate::listing::Turn;
 use cert_reader::{CertReader, CertTextFault, CertTextKind};
-use cert_rules::{RejectKind, accepted_is_so};
+use cert_rules::RejectKind;
 use cert_text::CertLine;
 use constraint_set::Problem;
 use outer_store::Source;
+use proof_check::Book;
 use rcc5_core::Position;
 use std::alloc::Global;
 
 /// A certificate has no more bytes than these, and so no more lines.
 const LIMIT: u64 = 1 << 36;
 
-/// Whether a source's certificate is one of the problem: what it says, or the first line that has a fault of the text or
-/// is rejected.
-pub fn check<R: Source>(
+/// What the lines of a certificate come to. Nothing is derived yet.
+pub(crate) fn check_lines<R: Source>(
     alloc: Global,
     problem: &Problem,
-    source: &mut R,
-) -> Result<Accepted, CheckFault>
-    ensures answer { ForSome (MayHold (R.left source.old)) (λ bytes. IsAnswerOf problem.now (reading bytes) result) }
-    ensures so { IfOk result (λ said. VerdictIsSo problem.now (verdict_of said)) }
-    ensures spent { OnOk result (IsSpent (R.left source.new)) }
-    ensures source { SourceGoes R.faults R.steady R.quiet result source.old source.new }
-{
-    problem.facts();
-    accepted_is_so::<CertTextKind>();
-    let mut reader = CertReader::new(alloc)?;
-    check_lines(alloc, problem, &mut reader, source)
-}
-
-fn check_lines<R: Source>(
-    alloc: Global,
-    problem: &Problem,
+    book: &mut Book,
     reader: &mut CertReader,
     source: &mut R,
 ) -> Result<Accepted, CheckFault>
+    requires start { book.old ≡ first_state (given_clauses problem.now) }
     requires fresh { reader.old.refusal ≡ None }
     requires few { AreFew 0 (MayRead reader.old (R.left source.old)) }
     ensures answer { ForSome (MayRead reader.old (R.left source.old)) (λ read. IsAnswerOf problem.now read result) }
     ensures spent { OnOk result (IsSpent (R.left source.new)) }
+    ensures given { book.new.given ≡ book.old.given }
     ensures source { SourceGoes R.faults R.steady R.quiet result source.old source.new }
 {
     match next_line(reader, source) {
-        Ok(Some(first)) => check_behind(alloc, problem, first, reader, source),
+        Ok(Some(first)) => check_behind(alloc, problem, first, book, reader, source),
         Ok(None) => Err(wrong_header()),
         Err(fault) => Err(fault),
     }
@@ -67,17 +56,20 @@ fn check_behind<R: Source>(
     alloc: Global,
     problem: &Problem,
     first: CertLine,
+    book: &mut Book,
     reader: &mut CertReader,
     source: &mut R,
 ) -> Result<Accepted, CheckFault>
+    requires start { book.old ≡ first_state (given_clauses problem.now) }
     requires fresh { reader.old.refusal ≡ None }
     requires few { AreFew 1 (MayRead reader.old (R.left source.old)) }
     ensures answer { ForSome (MayRead reader.old (R.left source.old)) (λ read. IsAnswerOf problem.now (with_first first read) result) }
     ensures spent { OnOk result (IsSpent (R.left source.new)) }
+    ensures given { book.new.given ≡ book.old.given }
     ensures source { SourceGoes R.faults R.steady R.quiet result source.old source.new }
 {
     match Checker::new(alloc, problem, first) {
-        Ok(checker) => check_rest(checker, reader, source),
+        Ok(checker) => check_rest(checker, book, reader, source),
         Err(fault) => Err(fault),
     }
 }
@@ -85,19 +77,21 @@ fn check_behind<R: Source>(
 /// Takes the lines behind the first.
 fn check_rest<R: Source>(
     checker: Checker,
+    book: &mut Book,
     reader: &mut CertReader,
     source: &mut R,
 ) -> Result<Accepted, CheckFault>
     requires ready { IsReady checker }
     requires fresh { reader.old.refusal ≡ None }
     requires few { AreFew 1 (MayRead reader.old (R.left source.old)) }
-    ensures answer { TellsFrom checker 1 (MayRead reader.old (R.left source.old)) result }
+    ensures answer { TellsFrom book.old checker 1 (MayRead reader.old (R.left source.old)) result }
     ensures spent { OnOk result (IsSpent (R.left source.new)) }
+    ensures given { book.new.given ≡ book.old.given }
     ensures source { SourceGoes R.faults R.steady R.quiet result source.old source.new }
 {
     let mut checker = checker;
     for read in 1..LIMIT + 1 {
-        match take_next(&mut checker, read, reader, source) {
+        match take_next(&mut checker, book, read, reader, source) {
             Ok(Turn::Further) => {}
             Ok(Turn::Ended(to)) => return finish(checker, to, reader, source),
             Err(fault) => return Err(fault),
@@ -109,6 +103,7 @@ fn check_rest<R: Source>(
 /// Reads a line, where so many were read, and takes it.
 fn take_next<R: Source>(
     checker: &mut Checker,
+    book: &mut Book,
     read: u64,
     reader: &mut CertReader,
     source: &mut R,
@@ -116,14 +111,15 @@ fn take_next<R: Source>(
     requires ready { IsReady checker.old }
     requires read { read ≤ 2 ^ 36 }
     requires fresh { reader.old.refusal ≡ None }
-    ensures turn { GoesOn (MayRead reader.old (R.left source.old)) (MayRead reader.new (R.left source.new)) (λ told left. IsTurn checker.old read told checker.new left result) }
+    ensures turn { GoesOn (MayRead reader.old (R.left source.old)) (MayRead reader.new (R.left source.new)) (λ told left. IsTurn book.old checker.old read told book.new checker.new left result) }
     ensures ready { OnOk result (IsReady checker.new) }
     ensures fresh { OnOk result (reader.new.refusal ≡ None) }
     ensures few { OnOk result (AreFew read (MayRead reader.old (R.left source.old)) → AreFew (read + 1) (MayRead reader.new (R.left source.new))) }
+    ensures given { book.new.given ≡ book.old.given }
     ensures source { SourceGoes R.faults R.steady R.quiet result source.old source.new }
 {
     match next_line(reader, source) {
-        Ok(Some(line)) => take(checker, read, line),
+        Ok(Some(line)) => take(checker, book, read, line),
         Ok(None) => Err(CheckFault::Rejected {
             line: read,
             kind: RejectKind::MissingBranch,
@@ -133,16 +129,35 @@ fn take_next<R: Source>(
 }
 
 /// Takes a line, where so many were taken.
-fn take(checker: &mut Checker, read: u64, line: CertLine) -> Result<Turn, CheckFault>
+fn take(
+    checker: &mut Checker,
+    book: &mut Book,
+    read: u64,
+    line: CertLine,
+) -> Result<Turn, CheckFault>
     requires ready { IsReady checker.old }
     requires read { read ≤ 2 ^ 36 }
-    ensures turn { (left : Reading) → IsTurn checker.old read (with_first line left) checker.new left result }
+    ensures turn { (left : Reading) → IsTurn book.old checker.old read (with_first line left) book.new checker.new left result }
     ensures ready { OnOk result (IsReady checker.new) }
+    ensures given { book.new.given ≡ book.old.given }
     ensures unread { result ≡ Err ReadFault → ⊥ }
 {
-    match checker.take(line) {
+    match take_by_kind(checker, book, line) {
         Ok(turn) => Ok(turn),
         Err(stop) => Err(fault_at(read + 1, stop)),
+    }
+}
+
+/// Takes a line, by whether it is one of the derivation.
+fn take_by_kind(checker: &mut Checker, book: &mut Book, line: CertLine) -> Result<Turn, Stop>
+    requires { IsReady checker.old }
+    ensures step { IsTaken book.old checker.old line book.new checker.new result }
+    ensures ready { OnOk result (IsReady checker.new) }
+    ensures given { book.new.given ≡ book.old.given }
+{
+    match line {
+        CertLine::Proof(line) => take_proof(book, &line),
+        line => checker.take(book, line),
     }
 }
 

@@ -2,27 +2,29 @@
 
 ghost use Rattle.std.specs.Prelude.{◌≡◌, ◌<◌, [], IfOk, OnOk, OnErr, None, Some, true, false, Contains, IsTrue};
 ghost use Rattle.rcc5_core.specs.RelationSet.{only};
+ghost use Rattle.lits_core.specs.Derivation.{State, first_state};
 ghost use Rattle.world_model.specs.Problem.{Problem, pair_count, narrowed};
 ghost use Rattle.world_model.specs.Family.{meets};
 ghost use Rattle.world_model.specs.Node.{pair_at};
+ghost use Rattle.cert_model.specs.Clauses.{given_clauses};
 ghost use Rattle.set_family.specs.Sets.{family_from};
 ghost use Rattle.cert_rules.specs.Trees.{fault_or, family_fault};
 ghost use Rattle.cert_rules.specs.ClaimLists.{claim_start, claim_role, ForNode, holds_fault, subject_fault, subject_problem, subject_tree};
-ghost use Rattle.cert_text.specs.declared.line.CertLine.TheVariants.{Proof, Holds as HoldsLine, Fails as FailsLine, End};
+ghost use Rattle.cert_text.specs.declared.line.CertLine.TheVariants.{Holds as HoldsLine, Fails as FailsLine, End};
 ghost use Rattle.cert_check.specs.declared.accepted.Accepted.TheVariants.{Claims as AcceptedClaims};
 ghost use Rattle.cert_tree.specs.Walks.{IsWalk, at_of};
+ghost use Rattle.cert_check.specs.Checkers.{is_proof};
 ghost use Rattle.cert_check.specs.Claiming.{AreClaims, IsOpen, IsBlock, AreMet, claim_stand, block_of, with_block, is_node, IsClaimStep};
 
 use crate::accepted::{Accepted, Claim, ClaimList};
-use crate::fault::{Stop, stop_at};
+use crate::fault::Stop;
 use crate::known::Known;
-use crate::listing::{Turn, given_book};
+use crate::listing::Turn;
 use crate::open_tree::OpenTree;
 use cert_rules::RejectKind;
 use cert_text::{CertLine, RawFamily, Subject};
 use cert_tree::{Branching, Walk, family_fault, is_branch};
 use constraint_set::Problem;
-use lits_core::Line;
 use proof_check::Book;
 use rcc5_core::{Rel, RelSet};
 use set_family::Family;
@@ -32,7 +34,6 @@ use std::alloc::{AllocError, Global};
 pub(crate) struct Claims {
     alloc: Global,
     pub(crate) problem: Problem,
-    pub(crate) book: Book,
     pub(crate) block: Option<OpenTree>,
     pub(crate) claims: Vec<Claim>,
     pub(crate) known: Known,
@@ -44,7 +45,6 @@ impl Drop for Claims {
         let Claims {
             alloc: _,
             problem: _,
-            book: _,
             block: _,
             claims: _,
             known: _,
@@ -57,29 +57,27 @@ impl Claims {
     pub(crate) fn new(alloc: Global, problem: &Problem) -> Result<Claims, AllocError>
         ensures problem { IfOk result (λ claims. claims.problem ≡ problem.now) }
         ensures claims { IfOk result AreClaims }
-        ensures start { IfOk result (λ claims. claim_stand claims ≡ claim_start problem.now) }
+        ensures start { IfOk result (λ claims. claim_stand (first_state (given_clauses problem.now)) claims ≡ claim_start problem.now) }
     {
-        let own = problem.copy()?;
-        let book = given_book(alloc, problem)?;
         Ok(Claims {
             alloc,
-            problem: own,
-            book,
+            problem: problem.copy()?,
             block: None,
             claims: Vec::new(alloc),
             known: Known::new(alloc),
         })
     }
 
-    /// Takes the next line.
-    pub(crate) fn take(&mut self, line: CertLine) -> Result<Turn, Stop>
-        requires { AreClaims self.old }
-        ensures step { IsClaimStep self.old.problem (claim_stand self.old) line (claim_stand self.new) result }
+    /// Takes the next line, which is none of the derivation.
+    pub(crate) fn take(&mut self, book: &Book, line: CertLine) -> Result<Turn, Stop>
+        requires claims { AreClaims self.old }
+        requires other { is_proof line ≡ false }
+        ensures step { IsClaimStep self.old.problem (claim_stand book.now self.old) line (claim_stand book.now self.new) result }
         ensures claims { OnOk result (AreClaims self.new) }
         ensures problem { self.new.problem ≡ self.old.problem }
     {
         match self.block.take() {
-            Some(block) => self.take_inside(block, line),
+            Some(block) => self.take_inside(book, block, line),
             None => self.take_outside(line),
         }
     }
@@ -91,7 +89,6 @@ impl Claims {
         let Claims {
             alloc: _,
             problem: _,
-            book: _,
             block: _,
             claims,
             known: _,
@@ -99,26 +96,16 @@ impl Claims {
         Accepted::Claims(ClaimList::new(claims))
     }
 
-    fn take_proof(&mut self, line: &Line) -> Result<Turn, Stop>
-        ensures step { IsClaimStep self.old.problem (claim_stand self.old) (Proof line.now) (claim_stand self.new) result }
-        ensures same { self.new ≡ record self.old { book = self.new.book } }
-    {
-        match self.book.add_line(line) {
-            Ok(()) => Ok(Turn::Further),
-            Err(fault) => Err(stop_at(fault)),
-        }
-    }
-
-    /// Takes a line where no tree is block.
+    /// Takes a line where no tree is open.
     fn take_outside(&mut self, line: CertLine) -> Result<Turn, Stop>
         requires claims { AreClaims self.old }
         requires closed { self.old.block ≡ None }
-        ensures step { IsClaimStep self.old.problem (claim_stand self.old) line (claim_stand self.new) result }
+        requires other { is_proof line ≡ false }
+        ensures step { (proof : State) → IsClaimStep self.old.problem (claim_stand proof self.old) line (claim_stand proof self.new) result }
         ensures claims { OnOk result (AreClaims self.new) }
         ensures problem { self.new.problem ≡ self.old.problem }
     {
         match line {
-            CertLine::Proof(line) => self.take_proof(&line),
             CertLine::Holds { subject, family } => self.take_holding(subject, family),
             CertLine::Fails { subject } => self.take_failing(subject),
             CertLine::Done => Ok(Turn::Ended(None)),
@@ -129,7 +116,7 @@ impl Claims {
     fn take_holding(&mut self, subject: Subject, family: RawFamily) -> Result<Turn, Stop>
         requires known { AreMet self.old.problem self.old.known }
         requires closed { self.old.block ≡ None }
-        ensures step { IsClaimStep self.old.problem (claim_stand self.old) (HoldsLine subject family) (claim_stand self.new) result }
+        ensures step { (proof : State) → IsClaimStep self.old.problem (claim_stand proof self.old) (HoldsLine subject family) (claim_stand proof self.new) result }
         ensures known { AreMet self.old.problem self.new.known }
         ensures same { self.new ≡ record self.old { known = self.new.known; claims = self.new.claims } }
     {
@@ -231,7 +218,7 @@ impl Claims {
 
     fn take_failing(&mut self, subject: Subject) -> Result<Turn, Stop>
         requires { self.old.block ≡ None }
-        ensures step { IsClaimStep self.old.problem (claim_stand self.old) (FailsLine subject) (claim_stand self.new) result }
+        ensures step { (proof : State) → IsClaimStep self.old.problem (claim_stand proof self.old) (FailsLine subject) (claim_stand proof self.new) result }
         ensures block { OnOk result (IsOpen self.new.problem self.new.block) }
         ensures same { self.new ≡ record self.old { block = self.new.block } }
     {
@@ -283,29 +270,30 @@ impl Claims {
     }
 
     /// Takes a line of a tree.
-    fn take_inside(&mut self, block: OpenTree, line: CertLine) -> Result<Turn, Stop>
+    fn take_inside(&mut self, book: &Book, block: OpenTree, line: CertLine) -> Result<Turn, Stop>
         requires closed { self.old.block ≡ None }
         requires block { IsBlock self.old.problem block }
-        ensures step { IsClaimStep self.old.problem (with_block self.old block) line (claim_stand self.new) result }
+        requires other { is_proof line ≡ false }
+        ensures step { IsClaimStep self.old.problem (with_block book.now self.old block) line (claim_stand book.now self.new) result }
         ensures block { OnOk result (IsOpen self.new.problem self.new.block) }
-        ensures same { self.new ≡ record self.old { book = self.new.book; block = self.new.block; claims = self.new.claims } }
+        ensures same { self.new ≡ record self.old { block = self.new.block; claims = self.new.claims } }
     {
         if is_node(&line) {
-            return self.take_node(block, line);
+            return self.take_node(book, block, line);
         }
         self.take_other(block, line)
     }
 
-    fn take_node(&mut self, block: OpenTree, line: CertLine) -> Result<Turn, Stop>
+    fn take_node(&mut self, book: &Book, block: OpenTree, line: CertLine) -> Result<Turn, Stop>
         requires block { IsBlock self.old.problem block }
         requires node { claim_role line ≡ ForNode }
-        ensures step { IsClaimStep self.old.problem (with_block self.old block) line (claim_stand self.new) result }
+        ensures step { IsClaimStep self.old.problem (with_block book.now self.old block) line (claim_stand book.now self.new) result }
         ensures block { OnOk result (IsOpen self.new.problem self.new.block) }
         ensures same { self.new ≡ record self.old { block = self.new.block } }
     {
         let branches = is_branch(&line);
         let mut block = self.for_line(block, branches)?;
-        if let Some(kind) = block.walk.tree_fault(&self.book, line) {
+        if let Some(kind) = block.walk.tree_fault(book, line) {
             return Err(Stop::Rejected(kind));
         }
         block.walk.advance(branches)?;
@@ -329,16 +317,13 @@ impl Claims {
     fn take_other(&mut self, block: OpenTree, line: CertLine) -> Result<Turn, Stop>
         requires closed { self.old.block ≡ None }
         requires block { IsBlock self.old.problem block }
+        requires other { is_proof line ≡ false }
         requires node { is_node line ≡ false }
-        ensures step { IsClaimStep self.old.problem (with_block self.old block) line (claim_stand self.new) result }
+        ensures step { (proof : State) → IsClaimStep self.old.problem (with_block proof self.old block) line (claim_stand proof self.new) result }
         ensures block { OnOk result (IsOpen self.new.problem self.new.block) }
-        ensures same { self.new ≡ record self.old { book = self.new.book; block = self.new.block; claims = self.new.claims } }
+        ensures same { self.new ≡ record self.old { claims = self.new.claims } }
     {
         match line {
-            CertLine::Proof(line) => {
-                self.block = Some(block);
-                self.take_proof(&line)
-            }
             CertLine::End(None) => self.take_end(block),
             CertLine::Quit => Ok(Turn::Further),
             _ => Err(block.stray()),
@@ -347,7 +332,7 @@ impl Claims {
 
     fn take_end(&mut self, block: OpenTree) -> Result<Turn, Stop>
         requires { self.old.block ≡ None }
-        ensures step { IsClaimStep self.old.problem (with_block self.old block) (End None) (claim_stand self.new) result }
+        ensures step { (proof : State) → IsClaimStep self.old.problem (with_block proof self.old block) (End None) (claim_stand proof self.new) result }
         ensures same { self.new ≡ record self.old { claims = self.new.claims } }
     {
         if block.walk.expected {

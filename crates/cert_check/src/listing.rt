@@ -1,22 +1,19 @@
 //! A listing, line by line.
 
-ghost use Rattle.std.specs.Prelude.{◌≡◌, ◌++◌, ◌∷◌, [], IfOk, OnOk, None, Some};
-ghost use Rattle.lits_core.specs.declared.Line.{Line};
-ghost use Rattle.lits_core.specs.Derivation.{first_state};
+ghost use Rattle.std.specs.Prelude.{◌≡◌, ◌++◌, ◌∷◌, [], false, IfOk, OnOk, None, Some};
+ghost use Rattle.lits_core.specs.Derivation.{State, first_state};
 ghost use Rattle.cert_model.specs.Clauses.{given_clauses};
 ghost use Rattle.cert_rules.specs.Listings.{listing_tree, start, with_world, role_of, ForTree};
-ghost use Rattle.cert_text.specs.declared.line.CertLine.TheVariants.{Proof, End};
+ghost use Rattle.cert_text.specs.declared.line.CertLine.TheVariants.{End};
 ghost use Rattle.cert_check.specs.declared.accepted.Accepted.TheVariants.{Listing as AcceptedListing};
 ghost use Rattle.cert_tree.specs.Walks.{IsWalk, at_of};
-ghost use Rattle.cert_check.specs.Checkers.{stand_of, IsStep};
+ghost use Rattle.cert_check.specs.Checkers.{is_proof, stand_of, IsStep};
 
 use crate::accepted::{Accepted, Worlds};
-use crate::fault::{Stop, stop_at};
+use crate::fault::Stop;
 use cert_text::CertLine;
 use cert_tree::{Branching, Walk, is_branch};
 use constraint_set::Problem;
-use lits_core::Line;
-use point_encode::given_clauses;
 use proof_check::Book;
 use rcc5_core::Position;
 use std::alloc::{AllocError, Global};
@@ -33,7 +30,6 @@ pub(crate) enum Turn {
 /// The lines of a listing that were taken so far.
 pub(crate) struct Listing {
     alloc: Global,
-    pub(crate) book: Book,
     pub(crate) walk: Walk,
     pub(crate) worlds: Vec<Position>,
 }
@@ -43,7 +39,6 @@ impl Drop for Listing {
     fn drop(self) {
         let Listing {
             alloc: _,
-            book: _,
             walk: _,
             worlds: _,
         } = self;
@@ -59,28 +54,27 @@ impl Listing {
     ) -> Result<Listing, AllocError>
         ensures walk { IfOk result (λ listing. IsWalk listing.walk) }
         ensures tree { IfOk result (λ listing. listing.walk.tree ≡ listing_tree problem.now from) }
-        ensures start { IfOk result (λ listing. stand_of listing ≡ start problem.now) }
+        ensures start { IfOk result (λ listing. stand_of (first_state (given_clauses problem.now)) listing ≡ start problem.now) }
     {
         let tree = Branching::new(alloc, problem.copy()?, true, from)?;
         Ok(Listing {
             alloc,
-            book: given_book(alloc, problem)?,
             walk: Walk::new(alloc, tree),
             worlds: Vec::new(alloc),
         })
     }
 
-    /// Takes the next line.
-    pub(crate) fn take(&mut self, line: CertLine) -> Result<Turn, Stop>
-        requires { IsWalk self.old.walk }
-        ensures step { IsStep self.old.walk.tree (stand_of self.old) line (stand_of self.new) result }
+    /// Takes the next line, which is none of the derivation.
+    pub(crate) fn take(&mut self, book: &Book, line: CertLine) -> Result<Turn, Stop>
+        requires walk { IsWalk self.old.walk }
+        requires other { is_proof line ≡ false }
+        ensures step { IsStep self.old.walk.tree (stand_of book.now self.old) line (stand_of book.now self.new) result }
         ensures walk { OnOk result (IsWalk self.new.walk) }
         ensures tree { OnOk result (self.new.walk.tree ≡ self.old.walk.tree) }
     {
         match line {
-            CertLine::Proof(line) => self.take_proof(&line),
             CertLine::End(to) => self.take_end(to),
-            line => self.take_node(line),
+            line => self.take_node(book, line),
         }
     }
 
@@ -90,7 +84,6 @@ impl Listing {
     {
         let Listing {
             alloc: _,
-            book: _,
             walk,
             worlds,
         } = self;
@@ -102,20 +95,9 @@ impl Listing {
         }
     }
 
-    fn take_proof(&mut self, line: &Line) -> Result<Turn, Stop>
-        requires { IsWalk self.old.walk }
-        ensures step { IsStep self.old.walk.tree (stand_of self.old) (Proof line.now) (stand_of self.new) result }
-        ensures walk { self.new.walk ≡ self.old.walk }
-    {
-        match self.book.add_line(line) {
-            Ok(()) => Ok(Turn::Further),
-            Err(fault) => Err(stop_at(fault)),
-        }
-    }
-
     fn take_end(&mut self, to: Option<Position>) -> Result<Turn, Stop>
         requires { IsWalk self.old.walk }
-        ensures step { IsStep self.old.walk.tree (stand_of self.old) (End to) (stand_of self.new) result }
+        ensures step { (proof : State) → IsStep self.old.walk.tree (stand_of proof self.old) (End to) (stand_of proof self.new) result }
         ensures walk { self.new.walk ≡ self.old.walk }
     {
         match self.walk.end_fault(&to) {
@@ -124,16 +106,16 @@ impl Listing {
         }
     }
 
-    fn take_node(&mut self, line: CertLine) -> Result<Turn, Stop>
+    fn take_node(&mut self, book: &Book, line: CertLine) -> Result<Turn, Stop>
         requires walk { IsWalk self.old.walk }
         requires role { role_of line ≡ ForTree }
-        ensures step { IsStep self.old.walk.tree (stand_of self.old) line (stand_of self.new) result }
+        ensures step { IsStep self.old.walk.tree (stand_of book.now self.old) line (stand_of book.now self.new) result }
         ensures walk { OnOk result (IsWalk self.new.walk) }
         ensures tree { OnOk result (self.new.walk.tree ≡ self.old.walk.tree) }
     {
         let branches = is_branch(&line);
         let is_world = matches!(&line, CertLine::World { .. });
-        if let Some(kind) = self.walk.tree_fault(&self.book, line) {
+        if let Some(kind) = self.walk.tree_fault(book, line) {
             return Err(Stop::Rejected(kind));
         }
         if is_world {
@@ -142,11 +124,4 @@ impl Listing {
         self.walk.advance(branches)?;
         Ok(Turn::Further)
     }
-}
-
-/// A derivation without a line, over the clauses that a problem gives.
-pub(crate) fn given_book(alloc: Global, problem: &Problem) -> Result<Book, AllocError>
-    ensures { IfOk result (λ book. book ≡ first_state (given_clauses problem.now)) }
-{
-    Book::new(alloc, given_clauses(alloc, problem)?)
 }

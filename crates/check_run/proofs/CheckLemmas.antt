@@ -176,11 +176,6 @@ module _ {S : Type 0} (state : S → StoreState) where
       (not_accepted_by p cert (reader_name a).now (reader_name b).now left f s (state store) (state (reader_store a).now) (state (reader_store b).now) named
       (ap (λ (name : Bor (List ℕ)). name.now) same) (ap state is_store) ends holds tells cause quiet)
 
--- a fact of a fault, where the answer is that fault
-pub if_err : {X E : Type 0} (r : Result X E) (P : E → Type 0) (fault : E) → P fault → r ≡ Err fault → IfErr r P
-if_err (Ok value) P fault fact e = tt
-if_err (Err other) P fault fact e = subst P (sym (err_same other fault (Err other) refl e)) fact
-
 pub found_ok : (r : Result Accepted Status) (input cert : List ℕ) (switches : Switches) (p : Problem) (one mid : Contents) → mid ≡ one
     → ComesOf one input (problem_in switches) (Ok p) → IfOk r (λ a. IsAccepted p (mid cert) (verdict_of a)) → IfOk r (λ a. IsVerdictOf input cert switches one (verdict_of a))
 found_ok (Ok a) input cert switches p one mid same comes accepted = verdict_found input cert switches p (verdict_of a) one mid same comes accepted

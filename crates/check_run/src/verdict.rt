@@ -11,6 +11,7 @@ use cert_check::{Accepted, Claim};
 use cert_text::{put_position, put_subject};
 use outer_store::{Sink, StoreFault};
 use rcc5_core::Position;
+use run_ends::put_worlds;
 use std::alloc::{AllocError, Global};
 
 // The line that says where a listing begins.
@@ -42,15 +43,6 @@ fn to_line(alloc: Global, to: &Option<Position>) -> Result<Vec<u8>, AllocError>
     Ok(line)
 }
 
-// The line of a world.
-fn world_line(alloc: Global, world: &Position) -> Result<Vec<u8>, AllocError>
-    ensures { IfOk result (λ line. line.items ≡ world_line world.now) }
-{
-    let mut line: Vec<u8> = world.rels().iter().map(|rel| rel.letter()).collect(alloc)?;
-    line.push(b'\n')?;
-    Ok(line)
-}
-
 fn claim_word(holds: bool) -> &'static str
     ensures { result.now ≡ claim_word holds }
 {
@@ -71,16 +63,6 @@ fn accepted_line(alloc: Global, count: usize) -> Result<String, AllocError>
     ensures { IfOk result (λ line. string_bytes line ≡ accepted_line count) }
 {
     format!(in alloc; "accepted {count}\n")
-}
-
-fn put_worlds<W: Sink>(alloc: Global, out: &mut W, worlds: &[Position]) -> Result<(), StoreFault>
-    ensures { LeavesPiece result (flat_map world_line worlds.now) (W.state out.old) (W.state out.new) }
-{
-    'worlds: for world in worlds {
-        let line = world_line(alloc, world)?;
-        out.put(&line)?;
-    }
-    Ok(())
 }
 
 fn put_claims<W: Sink>(alloc: Global, out: &mut W, claims: &[Claim]) -> Result<(), StoreFault>

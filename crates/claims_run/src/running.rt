@@ -8,7 +8,7 @@ ghost use Rattle.claims_run.specs.Answering.{has_too_many, answer_status, IsAnsw
 use crate::certified::settled;
 use crate::putting::put_answer;
 use crate::question::{Answer, Question};
-use command_line::Word;
+use command_line::{ClaimsArgs, Word};
 use constraint_set::Problem;
 use outer_store::{Sink, Store, StoreFault};
 use run_ends::{Status, problem_under, put_end};
@@ -57,9 +57,8 @@ fn carry_out<S: Store, W: Sink>(
     Ok(status_of(&answer))
 }
 
-/// Answers a question about the problem under a name, writes the certificate of its claims where there is a name for one, puts the
-/// answer, and answers how the run ended.
-pub fn run_claims<S: Store, W: Sink>(
+// Answers a question about the problem under a name.
+fn run_under<S: Store, W: Sink>(
     alloc: Global,
     store: &mut S,
     out: &mut W,
@@ -82,4 +81,26 @@ pub fn run_claims<S: Store, W: Sink>(
         Err(StoreFault::Failed) => Status::WriteFault,
         Err(StoreFault::NoMemory) => put_end(alloc, out, Status::NoMemory),
     }
+}
+
+/// Answers a question about the problem under a name, writes the certificate of its claims where there is a name for one, puts the
+/// answer, and answers how the run ended.
+pub fn run_claims<S: Store, W: Sink>(
+    alloc: Global,
+    store: &mut S,
+    out: &mut W,
+    asked: Question,
+    args: &ClaimsArgs,
+) -> Status
+    ensures { IsRunOf (claims_names args.now.input args.now.cert) (IsClaimsAnswer asked args.now.input args.now.cert args.now.switches) result (S.state store.old) (S.state store.new) (W.state out.old) (W.state out.new) }
+{
+    run_under(
+        alloc,
+        store,
+        out,
+        asked,
+        args.input.text(),
+        &args.cert,
+        args.switches,
+    )
 }

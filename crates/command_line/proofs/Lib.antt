@@ -3,4 +3,5 @@ pub mod NameLemmas
 pub mod ValueLemmas
 pub mod MadeLemmas
 pub mod KindLemmas
+pub mod PartsLemmas
 pub mod RowLemmas

@@ -5,15 +5,16 @@ use Rattle.std.specs.List.{list_any}
 use Rattle.command_line.specs.declared.table.Command.{Command}
 use Rattle.command_line.specs.declared.table.Command.TheVariants as command
 use Rattle.command_line.specs.declared.table.Key.{Key}
-use Rattle.command_line.specs.declared.table.Key.TheVariants.{In, Cert, Token, Resume, Nodes, Worlds, Kinds, Seed, Size}
+use Rattle.command_line.specs.declared.table.Key.TheVariants.{In, Cert, Token, Resume, Nodes, Worlds, Kinds, Seed, Size, Count, Until}
 use Rattle.command_line.specs.declared.Operand.{Operand}
 use Rattle.command_line.specs.declared.UsageKind.{UsageKind}
 use Rattle.command_line.specs.declared.request.Request.{Request}
 use Rattle.command_line.specs.Table.{row_of, command_named, same_key}
-use Rattle.command_line.specs.Words.{number_of, operands_of, is_given, value_of, limit_of, is_lacking, lacks_token, has_same_name, request_for, request_of}
+use Rattle.command_line.specs.Words.{number_of, operands_of, is_given, value_of, limit_of, is_lacking, lacks_token, has_same_name, gives_numbered, request_for, request_of}
 use Rattle.command_line.specs.Requests.{AreApart, IsMade}
-use Rattle.command_line.proofs.NameLemmas.{keys_apart}
-use Rattle.command_line.proofs.ValueLemmas.{need_ok, and_ok, fail_ok, AreValued, operands_valued, kinds_valued, size_valued}
+use Rattle.command_line.proofs.NameLemmas.{or_false, keys_apart}
+use Rattle.command_line.proofs.PartsLemmas.{parts_apart}
+use Rattle.command_line.proofs.ValueLemmas.{need_ok, and_ok, fail_ok, AreValued, operands_valued, kinds_valued, size_valued, count_valued}
 
 -- what is found is there, and what is there is found
 find_none : (f : Operand → Bool) (operands : List Operand) → find f operands ≡ None → list_any f operands ≡ false
@@ -73,25 +74,42 @@ pub needs_second : (operands : List Operand) (first key : Key) (keys : List Key)
 needs_second operands first key keys e =
     needs_first operands key keys (first_needed (is_given operands first) (list_any (λ k. not (is_given operands k)) (key ∷ keys)) e).1
 
+second_given : (operands : List Operand) (first key : Key) (keys : List Key) → list_any (λ k. not (is_given operands k)) (first ∷ key ∷ keys) ≡ false → is_given operands key ≡ true
+second_given operands first key keys e =
+    let rest = first_needed (is_given operands first) (list_any (λ k. not (is_given operands k)) (key ∷ keys)) e in
+    (first_needed (is_given operands key) (list_any (λ k. not (is_given operands k)) keys) rest.1).0
+
 -- the value of a key that is given
 apart_given : (one other : Option (List ℕ)) → (one ≡ None → ⊥) → AreApart one other → AreApart (Some (unwrap_or one [])) other
 apart_given None other there apart = absurd (there refl)
 apart_given (Some name) other there apart = apart
 
 made_for : (known : List (List ℕ)) (c : Command) (operands : List Operand) → AreValued known operands → is_lacking (row_of c) operands ≡ false → lacks_token operands ≡ false
-    → has_same_name operands ≡ false → IsMade known (request_for c operands)
-made_for known command.Align operands valued lacking lacks same = record {
+    → has_same_name operands ≡ false → gives_numbered operands ≡ false → IsMade known (request_for c operands)
+made_for known command.Align operands valued lacking lacks same apart = record {
   apart = apart_given (value_of operands In) (value_of operands Resume) (needs_first operands In [] lacking) (keys_apart operands In Resume refl refl refl same);
   limited = limited operands (value_of operands Token) refl lacks;
   two = keys_apart operands Cert Token refl refl refl same;
 }
-made_for known command.Check operands valued lacking lacks same = tt
-made_for known command.Mir operands valued lacking lacks same = tt
-made_for known command.Conflict operands valued lacking lacks same = tt
-made_for known command.Lattice operands valued lacking lacks same = tt
-made_for known command.Explain operands valued lacking lacks same = tt
-made_for known command.Report operands valued lacking lacks same = kinds_valued known operands valued (needs_second operands In Kinds [] lacking)
-made_for known command.Trial operands valued lacking lacks same =
+made_for known command.Check operands valued lacking lacks same apart = tt
+made_for known command.Mir operands valued lacking lacks same apart = tt
+made_for known command.Conflict operands valued lacking lacks same apart = tt
+made_for known command.Lattice operands valued lacking lacks same apart = tt
+made_for known command.Explain operands valued lacking lacks same apart = tt
+made_for known command.Report operands valued lacking lacks same apart = kinds_valued known operands valued (needs_second operands In Kinds [] lacking)
+made_for known command.Parts operands valued lacking lacks same apart =
+    let counted = count_valued known operands valued (needs_second operands In Count (Token ∷ []) lacking) in
+    let given = second_given operands In Count (Token ∷ []) lacking in
+    record { least = counted.0; most = counted.1; apart = λ k. parts_apart operands k given apart }
+made_for known command.Part operands valued lacking lacks same apart =
+    let there = needs_first operands In (Cert ∷ []) lacking in
+    record {
+      resumed = apart_given (value_of operands In) (value_of operands Resume) there (keys_apart operands In Resume refl refl refl same);
+      ended = apart_given (value_of operands In) (value_of operands Until) there (keys_apart operands In Until refl refl refl same);
+      two = keys_apart operands Resume Until refl refl refl same;
+    }
+made_for known command.Join operands valued lacking lacks same apart = tt
+made_for known command.Trial operands valued lacking lacks same apart =
     let sized = size_valued known operands valued (needs_second operands Seed Size [] lacking) in
     record { even = sized.0; least = sized.1; most = sized.2 }
 
@@ -107,8 +125,9 @@ made known (word ∷ words) r e =
     let valued = operands_valued known (row_of named.0) [] words operands.0 tt operands.1 in
     let lacking = fail_ok (is_lacking (row_of named.0) operands.0) _ _ r operands.2 in
     let lacks = fail_ok (lacks_token operands.0) _ _ r lacking.1 in
-    let same = fail_ok (has_same_name operands.0) _ _ r lacks.1 in
-    subst (IsMade known) (ok_same (request_for named.0 operands.0) r (Ok (request_for named.0 operands.0)) (Ok r) refl refl same.1) (made_for known named.0 operands.0 valued lacking.0 lacks.0 same.0)
+    let same = fail_ok (has_same_name operands.0 || gives_numbered operands.0) _ _ r lacks.1 in
+    let apart = or_false (has_same_name operands.0) (gives_numbered operands.0) same.0 in
+    subst (IsMade known) (ok_same (request_for named.0 operands.0) r (Ok (request_for named.0 operands.0)) (Ok r) refl refl same.1) (made_for known named.0 operands.0 valued lacking.0 lacks.0 apart.0 apart.1)
 
 -- so of what is answered
 pub made_if : {E : Type 0} (known : List (List ℕ)) (words : List (List ℕ)) (answer : Result Request E) → IfOk answer (λ r. request_of known words ≡ Ok r) → IfOk answer (IsMade known)

@@ -7,7 +7,7 @@ use Rattle.std.proofs.lemmas.List.{drop_more}
 use Rattle.std.proofs.lemmas.List.Folds.{list_any-append}
 use Rattle.std.proofs.lemmas.Slice.Eq.{bytes_eq-Decides}
 use Rattle.command_line.specs.declared.table.Key.{Key}
-use Rattle.command_line.specs.declared.table.Key.TheVariants.{In, Cert, Nonempty, Sibling, Coverage, Nodes, Worlds, Token, Resume, Kinds, Seed, Size, Left, Right, Set}
+use Rattle.command_line.specs.declared.table.Key.TheVariants.{In, Cert, Nonempty, Sibling, Coverage, Nodes, Worlds, Token, Resume, Kinds, Seed, Size, Left, Right, Set, Count, Until, Certs}
 use Rattle.command_line.specs.declared.table.KeyKind.TheVariants.{FileName}
 use Rattle.command_line.specs.declared.Operand.{Operand}
 use Rattle.command_line.specs.Table.{key_name, kind_of, same_key}
@@ -21,7 +21,7 @@ names_at operands i operand h at = ap has_same_name (drop_more operands i operan
 
 -- all keys
 abbrev all_keys : List Key
-all_keys = In ∷ Cert ∷ Nonempty ∷ Sibling ∷ Coverage ∷ Nodes ∷ Worlds ∷ Token ∷ Resume ∷ Kinds ∷ Seed ∷ Size ∷ Left ∷ Right ∷ Set ∷ []
+all_keys = In ∷ Cert ∷ Nonempty ∷ Sibling ∷ Coverage ∷ Nodes ∷ Worlds ∷ Token ∷ Resume ∷ Kinds ∷ Seed ∷ Size ∷ Left ∷ Right ∷ Set ∷ Count ∷ Until ∷ Certs ∷ []
 
 -- each is found by how it is written
 key_again : (key : Key) → find (λ other. bytes_eq (key_name key) (key_name other)) all_keys ≡ Some key
@@ -40,6 +40,9 @@ key_again Size = refl
 key_again Left = refl
 key_again Right = refl
 key_again Set = refl
+key_again Count = refl
+key_again Until = refl
+key_again Certs = refl
 
 some_key : (a b : Key) → Some a ≡ Some b → a ≡ b
 some_key a b e = cc
@@ -52,7 +55,7 @@ same_key_is a b e =
     ∙ ap (λ name. find (λ other. bytes_eq name (key_name other)) all_keys) ((bytes_eq-Decides (key_name a) (key_name b)).0 e)
     ∙ key_again b)
 
-or_false : (a b : Bool) → (a || b) ≡ false → (a ≡ false) × (b ≡ false)
+pub or_false : (a b : Bool) → (a || b) ≡ false → (a ≡ false) × (b ≡ false)
 or_false true b e = cc
 or_false false b e = (refl, e)
 

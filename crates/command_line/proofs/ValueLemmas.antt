@@ -1,17 +1,17 @@
 -- What is known of the values of words that are a request.
-use Rattle.std.proofs.Common.{◌≡◌, ℕ, ◌≤◌, ◌%◌, nat_eq, Bool, true, false, cond, List, [], ◌∷◌, ◌++◌, Option, None, Some, IfSome, Result, Ok, Err, refl, subst, arith}
+use Rattle.std.proofs.Common.{◌≡◌, ℕ, ◌<◌, ◌≤◌, ◌%◌, ◌^◌, nat_eq, Bool, true, false, cond, List, [], ◌∷◌, ◌++◌, Option, None, Some, IfSome, Result, Ok, Err, refl, subst, arith}
 use Rattle.std.specs.Prelude.{find, option_map, option_and_then, unwrap_or}
 use Rattle.std.proofs.lemmas.Bool.{eqb-true}
 use Rattle.proof_text.specs.Numbers.{number_in}
 use Rattle.proof_text.proofs.NumberLemmas.{number_in-spells}
 use Rattle.command_line.specs.declared.UsageKind.TheVariants.{BadNumber}
 use Rattle.command_line.specs.declared.table.Key.{Key}
-use Rattle.command_line.specs.declared.table.Key.TheVariants.{Kinds, Size}
+use Rattle.command_line.specs.declared.table.Key.TheVariants.{Kinds, Size, Count}
 use Rattle.command_line.specs.declared.Operand.{Operand}
 use Rattle.command_line.specs.declared.UsageKind.{UsageKind}
 use Rattle.command_line.specs.Table.{Row, kind_of, same_key}
 use Rattle.command_line.proofs.NameLemmas.{same_key_is}
-use Rattle.command_line.specs.Words.{value_fault, need, and_then, fail_if, unless, key_in, cut_word, is_given, operand_of, operands_of, value_of, names_in, names_fault, kinds_of, even_fault, size_in}
+use Rattle.command_line.specs.Words.{value_fault, need, and_then, fail_if, unless, key_in, cut_word, is_given, operand_of, operands_of, value_of, names_fault, kinds_of, number_fault, even_fault, size_in, count_in}
 
 -- a value comes of each step
 pub need_ok : {X Y : Type 0} (o : Option X) (kind : UsageKind) (further : X → Result Y UsageKind) (y : Y) → need o kind further ≡ Ok y → (x : X) × (further x ≡ Ok y)
@@ -90,23 +90,35 @@ found_valued known key (o ∷ os) operand valued e = by (same_key o.key key) ref
         here a b one two same = subst (λ (o : Operand). IsValued known o × (same_key o.key key ≡ true)) (some_same a b same) (one, two)
     by false at rest same = rest same
 
--- the names of reports that are given have no fault, nor has the size
-given_kinds : (known : List (List ℕ)) (operands : List Operand) (o : Option Operand) → AreValued known operands → find (λ o. same_key o.key Kinds) operands ≡ o
-    → (option_map (λ o. o.value) o ≡ None → ⊥) → names_fault known (names_in (unwrap_or (option_map (λ o. o.value) o) [])) ≡ None
-given_kinds known operands None valued found given = absurd (given refl)
-given_kinds known operands (Some o) valued found given =
-    let one = found_valued known Kinds operands o valued found in
-    subst (λ (key : Key). value_fault known (kind_of key) o.value ≡ None) (same_key_is o.key Kinds one.1) one.0
+-- the value of a key that is given has no fault
+given_valued : (known : List (List ℕ)) (operands : List Operand) (key : Key) (o : Option Operand) → AreValued known operands → find (λ o. same_key o.key key) operands ≡ o
+    → (option_map (λ o. o.value) o ≡ None → ⊥) → value_fault known (kind_of key) (unwrap_or (option_map (λ o. o.value) o) []) ≡ None
+given_valued known operands key None valued found given = absurd (given refl)
+given_valued known operands key (Some o) valued found given =
+    let one = found_valued known key operands o valued found in
+    subst (λ (k : Key). value_fault known (kind_of k) o.value ≡ None) (same_key_is o.key key one.1) one.0
 
+key_valued : (known : List (List ℕ)) (operands : List Operand) (key : Key) → AreValued known operands → (value_of operands key ≡ None → ⊥)
+    → value_fault known (kind_of key) (unwrap_or (value_of operands key) []) ≡ None
+key_valued known operands key valued given = given_valued known operands key (find (λ o. same_key o.key key) operands) valued refl given
+
+-- so the names of reports have none
 pub kinds_valued : (known : List (List ℕ)) (operands : List Operand) → AreValued known operands → (value_of operands Kinds ≡ None → ⊥) → names_fault known (kinds_of operands) ≡ None
-kinds_valued known operands valued given = given_kinds known operands (find (λ o. same_key o.key Kinds) operands) valued refl given
+kinds_valued known operands valued given = key_valued known operands Kinds valued given
 
-given_size : (known : List (List ℕ)) (operands : List Operand) (o : Option Operand) → AreValued known operands → find (λ o. same_key o.key Size) operands ≡ o
-    → (option_map (λ o. o.value) o ≡ None → ⊥) → even_fault (option_and_then (number_in 14 256) (option_map (λ o. o.value) o)) ≡ None
-given_size known operands None valued found given = absurd (given refl)
-given_size known operands (Some o) valued found given =
-    let one = found_valued known Size operands o valued found in
-    subst (λ (key : Key). value_fault known (kind_of key) o.value ≡ None) (same_key_is o.key Size one.1) one.0
+-- what is read of a value that is given is read of the value itself
+of_given : (fault : Option ℕ → Option UsageKind) (read : List ℕ → Option ℕ) (o : Option (List ℕ)) → (o ≡ None → ⊥) → fault (read (unwrap_or o [])) ≡ None → fault (option_and_then read o) ≡ None
+of_given fault read None given none = absurd (given refl)
+of_given fault read (Some word) given none = none
+
+-- a number that is read is in its range
+in_range : (low high : ℕ) (o : Option (List ℕ)) → high < 2 ^ 64 → IfSome (option_and_then (number_in low high) o) (λ n. (low ≤ n) × (n ≤ high))
+in_range low high None below = tt
+in_range low high (Some word) below = by (number_in low high word) refl
+  where
+    by : (o : Option ℕ) → number_in low high word ≡ o → IfSome o (λ n. (low ≤ n) × (n ≤ high))
+    by None e = tt
+    by (Some n) e = let spells = number_in-spells low high n word below e in (spells.above, spells.below)
 
 -- a size without a fault is one
 sized : (o : Option ℕ) → IfSome o (λ n. (14 ≤ n) × (n ≤ 256)) → even_fault o ≡ None → (unwrap_or o 0 % 2 ≡ 0) × (14 ≤ unwrap_or o 0) × (unwrap_or o 0 ≤ 256)
@@ -117,15 +129,19 @@ sized (Some n) within e = (by (nat_eq (n % 2) 0) refl e, within.0, within.1)
     by true same e = eqb-true (n % 2) 0 same
     by false same e = cc
 
-in_range : (o : Option (List ℕ)) → IfSome (option_and_then (number_in 14 256) o) (λ n. (14 ≤ n) × (n ≤ 256))
-in_range None = tt
-in_range (Some word) = by (number_in 14 256 word) refl
-  where
-    by : (o : Option ℕ) → number_in 14 256 word ≡ o → IfSome o (λ n. (14 ≤ n) × (n ≤ 256))
-    by None e = tt
-    by (Some n) e = let spells = number_in-spells 14 256 n word (omega arith) e in (spells.above, spells.below)
-
 pub size_valued : (known : List (List ℕ)) (operands : List Operand) → AreValued known operands → (value_of operands Size ≡ None → ⊥)
     → (size_in operands % 2 ≡ 0) × (14 ≤ size_in operands) × (size_in operands ≤ 256)
 size_valued known operands valued given =
-    sized (option_and_then (number_in 14 256) (value_of operands Size)) (in_range (value_of operands Size)) (given_size known operands (find (λ o. same_key o.key Size) operands) valued refl given)
+    sized (option_and_then (number_in 14 256) (value_of operands Size)) (in_range 14 256 (value_of operands Size) (omega arith))
+    (of_given even_fault (number_in 14 256) (value_of operands Size) given (key_valued known operands Size valued given))
+
+-- and so is a number of parts
+counted : (o : Option ℕ) → IfSome o (λ n. (1 ≤ n) × (n ≤ 1000)) → number_fault o ≡ None → (1 ≤ unwrap_or o 0) × (unwrap_or o 0 ≤ 1000)
+counted None within e = cc
+counted (Some n) within e = within
+
+pub count_valued : (known : List (List ℕ)) (operands : List Operand) → AreValued known operands → (value_of operands Count ≡ None → ⊥)
+    → (1 ≤ count_in operands) × (count_in operands ≤ 1000)
+count_valued known operands valued given =
+    counted (option_and_then (number_in 1 1000) (value_of operands Count)) (in_range 1 1000 (value_of operands Count) (omega arith))
+    (of_given number_fault (number_in 1 1000) (value_of operands Count) given (key_valued known operands Count valued given))

@@ -1,10 +1,12 @@
 -- What holds of each request that words make, and the files that it names.
-use Rattle.std.specs.Prelude.{◌≡◌, ◌≢◌, ◌≤◌, ℕ, ◌%◌, false, List, [], ◌∷◌, ◌++◌, flat_map, Option, Some, None, IfNone, ⊤}
+use Rattle.std.specs.Prelude.{◌≡◌, ◌≢◌, ◌≤◌, ℕ, ◌%◌, false, List, [], ◌∷◌, ◌++◌, flat_map, decimal, Option, Some, None, IfNone, ⊤}
 use Rattle.std.specs.Option.{option_to_list}
 use Rattle.command_line.specs.declared.request.AlignArgs.{AlignArgs}
+use Rattle.command_line.specs.declared.request.PartsArgs.{PartsArgs}
+use Rattle.command_line.specs.declared.request.PartArgs.{PartArgs}
 use Rattle.command_line.specs.declared.request.TrialArgs.{TrialArgs}
 use Rattle.command_line.specs.declared.request.Request.{Request}
-use Rattle.command_line.specs.declared.request.Request.TheVariants.{Align, Check, Mir, Conflict, Lattice, Explain, Report, Trial}
+use Rattle.command_line.specs.declared.request.Request.TheVariants.{Align, Check, Mir, Conflict, Lattice, Explain, Report, Parts, Part, Join, Trial}
 use Rattle.command_line.specs.declared.table.Key.{Key}
 use Rattle.command_line.specs.declared.table.KeyKind.{KeyKind}
 use Rattle.command_line.specs.declared.table.Command.{Command}
@@ -25,6 +27,18 @@ pub record IsAlign (args : AlignArgs) : Type 0 where
   pub limited : IfNone args.token ((args.nodes ≡ None) × (args.worlds ≡ None))
   pub two : AreApart args.cert args.token
 
+-- parts that words ask for: their number is within its range, and the problem's file is not one that a token may be written to
+pub record IsParts (args : PartsArgs) : Type 0 where
+  pub least : 1 ≤ args.count
+  pub most : args.count ≤ 1000
+  pub apart : (k : ℕ) → 1 ≤ k → k ≤ 5000 → args.input ≢ args.token ++ decimal k
+
+-- a part that words ask for: the files that it reads are different
+pub record IsPart (args : PartArgs) : Type 0 where
+  pub resumed : AreApart (Some args.input) args.resume
+  pub ended : AreApart (Some args.input) args.until
+  pub two : AreApart args.resume args.until
+
 -- a trial that words ask for: its size is even and within its range
 pub record IsTrial (args : TrialArgs) : Type 0 where
   pub even : args.size % 2 ≡ 0
@@ -40,6 +54,9 @@ IsMade known (Conflict args) = ⊤
 IsMade known (Lattice args) = ⊤
 IsMade known (Explain args) = ⊤
 IsMade known (Report args) = names_fault known args.kinds ≡ None
+IsMade known (Parts args) = IsParts args
+IsMade known (Part args) = IsPart args
+IsMade known (Join args) = ⊤
 IsMade known (Trial args) = IsTrial args
 
 -- the names of the files that a command reads, and of those that it may write
@@ -47,7 +64,7 @@ pub record Names : Type 0 where
   pub read : List (List ℕ)
   pub written : List (List ℕ)
 
--- those of a request
+-- those of a request; which files `parts` writes depends on the beginnings that it finds
 abbrev pub names_of : Request → Names
 names_of (Align args) = record { read = args.input ∷ option_to_list args.resume; written = option_to_list args.cert ++ option_to_list args.token }
 names_of (Check args) = record { read = args.input ∷ args.cert ∷ []; written = [] }
@@ -56,6 +73,9 @@ names_of (Conflict args) = record { read = args.input ∷ []; written = option_t
 names_of (Lattice args) = record { read = args.input ∷ []; written = option_to_list args.cert }
 names_of (Explain args) = record { read = args.input ∷ []; written = [] }
 names_of (Report args) = record { read = args.input ∷ []; written = [] }
+names_of (Parts args) = record { read = args.input ∷ []; written = [] }
+names_of (Part args) = record { read = args.input ∷ option_to_list args.resume ++ option_to_list args.until; written = args.cert ∷ [] }
+names_of (Join args) = record { read = args.input ∷ args.certs; written = [] }
 names_of (Trial args) = record { read = []; written = [] }
 
 -- the file names that operands give under some keys

@@ -1,9 +1,9 @@
 -- The table of commands: a row for each, with its keys and which of them name files; and what each key's value is.
 use Rattle.std.specs.Prelude.{ℕ, ◌-◌, ◌^◌, Bool, List, [], ◌∷◌, find, Option, bytes_eq, codes}
 use Rattle.command_line.specs.declared.table.Key.{Key}
-use Rattle.command_line.specs.declared.table.Key.TheVariants.{In, Cert, Nonempty, Sibling, Coverage, Nodes, Worlds, Token, Resume, Kinds, Seed, Size, Left, Right, Set}
+use Rattle.command_line.specs.declared.table.Key.TheVariants.{In, Cert, Nonempty, Sibling, Coverage, Nodes, Worlds, Token, Resume, Kinds, Seed, Size, Left, Right, Set, Count, Until, Certs}
 use Rattle.command_line.specs.declared.table.KeyKind.{KeyKind}
-use Rattle.command_line.specs.declared.table.KeyKind.TheVariants.{Switch, FileName, ReportNames, Text, Letters, Limit, Number, EvenNumber}
+use Rattle.command_line.specs.declared.table.KeyKind.TheVariants.{Switch, FileName, FileNames, ReportNames, Text, Letters, Limit, Number, EvenNumber}
 use Rattle.command_line.specs.declared.table.Command.{Command}
 use Rattle.command_line.specs.declared.table.Command.TheVariants as command
 
@@ -24,6 +24,9 @@ key_name Size = codes "size"
 key_name Left = codes "left"
 key_name Right = codes "right"
 key_name Set = codes "set"
+key_name Count = codes "count"
+key_name Until = codes "until"
+key_name Certs = codes "certs"
 
 -- what a key's value is
 abbrev pub kind_of : Key → KeyKind
@@ -42,6 +45,9 @@ kind_of Size = EvenNumber 14 256
 kind_of Left = Text
 kind_of Right = Text
 kind_of Set = Letters
+kind_of Count = Number 1 1000
+kind_of Until = FileName
+kind_of Certs = FileNames
 
 -- whether two keys are one
 abbrev pub same_key : Key → Key → Bool
@@ -107,6 +113,27 @@ row_of command.Report = record {
   reads = In ∷ [];
   writes = [];
 }
+row_of command.Parts = record {
+  name = codes "parts";
+  required = In ∷ Count ∷ Token ∷ [];
+  optional = Nonempty ∷ Sibling ∷ Coverage ∷ [];
+  reads = In ∷ [];
+  writes = [];
+}
+row_of command.Part = record {
+  name = codes "part";
+  required = In ∷ Cert ∷ [];
+  optional = Nonempty ∷ Sibling ∷ Coverage ∷ Resume ∷ Until ∷ [];
+  reads = In ∷ Resume ∷ Until ∷ [];
+  writes = Cert ∷ [];
+}
+row_of command.Join = record {
+  name = codes "join";
+  required = In ∷ Certs ∷ [];
+  optional = Nonempty ∷ Sibling ∷ Coverage ∷ [];
+  reads = In ∷ Certs ∷ [];
+  writes = [];
+}
 row_of command.Trial = record {
   name = codes "trial";
   required = Seed ∷ Size ∷ [];
@@ -117,7 +144,7 @@ row_of command.Trial = record {
 
 -- the commands, in the order of the table
 abbrev pub all_commands : List Command
-all_commands = command.Align ∷ command.Check ∷ command.Mir ∷ command.Conflict ∷ command.Lattice ∷ command.Explain ∷ command.Report ∷ command.Trial ∷ []
+all_commands = command.Align ∷ command.Check ∷ command.Mir ∷ command.Conflict ∷ command.Lattice ∷ command.Explain ∷ command.Report ∷ command.Parts ∷ command.Part ∷ command.Join ∷ command.Trial ∷ []
 
 -- the command with this name
 abbrev pub command_named : List ℕ → Option Command

@@ -1,5 +1,5 @@
 -- The words of the command line: a request, or the first usage fault.
-use Rattle.std.specs.Prelude.{ℕ, ◌==◌, ◌%◌, Bool, true, false, not, ◌||◌, ◌&&◌, ◌-◌, ◌^◌, List, [], ◌∷◌, ◌++◌, length, find, Option, Some, None, option_map, option_and_then, unwrap_or, Result, Ok, Err, if◌then◌else◌, bytes_eq, codes, ⊤}
+use Rattle.std.specs.Prelude.{ℕ, ◌==◌, ◌%◌, Bool, true, false, not, ◌||◌, ◌&&◌, ◌-◌, ◌^◌, List, [], ◌∷◌, ◌++◌, length, take, drop, find, Option, Some, None, is_some, option_map, option_and_then, unwrap_or, Result, Ok, Err, if◌then◌else◌, bytes_eq, codes, ⊤}
 use Rattle.std.specs.List.{list_any, list_all, flat_map, before_first, after_first}
 use Rattle.rcc5_core.specs.declared.RelSet.{RelSet}
 use Rattle.rcc5_core.specs.RelationSet.{no_rels}
@@ -8,7 +8,7 @@ use Rattle.proof_text.specs.Words.{words_of}
 use Rattle.text_words.specs.Words.{set_of_letters}
 use Rattle.world_model.specs.declared.Switches.{Switches}
 use Rattle.command_line.specs.declared.table.Key.{Key}
-use Rattle.command_line.specs.declared.table.Key.TheVariants.{In, Cert, Nonempty, Sibling, Coverage, Nodes, Worlds, Token, Resume, Kinds, Seed, Size, Left, Right, Set}
+use Rattle.command_line.specs.declared.table.Key.TheVariants.{In, Cert, Nonempty, Sibling, Coverage, Nodes, Worlds, Token, Resume, Kinds, Seed, Size, Left, Right, Set, Count, Until, Certs}
 use Rattle.command_line.specs.declared.table.KeyKind.{KeyKind}
 use Rattle.command_line.specs.declared.table.KeyKind.TheVariants.{Switch, FileName, FileNames, ReportNames, Text, Letters, Limit, Number, EvenNumber}
 use Rattle.command_line.specs.declared.table.Command.{Command}
@@ -17,7 +17,7 @@ use Rattle.command_line.specs.declared.Operand.{Operand}
 use Rattle.command_line.specs.declared.UsageKind.{UsageKind}
 use Rattle.command_line.specs.declared.UsageKind.TheVariants.{NoCommand, UnknownCommand, NotOperand, UnknownKey, KeyTwice, BadSwitch, BadNumber, BadSet, ZeroBudget, EmptyName, UnknownKind, KindTwice, MissingKey, BudgetWithoutToken, SameName}
 use Rattle.command_line.specs.declared.request.Request.{Request}
-use Rattle.command_line.specs.declared.request.Request.TheVariants.{Align, Check, Mir, Conflict, Lattice, Explain, Report, Trial}
+use Rattle.command_line.specs.declared.request.Request.TheVariants.{Align, Check, Mir, Conflict, Lattice, Explain, Report, Parts, Part, Join, Trial}
 use Rattle.command_line.specs.declared.request.ClaimsArgs.{ClaimsArgs}
 use Rattle.command_line.specs.declared.request.ExplainArgs.{ExplainArgs}
 use Rattle.command_line.specs.declared.WordsFault.{WordsFault}
@@ -196,7 +196,16 @@ abbrev pub has_same_name : List Operand → Bool
 has_same_name [] = false
 has_same_name (operand ∷ operands) = list_any (is_among (flat_map file_names operands)) (file_names operand) || has_same_name operands
 
--- the names of reports, the seed, the size and the set of relations that are given
+-- whether a word is another with a number from 1 to 5000 behind it
+abbrev pub is_numbered : List ℕ → List ℕ → Bool
+is_numbered front word = bytes_eq (take (length front) word) front && is_some (number_in 1 5000 (drop (length front) word))
+
+-- whether parts are asked for, and the problem's file is one that a token may be written to
+abbrev pub gives_numbered : List Operand → Bool
+gives_numbered operands =
+    is_given operands Count && is_numbered (unwrap_or (value_of operands Token) []) (unwrap_or (value_of operands In) [])
+
+-- the names of reports, the seed, the size, the set of relations, the number of parts and the names of certificates that are given
 abbrev pub kinds_of : List Operand → List (List ℕ)
 kinds_of operands = names_in (unwrap_or (value_of operands Kinds) [])
 
@@ -208,6 +217,12 @@ size_in operands = unwrap_or (option_and_then (number_in 14 256) (value_of opera
 
 abbrev pub set_in : List Operand → RelSet
 set_in operands = unwrap_or (option_and_then set_of_letters (value_of operands Set)) no_rels
+
+abbrev pub count_in : List Operand → ℕ
+count_in operands = unwrap_or (option_and_then (number_in 1 1000) (value_of operands Count)) 0
+
+abbrev pub certs_of : List Operand → List (List ℕ)
+certs_of operands = names_in (unwrap_or (value_of operands Certs) [])
 
 -- the arguments of a question that is answered by claims
 abbrev pub claims_args : List Operand → ClaimsArgs
@@ -248,6 +263,24 @@ request_for command.Report operands = Report (record {
   kinds = kinds_of operands;
   switches = switches_of operands;
 })
+request_for command.Parts operands = Parts (record {
+  input = unwrap_or (value_of operands In) [];
+  count = count_in operands;
+  token = unwrap_or (value_of operands Token) [];
+  switches = switches_of operands;
+})
+request_for command.Part operands = Part (record {
+  input = unwrap_or (value_of operands In) [];
+  cert = unwrap_or (value_of operands Cert) [];
+  resume = value_of operands Resume;
+  until = value_of operands Until;
+  switches = switches_of operands;
+})
+request_for command.Join operands = Join (record {
+  input = unwrap_or (value_of operands In) [];
+  certs = certs_of operands;
+  switches = switches_of operands;
+})
 request_for command.Trial operands = Trial (record { seed = seed_in operands; size = size_in operands })
 
 -- the request of a command with operands, or what is wrong with them together
@@ -255,7 +288,7 @@ abbrev pub request_from : Command → List Operand → Result Request UsageKind
 request_from c operands =
     fail_if (is_lacking (row_of c) operands) MissingKey (
     fail_if (lacks_token operands) BudgetWithoutToken (
-    fail_if (has_same_name operands) SameName (
+    fail_if (has_same_name operands || gives_numbered operands) SameName (
     Ok (request_for c operands))))
 
 -- what words ask for, or their first fault, by the names of reports that are known

@@ -17,7 +17,10 @@ mod words;
 pub use help::{command_help, fault_place, key_help, usage_help};
 pub use kinds::KnownNames;
 pub use laws::rows_name_files;
-pub use request::{AlignArgs, CheckArgs, ClaimsArgs, ExplainArgs, ReportArgs, Request, TrialArgs};
+pub use request::{
+    AlignArgs, CheckArgs, ClaimsArgs, ExplainArgs, JoinArgs, PartArgs, PartsArgs, ReportArgs,
+    Request, TrialArgs,
+};
 use std::alloc::{AllocError, AllocFailed};
 use std::fmt;
 use std::marker::Model;

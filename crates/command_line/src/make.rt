@@ -1,13 +1,13 @@
 //! The request of a command, by the values of its keys.
 ghost use Rattle.std.specs.Prelude.{◌≡◌, ◌≤◌, [], IfOk, unwrap_or};
-ghost use Rattle.command_line.specs.Words.{value_of, is_on, switches_of, kinds_of, seed_in, size_in, set_in, claims_args, explain_args, request_for};
+ghost use Rattle.command_line.specs.Words.{value_of, is_on, switches_of, names_in, seed_in, size_in, set_in, count_in, claims_args, explain_args, request_for};
 ghost use Rattle.command_line.specs.declared.table.Command.TheVariants as commands;
 
 use crate::kinds::{split_names, word_of};
 use crate::words::{limit_of, value_of};
 use crate::{
-    AlignArgs, CheckArgs, ClaimsArgs, Command, ExplainArgs, Key, Operand, ReportArgs, Request,
-    TrialArgs, Word, WordList,
+    AlignArgs, CheckArgs, ClaimsArgs, Command, ExplainArgs, JoinArgs, Key, Operand, PartArgs,
+    PartsArgs, ReportArgs, Request, TrialArgs, Word, WordList,
 };
 use proof_text::read_number;
 use rcc5_core::RelSet;
@@ -51,11 +51,11 @@ fn switches_of(operands: &[Operand]) -> Switches
     }
 }
 
-// The names of reports that are given.
-fn kinds_of(alloc: Global, operands: &[Operand]) -> Result<WordList, AllocError>
-    ensures { IfOk result (λ kinds. kinds ≡ kinds_of operands.now) }
+// The names under a key that has to be given.
+fn required_names(alloc: Global, operands: &[Operand], key: Key) -> Result<WordList, AllocError>
+    ensures { IfOk result (λ names. names ≡ names_in (unwrap_or (value_of operands.now key) [])) }
 {
-    let value = value_of(operands, Key::Kinds).unwrap_or("");
+    let value = value_of(operands, key).unwrap_or("");
     Ok(WordList::new(split_names(alloc, value)?))
 }
 
@@ -75,6 +75,16 @@ fn size_in(operands: &[Operand]) -> u32
         None => 0,
         Some(size) => size as u32,
     }
+}
+
+// The number of parts that is given.
+fn count_in(operands: &[Operand]) -> u64
+    ensures { result ≡ count_in operands.now }
+{
+    let Some(value) = value_of(operands, Key::Count) else {
+        return 0;
+    };
+    read_number(value.as_bytes(), 1, 1000).unwrap_or(0)
 }
 
 // The relations whose letters are given.
@@ -140,7 +150,40 @@ fn report_request(alloc: Global, operands: &[Operand]) -> Result<Request, AllocE
 {
     Ok(Request::Report(ReportArgs {
         input: required_name(alloc, operands, Key::In)?,
-        kinds: kinds_of(alloc, operands)?,
+        kinds: required_names(alloc, operands, Key::Kinds)?,
+        switches: switches_of(operands),
+    }))
+}
+
+fn parts_request(alloc: Global, operands: &[Operand]) -> Result<Request, AllocError>
+    ensures { IfOk result (λ request. request ≡ request_for commands.Parts operands.now) }
+{
+    Ok(Request::Parts(PartsArgs {
+        input: required_name(alloc, operands, Key::In)?,
+        count: count_in(operands),
+        token: required_name(alloc, operands, Key::Token)?,
+        switches: switches_of(operands),
+    }))
+}
+
+fn part_request(alloc: Global, operands: &[Operand]) -> Result<Request, AllocError>
+    ensures { IfOk result (λ request. request ≡ request_for commands.Part operands.now) }
+{
+    Ok(Request::Part(PartArgs {
+        input: required_name(alloc, operands, Key::In)?,
+        cert: required_name(alloc, operands, Key::Cert)?,
+        resume: name_of(alloc, operands, Key::Resume)?,
+        until: name_of(alloc, operands, Key::Until)?,
+        switches: switches_of(operands),
+    }))
+}
+
+fn join_request(alloc: Global, operands: &[Operand]) -> Result<Request, AllocError>
+    ensures { IfOk result (λ request. request ≡ request_for commands.Join operands.now) }
+{
+    Ok(Request::Join(JoinArgs {
+        input: required_name(alloc, operands, Key::In)?,
+        certs: required_names(alloc, operands, Key::Certs)?,
         switches: switches_of(operands),
     }))
 }
@@ -161,6 +204,9 @@ pub(crate) fn make_request(
         Command::Lattice => Ok(Request::Lattice(claims_args(alloc, operands)?)),
         Command::Explain => Ok(Request::Explain(explain_args(alloc, operands)?)),
         Command::Report => report_request(alloc, operands),
+        Command::Parts => parts_request(alloc, operands),
+        Command::Part => part_request(alloc, operands),
+        Command::Join => join_request(alloc, operands),
         Command::Trial => Ok(Request::Trial(TrialArgs {
             seed: seed_in(operands),
             size: size_in(operands),

@@ -60,6 +60,39 @@ pub struct ReportArgs {
     pub switches: Switches,
 }
 
+/// What `parts` is given: find where the parts of the listing of a problem in a file begin.
+#[derive(Drop)]
+pub struct PartsArgs {
+    pub input: Word,
+    /// How many parts there are to be at least, where the listing has so many beginnings.
+    pub count: u64,
+    /// The name of the tokens' files without the number behind it.
+    pub token: Word,
+    pub switches: Switches,
+}
+
+/// What `part` is given: list the possible worlds of the problem in a file from one position to another.
+#[derive(Drop)]
+pub struct PartArgs {
+    pub input: Word,
+    /// The file for the certificate.
+    pub cert: Word,
+    /// The file whose token says where the part begins.
+    pub resume: Option<Word>,
+    /// The file whose token says where the part ends.
+    pub until: Option<Word>,
+    pub switches: Switches,
+}
+
+/// What `join` is given: join the certificates of parts to the listing of the problem in a file.
+#[derive(Drop)]
+pub struct JoinArgs {
+    pub input: Word,
+    /// The files of the certificates.
+    pub certs: WordList,
+    pub switches: Switches,
+}
+
 /// What `trial` is given: make a problem, list its worlds, and check the certificate of the listing.
 #[derive(Clone, Copy)]
 pub struct TrialArgs {
@@ -84,6 +117,12 @@ pub enum Request {
     Explain(ExplainArgs),
     /// Report of all possible worlds.
     Report(ReportArgs),
+    /// Find where the parts of the listing begin.
+    Parts(PartsArgs),
+    /// List the possible worlds of a part.
+    Part(PartArgs),
+    /// Join the certificates of parts.
+    Join(JoinArgs),
     /// Make a problem and try the program on it.
     Trial(TrialArgs),
 }

@@ -12,6 +12,9 @@ pub enum Command {
     Lattice,
     Explain,
     Report,
+    Parts,
+    Part,
+    Join,
     Trial,
 }
 
@@ -33,6 +36,9 @@ pub enum Key {
     Left,
     Right,
     Set,
+    Count,
+    Until,
+    Certs,
 }
 
 /// What a key's value is.
@@ -58,7 +64,7 @@ pub enum KeyKind {
     EvenNumber { least: u64, most: u64 },
 }
 
-static COMMANDS: [Command; 8] = [
+static COMMANDS: [Command; 11] = [
     Command::Align,
     Command::Check,
     Command::Mir,
@@ -66,6 +72,9 @@ static COMMANDS: [Command; 8] = [
     Command::Lattice,
     Command::Explain,
     Command::Report,
+    Command::Parts,
+    Command::Part,
+    Command::Join,
     Command::Trial,
 ];
 
@@ -79,7 +88,13 @@ static IN_LEFT_RIGHT_SET: [Key; 4] = [Key::In, Key::Left, Key::Right, Key::Set];
 
 static IN_KINDS: [Key; 2] = [Key::In, Key::Kinds];
 
+static IN_COUNT_TOKEN: [Key; 3] = [Key::In, Key::Count, Key::Token];
+
+static IN_CERTS: [Key; 2] = [Key::In, Key::Certs];
+
 static IN_RESUME: [Key; 2] = [Key::In, Key::Resume];
+
+static IN_RESUME_UNTIL: [Key; 3] = [Key::In, Key::Resume, Key::Until];
 
 static CERT_TOKEN: [Key; 2] = [Key::Cert, Key::Token];
 
@@ -98,6 +113,14 @@ static LISTING: [Key; 8] = [
     Key::Worlds,
     Key::Token,
     Key::Resume,
+];
+
+static SWITCHES_RESUME_UNTIL: [Key; 5] = [
+    Key::Nonempty,
+    Key::Sibling,
+    Key::Coverage,
+    Key::Resume,
+    Key::Until,
 ];
 
 static NONE: [Key; 0] = [];
@@ -122,6 +145,9 @@ impl Command {
             Command::Lattice => "lattice",
             Command::Explain => "explain",
             Command::Report => "report",
+            Command::Parts => "parts",
+            Command::Part => "part",
+            Command::Join => "join",
             Command::Trial => "trial",
         }
     }
@@ -132,9 +158,11 @@ impl Command {
     {
         match self {
             Command::Align | Command::Mir | Command::Conflict | Command::Lattice => &IN,
-            Command::Check => &IN_CERT,
+            Command::Check | Command::Part => &IN_CERT,
             Command::Explain => &IN_LEFT_RIGHT_SET,
             Command::Report => &IN_KINDS,
+            Command::Parts => &IN_COUNT_TOKEN,
+            Command::Join => &IN_CERTS,
             Command::Trial => &SEED_SIZE,
         }
     }
@@ -145,8 +173,10 @@ impl Command {
     {
         match self {
             Command::Align => &LISTING,
-            Command::Check | Command::Explain | Command::Report => &SWITCHES,
+            Command::Check | Command::Explain | Command::Report | Command::Parts | Command::Join =>
+                &SWITCHES,
             Command::Mir | Command::Conflict | Command::Lattice => &CERT_SWITCHES,
+            Command::Part => &SWITCHES_RESUME_UNTIL,
             Command::Trial => &NONE,
         }
     }
@@ -162,7 +192,10 @@ impl Command {
             | Command::Conflict
             | Command::Lattice
             | Command::Explain
-            | Command::Report => &IN,
+            | Command::Report
+            | Command::Parts => &IN,
+            Command::Part => &IN_RESUME_UNTIL,
+            Command::Join => &IN_CERTS,
             Command::Trial => &NONE,
         }
     }
@@ -173,8 +206,13 @@ impl Command {
     {
         match self {
             Command::Align => &CERT_TOKEN,
-            Command::Mir | Command::Conflict | Command::Lattice => &CERT,
-            Command::Check | Command::Explain | Command::Report | Command::Trial => &NONE,
+            Command::Mir | Command::Conflict | Command::Lattice | Command::Part => &CERT,
+            Command::Check
+            | Command::Explain
+            | Command::Report
+            | Command::Parts
+            | Command::Join
+            | Command::Trial => &NONE,
         }
     }
 }
@@ -200,6 +238,9 @@ impl Key {
             Key::Left => "left",
             Key::Right => "right",
             Key::Set => "set",
+            Key::Count => "count",
+            Key::Until => "until",
+            Key::Certs => "certs",
         }
     }
 
@@ -208,7 +249,8 @@ impl Key {
         ensures { result ≡ kind_of self }
     {
         match self {
-            Key::In | Key::Cert | Key::Token | Key::Resume => KeyKind::FileName,
+            Key::In | Key::Cert | Key::Token | Key::Resume | Key::Until => KeyKind::FileName,
+            Key::Certs => KeyKind::FileNames,
             Key::Nonempty | Key::Sibling | Key::Coverage => KeyKind::Switch,
             Key::Nodes | Key::Worlds => KeyKind::Limit,
             Key::Kinds => KeyKind::ReportNames,
@@ -222,6 +264,10 @@ impl Key {
             },
             Key::Left | Key::Right => KeyKind::Text,
             Key::Set => KeyKind::Letters,
+            Key::Count => KeyKind::Number {
+                least: 1,
+                most: 1000,
+            },
         }
     }
 }

@@ -3,7 +3,7 @@ ghost use Rattle.std.specs.Prelude.{◌≡◌, IfOk};
 ghost use Rattle.std.specs.List.{list_any};
 ghost use Rattle.proof_text.specs.Numbers.{number_in};
 ghost use Rattle.text_words.specs.Words.{set_of_letters};
-ghost use Rattle.command_line.specs.Words.{number_of, number_fault, limit_fault, even_fault, set_fault, is_empty_name, file_names_fault, value_fault, names_by};
+ghost use Rattle.command_line.specs.Words.{number_of, number_fault, limit_fault, even_fault, set_fault, is_empty_name, file_names_fault, value_fault, names_by, is_numbered};
 
 use crate::kinds::{KnownNames, names_fault, split_names, word_of};
 use crate::{KeyKind, UsageKind, Word};
@@ -99,6 +99,16 @@ pub(crate) fn value_fault<K: KnownNames>(
         KeyKind::Limit => Ok(limit_fault(number_of(value))),
         KeyKind::Number { least, most } => Ok(number_fault(number_in(value, least, most))),
         KeyKind::EvenNumber { least, most } => Ok(even_fault(number_in(value, least, most))),
+    }
+}
+
+/// Whether a word is another with a number behind it that a part may have.
+pub(crate) fn is_numbered(front: &str, word: &str) -> bool
+    ensures { result ≡ is_numbered front.now word.now }
+{
+    match word.as_bytes().strip_prefix(front.as_bytes()) {
+        None => false,
+        Some(number) => read_number(number, 1, 5000).is_some(),
     }
 }
 

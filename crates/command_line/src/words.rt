@@ -3,12 +3,12 @@ ghost use Rattle.std.specs.Prelude.{◌≡◌, ◌<◌, ◌≤◌, not, length, 
 ghost use Rattle.std.specs.List.{flat_map, list_any};
 ghost use Rattle.std.specs.Option.{option_copied};
 ghost use Rattle.command_line.specs.Table.{row_of, key_name, same_key, command_named};
-ghost use Rattle.command_line.specs.Words.{is_equals, cut_word, key_among, key_in, limit_of, lacks_token, is_among, file_names, has_same_name, is_given, operand_of, operands_of, value_of, is_lacking, request_from, request_of, IfUsage};
+ghost use Rattle.command_line.specs.Words.{is_equals, cut_word, key_among, key_in, limit_of, lacks_token, is_among, file_names, has_same_name, gives_numbered, is_given, operand_of, operands_of, value_of, is_lacking, request_from, request_of, IfUsage};
 ghost use Rattle.command_line.specs.Requests.{IsMade};
 
 use crate::kinds::{KnownNames, is_among};
 use crate::make::make_request;
-use crate::values::{names_by, number_of, value_fault};
+use crate::values::{is_numbered, names_by, number_of, value_fault};
 use crate::{Command, Key, Operand, Request, UsageKind, Word, WordsFault};
 use std::alloc::{AllocError, Global};
 
@@ -144,6 +144,15 @@ fn has_same_name(alloc: Global, operands: &[Operand]) -> Result<bool, AllocError
     Ok(false)
 }
 
+// Whether parts are asked for, and the problem's file is one that a token may be written to.
+fn gives_numbered(operands: &[Operand]) -> bool
+    ensures { result ≡ gives_numbered operands.now }
+{
+    let token = value_of(operands, Key::Token).unwrap_or("");
+    let input = value_of(operands, Key::In).unwrap_or("");
+    is_given(operands, Key::Count) && is_numbered(token, input)
+}
+
 // A further word after the operands before it.
 fn read_operand<K: KnownNames>(
     alloc: Global,
@@ -208,7 +217,7 @@ fn request_from(
     if lacks_token(operands) {
         return Err(WordsFault::Usage(UsageKind::BudgetWithoutToken));
     }
-    if has_same_name(alloc, operands)? {
+    if has_same_name(alloc, operands)? || gives_numbered(operands) {
         return Err(WordsFault::Usage(UsageKind::SameName));
     }
     Ok(make_request(alloc, command, operands)?)

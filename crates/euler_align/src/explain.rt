@@ -4,10 +4,11 @@ use crate::files::{explain_read, explain_write};
 use crate::help::{certificate_help, rejection_help, token_help};
 use crate::line::{line_of, read_again, show_line};
 use crate::pairs::{explain_many, explain_open, explain_pair};
+use crate::parts::{explain_empty, explain_gap, explain_part, refused_token};
 use crate::unknown::unknown_names;
 use crate::usage::{asks_for_help, explain_fault, explain_program};
-use crate::words::{kind_of, value_of};
-use align_top::{Key, KeyKind, Status, UsageKind, fault_place, text_help};
+use crate::words::{switch_words, value_of};
+use align_top::{Key, Status, UsageKind, fault_place, text_help};
 use cleantax_text::TextKind;
 use outer_store::FileStore;
 use std::alloc::Global;
@@ -82,16 +83,12 @@ fn explain_certificate(
 }
 
 // Tells that no world is possible, and which words ask why.
-fn explain_no_world(rt: &impl Eprint, words: &[String]) -> io::Result<()> {
+fn explain_no_world(rt: &impl Eprint, alloc: Global, words: &[String]) -> io::Result<()> {
     let input = value_of(words, Key::In);
-    eprint!(rt; "no merged classification meets all statements; `euler_align conflict in={input}")?;
-    for word in words {
-        let word = word.as_str();
-        if let Some(KeyKind::Switch) = kind_of(words, word) {
-            eprint!(rt; " {word}")?;
-        }
-    }
-    eprintln!(rt; "` names some that can't stand together, each of them needed for the conflict")
+    let switches = switch_words(alloc, words)?;
+    eprintln!(rt;
+        "no merged classification meets all statements; `euler_align conflict in={input}{switches}` names some that can't stand together, each of them needed for the conflict"
+    )
 }
 
 /// Tells people what an ending means, if it isn't good, and what to do about it.
@@ -107,7 +104,7 @@ pub(crate) fn explain(
         Status::ReadFault => explain_read(rt, words),
         Status::WriteFault => explain_write(rt, words, store),
         Status::RefusedToken(kind) => {
-            let name = value_of(words, Key::Resume);
+            let name = refused_token(rt, words);
             let sentence = token_help(*kind);
             eprintln!(rt; "{name}: {sentence}")
         }
@@ -118,10 +115,13 @@ pub(crate) fn explain(
             let advice = "; check it with the problem and the switches that it was made with";
             explain_certificate(rt, words, *line, rejection_help(*kind), advice)
         }
-        Status::NoWorld => explain_no_world(rt, words),
+        Status::NoWorld => explain_no_world(rt, rt.alloc(), words),
         Status::RefusedPair(kind) => explain_pair(rt, words, *kind),
-        Status::TooMany => explain_many(rt, words),
-        Status::NotEntailed => explain_open(rt, words),
+        Status::TooMany => explain_many(rt, rt.alloc(), words),
+        Status::NotEntailed => explain_open(rt, rt.alloc(), words),
+        Status::EmptyPart => explain_empty(rt, words),
+        Status::PartRefused { part, line, kind } => explain_part(rt, words, *part, *line, *kind),
+        Status::Gap { from, to } => explain_gap(rt, rt.alloc(), words, from, to),
         Status::NoMemory => eprintln!(rt;
             "out of memory; free some, or ask for less: `mir` in place of a listing, or `worlds=` for a part of it"
         ),

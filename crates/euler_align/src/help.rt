@@ -7,12 +7,13 @@ use resume_token::TokenKind;
 /// What a fault of a token means, and what to do about it.
 pub(crate) fn token_help(kind: TokenKind) -> &'static str {
     match kind {
-        TokenKind::BadToken => "this is no token; give a file that `align` wrote under `token=`",
+        TokenKind::BadToken =>
+            "this is no token; give a file that `align` or `parts` wrote under `token=`",
         TokenKind::OtherProblem => {
             "this token is of another problem; give the problem and the switches that it was made with"
         }
         TokenKind::BadPosition => {
-            "the place in this token is not one of this problem; list from the front, without `resume=`"
+            "the place in this token is not one of this problem; list from the front, or to the end, without this token"
         }
     }
 }

@@ -7,6 +7,7 @@ mod help;
 mod line;
 mod nearest;
 mod pairs;
+mod parts;
 mod unknown;
 mod usage;
 mod words;

@@ -130,6 +130,10 @@ fn advice_at(
 ) -> Result<String, AllocError> {
     match kind {
         UsageKind::BadNumber | UsageKind::ZeroBudget => numbers_of(alloc, kind_of(words, word)),
+        UsageKind::SameName if is_given(words, Key::Count.name()) => String::from_str(
+            alloc,
+            "the tokens have this name with a number behind it; give one with which in= does not begin",
+        ),
         _ => String::from_str(alloc, advice(kind)),
     }
 }

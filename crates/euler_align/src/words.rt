@@ -44,18 +44,34 @@ pub(crate) fn kind_of(words: &[String], word: &str) -> Option<KeyKind> {
     Some(key.kind())
 }
 
-/// The values that words give some keys, in the order of the keys.
-pub(crate) fn values_of<'a>(
+/// The switches that words give, each behind a space.
+pub(crate) fn switch_words(alloc: Global, words: &[String]) -> Result<String, AllocError> {
+    let mut text = String::new(alloc);
+    for word in words {
+        let word = word.as_str();
+        if let Some(KeyKind::Switch) = kind_of(words, word) {
+            write!(text, " {word}")?;
+        }
+    }
+    Ok(text)
+}
+
+/// The file names that words give some keys, in the order of the keys.
+pub(crate) fn files_of<'a>(
     alloc: Global,
     words: &'a [String],
     keys: &[Key],
 ) -> Result<Vec<&'a str>, AllocError> {
-    let mut values = Vec::new(alloc);
+    let mut names = Vec::new(alloc);
     for key in keys {
         let value = value_of(words, *key);
-        if !value.is_empty() {
-            values.push(value)?;
+        if let KeyKind::FileNames = key.kind() {
+            for name in value.split(',') {
+                names.push(name)?;
+            }
+        } else if !value.is_empty() {
+            names.push(value)?;
         }
     }
-    Ok(values)
+    Ok(names)
 }

@@ -29,6 +29,7 @@ use Rattle.part_rules.specs.Certs.{cert_answer}
 use Rattle.outer_store.specs.States.{StoreState, SinkState, IsQuiet, OnlyWritten, IsQuiet-joins}
 use Rattle.run_ends.specs.Runs.{IsWriteCause}
 use Rattle.run_ends.proofs.OneName.{kept_but_one, write_failed}
+use Rattle.run_ends.proofs.WrittenLemmas.{others_twice}
 use Rattle.listing_log.specs.declared.Listed.{Listed}
 use Rattle.listing_log.specs.declared.ListingPlan.{ListingPlan}
 use Rattle.part_rules.specs.Certs.{IsListingCert}
@@ -38,9 +39,6 @@ use Rattle.world_search.specs.Told.{IsToldWhole}
 use Rattle.listing_log.specs.Logged.{IsListedIn, IsCertLeft, IsListedWith}
 use Rattle.cert_check.proofs.WrittenLemmas.{written_is_read, written_is_accepted_law}
 use Rattle.cert_text.proofs.StoreLemmas.{told_bytes}
-
-others_twice : (name : List ℕ) (old mid new : Contents) → OthersKept name old mid → OthersKept name mid new → OthersKept name old new
-others_twice name old mid new a b other apart = b other apart ∙ a other apart
 
 -- a certificate's name that can't be made empty
 create_refused_by : (T : Type 0) (e : StoreFault) (plan : ListingPlan) (name : List ℕ) (store store' : StoreState) (sink : SinkState)

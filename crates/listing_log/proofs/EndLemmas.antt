@@ -47,24 +47,34 @@ before_node p start m to (Some node) at from = by (is_below m node) refl
     by true e = e ∙ sym (at.2 m from e)
     by false e = e ∙ sym (not_past node m to e (not-true (is_before_end node to) at.1))
 
--- so what is listed up to the place at which a search ends is listed up to that node
-pub listed_to : (p : Problem) (start : List Rel) (to node : Option (List Rel)) (worlds : List (List Rel)) → IsNodeAtEnd p start to node → IsListing p start (last_place start to) worlds → IsListing p start node worlds
-listed_to p start to node worlds at l = listing p start node worlds (record {
+-- a listing up to one place is one up to another, where the same worlds from the start on are below both
+listed_alike : (p : Problem) (start : List Rel) (one other : Option (List Rel)) (worlds : List (List Rel)) → ((t : List Rel) → IsNodeFrom p start t → is_before_end t one ≡ is_before_end t other)
+    → IsListing p start one worlds → IsListing p start other worlds
+listed_alike p start one other worlds alike l = listing p start other worlds (record {
   ascending = all.ascending;
   sound = λ t i.
       let w = all.sound t i in
-      let parts = between_parts start (last_place start to) t w.1 in
-      (w.0, between_from start node t parts.0 (sym (alike t w.0 parts.0) ∙ parts.1));
+      let parts = between_parts start one t w.1 in
+      (w.0, between_from start other t parts.0 (sym (alike t (from_start t w.0 parts.0)) ∙ parts.1));
   complete = λ t w.
-      let parts = between_parts start node t w.1 in
-      all.complete t (w.0, between_from start (last_place start to) t parts.0 (alike t w.0 parts.0 ∙ parts.1));
+      let parts = between_parts start other t w.1 in
+      all.complete t (w.0, between_from start one t parts.0 (alike t (from_start t w.0 parts.0) ∙ parts.1));
 })
   where
-    all : IsExactly (Between (IsPossibleWorld p) start (last_place start to)) worlds
-    all = listed p start (last_place start to) worlds l
+    all : IsExactly (Between (IsPossibleWorld p) start one) worlds
+    all = listed p start one worlds l
 
-    alike : (t : List Rel) → IsPossibleWorld p t → is_below t start ≡ false → is_before_end t (last_place start to) ≡ is_before_end t node
-    alike t world low = before_last start t to low ∙ sym (before_node p start t to node at (world_is_node p t world, not_from_false (is_below t start) low))
+    from_start : (t : List Rel) → IsPossibleWorld p t → is_below t start ≡ false → IsNodeFrom p start t
+    from_start t world low = (world_is_node p t world, not_from_false (is_below t start) low)
+
+-- so what is listed up to the place at which a search ends is listed up to that node
+pub listed_to : (p : Problem) (start : List Rel) (to node : Option (List Rel)) (worlds : List (List Rel)) → IsNodeAtEnd p start to node → IsListing p start (last_place start to) worlds → IsListing p start node worlds
+listed_to p start to node worlds at = listed_alike p start (last_place start to) node worlds
+    (λ t from. before_last start t to (not-true (is_below t start) from.1) ∙ sym (before_node p start t to node at from))
+
+-- and what is listed up to that node is listed up to the end
+pub listed_below : (p : Problem) (start : List Rel) (to node : Option (List Rel)) (worlds : List (List Rel)) → IsNodeAtEnd p start to node → IsListing p start node worlds → IsListing p start to worlds
+listed_below p start to node worlds at = listed_alike p start node to worlds (λ t from. before_node p start t to node at from)
 
 -- and a budget that lasts to that place lasts to the end
 pub lasts_end : (plan : ListingPlan) → LastsTo plan (last_place plan.start plan.end) → LastsTo plan plan.end

@@ -65,8 +65,8 @@ fn put_with_log<W: Sink, L: TreeLog>(
     put_lines(alloc, out, plan, log)
 }
 
-// Puts the lines of a listing, and the certificate is what the name then holds.
-fn put_certified<S: Store, W: Sink>(
+/// Puts the listing of a plan, and writes its certificate: just that is what the name then holds.
+pub fn put_certified<S: Store, W: Sink>(
     alloc: Global,
     store: &mut S,
     out: &mut W,

@@ -5,7 +5,7 @@ mod certified;
 mod listing;
 mod table_listing;
 
-pub use certified::put_listing;
+pub use certified::{put_certified, put_listing};
 use constraint_set::Problem;
 use rcc5_core::Position;
 

@@ -4,8 +4,7 @@ ghost use Rattle.std.specs.Prelude.{◌≡◌, [], Some, IfOk, OnOk};
 ghost use Rattle.point_query.specs.Asking.{IsNewAsker};
 ghost use Rattle.world_search.specs.Searching.{begun};
 ghost use Rattle.world_search.specs.Told.{IsToldTo};
-ghost use Rattle.run_ends.specs.Ends.{world_line};
-ghost use Rattle.run_ends.specs.Runs.{Leaves, LeavesPiece};
+ghost use Rattle.run_ends.specs.Runs.{Leaves};
 ghost use Rattle.listing_log.specs.Plans.{IsPlan};
 ghost use Rattle.listing_log.specs.Putting.{IsPutToStop, IsPutPartly, IsSearchOf, GoesToNext, IsListingStop};
 ghost use Rattle.listing_log.specs.Logged.{MetAt, StoppedAt, TellsOn, IsListedIn};
@@ -15,9 +14,8 @@ use crate::{Listed, ListingPlan, Stop};
 use cert_text::{NoLog, TreeLog};
 use outer_store::{Sink, StoreFault};
 use point_query::Asker;
-use proof_text::put_letters;
 use rcc5_core::Position;
-use run_ends::put_line;
+use run_ends::put_world;
 use std::alloc::{AllocError, Global};
 use world_search::{Nodes, Search, Step, TableStep, is_spent, one_less, store_fault};
 
@@ -29,15 +27,6 @@ pub(crate) enum Met {
     Cut(Position),
     /// All nodes below the end are passed. The least node that is not below it, if there is one.
     End(Option<Position>),
-}
-
-// Puts the line of a world.
-fn put_world<W: Sink>(alloc: Global, out: &mut W, world: &Position) -> Result<(), StoreFault>
-    ensures { LeavesPiece result (world_line world.now) (W.state out.old) (W.state out.new) }
-{
-    let mut letters = Vec::new(alloc);
-    put_letters(&mut letters, world.rels())?;
-    put_line(alloc, out, &letters)
 }
 
 // What a search meets next, where nothing is logged.

@@ -7,7 +7,7 @@ use Rattle.std.proofs.lemmas.Bool.{eqb-true}
 use Rattle.outer_store.specs.declared.fault.StoreFault.{StoreFault}
 use Rattle.outer_store.specs.declared.fault.StoreFault.TheVariants.{Failed, NoMemory}
 use Rattle.outer_store.specs.Bytes.{GrownInPart, added}
-use Rattle.outer_store.specs.Contents.{Contents, OthersKept, emptied}
+use Rattle.outer_store.specs.Contents.{Contents}
 use Rattle.outer_store.specs.Faults.{Counts, Rose, IfFailed}
 use Rattle.outer_store.proofs.BytesLemmas.{added-added, GrownInPart-longer, GrownInPart-after}
 use Rattle.rcc5_core.specs.declared.Rel.{Rel}
@@ -17,7 +17,7 @@ use Rattle.world_model.specs.Node.{IsCut}
 use Rattle.run_ends.specs.declared.Status.{Status}
 use Rattle.run_ends.specs.declared.Status.TheVariants as status
 use Rattle.run_ends.specs.Ends.{world_line, complete_line}
-use Rattle.outer_store.specs.States.{StoreState, SinkState, IsQuiet}
+use Rattle.outer_store.specs.States.{StoreState, SinkState, IsQuiet, IsQuiet-joins}
 use Rattle.run_ends.specs.Runs.{File, file_under, HasFailed, AreKeptBut, IsHeld, AreWritten, Answered, ending_of, IsWriteCause, IsByCause, IsPutPart, IsCarriedOut, LeavesPiece}
 use Rattle.run_ends.proofs.EndLemmas.{none_written}
 use Rattle.command_line.specs.Requests.{AreApart}
@@ -27,23 +27,16 @@ use Rattle.listing_log.specs.declared.Stop.TheVariants as stop
 use Rattle.listing_log.specs.Plans.{IsStopOf, stop_place}
 use Rattle.listing_log.specs.Putting.{IsPutPartly}
 use Rattle.listing_log.specs.Logged.{IsCertLeft, IsListedWith}
+use Rattle.listing_log.proofs.LeftLemmas.{bytes_of, none_certified, cert_written, certified}
 use Rattle.listing_log.proofs.EndLemmas.{endless_stop}
 use Rattle.resume_token.specs.Token.{token_text}
 use Rattle.world_model.specs.Saturated.{count_of}
 use Rattle.part_rules.specs.Certs.{IsListingCert}
 use Rattle.listing_run.specs.Output.{last_line, listing_text, listing_end, token_under, written_names}
 use Rattle.listing_run.specs.Steps.{cut_of, status_at, IsCutEnded, IsEnded, plan_answers}
-use Rattle.listing_run.proofs.WrittenLemmas.{is_first, kept_more_left, kept_twice, failed_left, failed_right, written_both, files_apart, token_since}
-
--- what is made empty and then added to holds what was added
-pub made_anew : (old mid new : Option (List ℕ)) (bytes : List ℕ) → mid ≡ emptied old → new ≡ added mid bytes → new ≡ option_map (λ _. bytes) old
-made_anew None mid new bytes a b = b ∙ ap (λ told. added told bytes) a
-made_anew (Some held) mid new bytes a b = b ∙ ap (λ told. added told bytes) a
-
-pub others_twice : (name : List ℕ) (old mid new : Contents) → OthersKept name old mid → OthersKept name mid new → OthersKept name old new
-others_twice name old mid new a b other apart = b other apart ∙ a other apart
-
-pub ruleset write_rules = (made_anew, others_twice)
+use Rattle.run_ends.proofs.OneName.{kept_but_one}
+use Rattle.run_ends.proofs.WrittenLemmas.{kept_more_left, kept_twice, failed_left, failed_right, written_one, written_both}
+use Rattle.listing_run.proofs.FileLemmas.{files_apart, token_since}
 
 -- the status of a listing, by the count of its worlds
 begun_status : (rel : Rel) (rels : List Rel) (count : ℕ) → status_at (rel ∷ rels) None count ≡ status.Done
@@ -70,15 +63,11 @@ status_counted start (Some cut) worlds count e = refl
 status_counted start None [] count e = no_world_status start count e
 status_counted start None (world ∷ worlds) count e = some_world_status start world worlds count (λ zero. omega (arith, e, zero))
 
--- two calls that were both quiet
-quiet_twice : (one two three : StoreState) → IsQuiet one two → IsQuiet two three → IsQuiet one three
-quiet_twice one two three first second = (second.0 ∙ first.0, second.1 ∙ first.1)
-
 -- a cause behind a listing in which no call failed
 cause_from : (cert token : Option (List ℕ)) (store mid store' : StoreState) (old between new : SinkState) → IsQuiet store mid → between.faults ≡ old.faults
     → IsWriteCause (option_to_list token) mid store' between new → IsWriteCause (written_names cert token) store store' old new
 cause_from cert token store mid store' old between new quiet same cause = ⊎_elim
-    (λ put. inl (subst (λ (n : ℕ). Rose n new.faults) same put.0, quiet_twice store mid store' quiet put.1))
+    (λ put. inl (subst (λ (n : ℕ). Rose n new.faults) same put.0, IsQuiet-joins store mid store' quiet put.1))
     (λ write. inr (
       failed_right (option_to_list cert) (option_to_list token) store.writes store'.writes
           (subst (λ (counts : Counts). HasFailed (option_to_list token) counts store'.writes) quiet.1 write.0),
@@ -89,7 +78,7 @@ cause_from cert token store mid store' old between new quiet same cause = ⊎_el
 by_cause_from : (r : Result Status StoreFault) (cert token : Option (List ℕ)) (store mid store' : StoreState) (old between new : SinkState) → IsQuiet store mid → between.faults ≡ old.faults
     → AreKeptBut (option_to_list cert) store.held mid.held → IsByCause r (option_to_list token) mid store' between new → IsByCause r (written_names cert token) store store' old new
 by_cause_from (Ok s) cert token store mid store' old between new quiet same kept by_cause = record {
-  cause = (quiet_twice store mid store' quiet by_cause.cause.0, by_cause.cause.1 ∙ same);
+  cause = (IsQuiet-joins store mid store' quiet by_cause.cause.0, by_cause.cause.1 ∙ same);
   kept = kept_twice (option_to_list cert) (option_to_list token) store.held mid.held store'.held kept by_cause.kept;
 }
 by_cause_from (Err Failed) cert token store mid store' old between new quiet same kept by_cause = record {
@@ -97,7 +86,7 @@ by_cause_from (Err Failed) cert token store mid store' old between new quiet sam
   kept = kept_twice (option_to_list cert) (option_to_list token) store.held mid.held store'.held kept by_cause.kept;
 }
 by_cause_from (Err NoMemory) cert token store mid store' old between new quiet same kept by_cause = record {
-  cause = (quiet_twice store mid store' quiet by_cause.cause.0, by_cause.cause.1 ∙ same);
+  cause = (IsQuiet-joins store mid store' quiet by_cause.cause.0, by_cause.cause.1 ∙ same);
   kept = kept_twice (option_to_list cert) (option_to_list token) store.held mid.held store'.held kept by_cause.kept;
 }
 
@@ -107,15 +96,6 @@ listed_ending start (Some cut) worlds = refl
 listed_ending [] None [] = refl
 listed_ending [] None (world ∷ worlds) = refl
 listed_ending (rel ∷ rels) None worlds = refl
-
--- no bytes are no certificate of another listing
-none_certified : (cert : Option (List ℕ)) (held : Contents) (P : List ℕ → Type 0) → IfSome cert (λ name. IfSome (held name) (λ _. IfSome None P))
-none_certified None held P = tt
-none_certified (Some name) held P = by (held name)
-  where
-    by : (told : Option (List ℕ)) → IfSome told (λ _. IfSome None P)
-    by None = tt
-    by (Some bytes) = tt
 
 -- where nothing ends a plan, its listing stops at its cut
 pub stop_cut : (plan : ListingPlan) (stop : Stop) → plan.end ≡ None → IsStopOf plan stop → IsCut plan.problem plan.start plan.nodes plan.worlds (cut_of stop)
@@ -184,34 +164,6 @@ pub stopped : (r : Result Status StoreFault) (fault : StoreFault) (plan : Listin
     → IsListedWith plan cert (Err fault) store store' old new → IsCarriedOut (plan_answers plan cert token) r (written_names cert token) store store' old new
 stopped r fault plan cert token store store' old new e endless listed =
     subst (λ x. IsCarriedOut (plan_answers plan cert token) x (written_names cert token) store store' old new) (sym e) (stopped_by fault plan cert token store store' old new endless listed)
-
--- what the name of a certificate holds
-abbrev bytes_of : Option (List ℕ) → Contents → Option (List ℕ)
-bytes_of None held = None
-bytes_of (Some name) held = held name
-
-cert_written : (p : Problem) (from : List Rel) (to : Option (List Rel)) (cert : Option (List ℕ)) (old new : Contents) → IsCertLeft p from to cert old new → AreKeptBut (option_to_list cert) old new
-    → AreWritten (file_under cert (bytes_of cert new)) old new
-cert_written p from to None old new left kept = record { each = All-nil (IsHeld old new); others = kept }
-cert_written p from to (Some name) old new left kept = record {
-  each = All-cons (IsHeld old new) (record { name = name; bytes = new name }) [] (refl, by (old name) (new name) left) (All-nil (IsHeld old new));
-  others = kept;
-}
-  where
-    by : (a b : Option (List ℕ)) → IfSome a (λ _. (bytes : List ℕ) × (b ≡ Some bytes) × ((worlds : List (List Rel)) → IsListing p from to worlds → IsListingCert p from to worlds bytes))
-        → IfSome a (λ _. IsTrue (is_some b))
-    by None b h = tt
-    by (Some held) b h = rw h.1 refl
-
-certified : (p : Problem) (from : List Rel) (to : Option (List Rel)) (worlds : List (List Rel)) (cert : Option (List ℕ)) (old new : Contents) → IsListing p from to worlds
-    → IsCertLeft p from to cert old new → IfSome cert (λ name. IfSome (old name) (λ _. IfSome (bytes_of cert new) (IsListingCert p from to worlds)))
-certified p from to worlds None old new exactly left = tt
-certified p from to worlds (Some name) old new exactly left = by (old name) (new name) left
-  where
-    by : (a b : Option (List ℕ)) → IfSome a (λ _. (bytes : List ℕ) × (b ≡ Some bytes) × ((worlds : List (List Rel)) → IsListing p from to worlds → IsListingCert p from to worlds bytes))
-        → IfSome a (λ _. IfSome b (IsListingCert p from to worlds))
-    by None b h = tt
-    by (Some held) b h = subst (λ (told : Option (List ℕ)). IfSome told (IsListingCert p from to worlds)) (sym h.1) (h.2 worlds exactly)
 
 -- a listing that is put to its stop and written, and then ended
 pub carried : (r : Result Status StoreFault) (plan : ListingPlan) (cert token : Option (List ℕ)) (stop : Stop) (count : ℕ) (store mid store' : StoreState) (old between new : SinkState)
@@ -298,24 +250,16 @@ ended_cut r plan cut count name store store' old new ended = record {
   put = ended.put;
   written = by r ended.written;
   refused = ended.refused;
-  by_cause = record { cause = ended.cause; kept = kept };
+  by_cause = record { cause = ended.cause; kept = kept_but_one name store.held store'.held ended.others };
 }
   where
-    kept : AreKeptBut (name ∷ []) store.held store'.held
-    kept other apart = ended.others other (λ e. apart (subst (Contains (name ∷ [])) (sym e) (is_first name [])))
-
     tells : (told : Option (List ℕ)) → IfSome told (λ _. IsTrue (is_some (option_map (λ _. token_text plan.problem cut) told)))
     tells None = tt
     tells (Some bytes) = refl
 
     by : (r : Result Status StoreFault) → IfOk r (λ _. store'.held name ≡ option_map (λ _. token_text plan.problem cut) (store.held name))
         → IfOk r (λ _. AreWritten (token_under plan.problem (Some name) (Some cut) store.held) store.held store'.held)
-    by (Ok s) written = record {
-      each =
-          All-cons (IsHeld store.held store'.held) (record { name = name; bytes = option_map (λ _. token_text plan.problem cut) (store.held name) }) [] (written, tells (store.held name))
-          (All-nil (IsHeld store.held store'.held));
-      others = kept;
-    }
+    by (Ok s) written = written_one name (option_map (λ _. token_text plan.problem cut) (store.held name)) store.held store'.held written (tells (store.held name)) (kept_but_one name store.held store'.held ended.others)
     by (Err e) written = tt
 
 pub ruleset end_rules = (ended_whole, ended_cut)

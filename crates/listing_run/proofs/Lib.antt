@@ -2,4 +2,4 @@ pub mod AskedLemmas
 pub mod CarryLemmas
 pub mod ChainLemmas
 pub mod EndLemmas
-pub mod WrittenLemmas
+pub mod FileLemmas

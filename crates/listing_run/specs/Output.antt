@@ -13,9 +13,9 @@ use Rattle.resume_token.specs.Token.{token_text, token_result}
 use Rattle.world_model.specs.Saturated.{count_of}
 use Rattle.run_ends.specs.declared.Status.{Status}
 use Rattle.run_ends.specs.declared.Status.TheVariants.{Done, RefusedText, Cut, NoWorld, RefusedToken}
-use Rattle.run_ends.specs.Ends.{line_of, world_line, complete_line, end_line}
+use Rattle.run_ends.specs.Ends.{line_of, world_line, complete_line}
 use Rattle.run_ends.specs.Reads.{AreHeld}
-use Rattle.run_ends.specs.Runs.{File, file_under}
+use Rattle.run_ends.specs.Runs.{File, file_under, IsEndAlone}
 use Rattle.command_line.specs.declared.request.AlignArgs.{AlignArgs}
 use Rattle.command_line.specs.declared.request.Request.TheVariants.{Align}
 use Rattle.command_line.specs.Requests.{Names, names_of}
@@ -78,7 +78,7 @@ plan_by (Err fault) nodes worlds token = Err (RefusedText fault.0 fault.1)
 -- what comes of a plan: its listing; and of a refusal: its last line
 abbrev pub IsPlanAnswer : Result ListingPlan Status → Option (List ℕ) → Option (List ℕ) → Contents → Status → List ℕ → List File → Type 0
 IsPlanAnswer (Ok plan) cert token held status text files = IsListed plan cert token held status text files
-IsPlanAnswer (Err refusal) cert token held status text files = (status ≡ refusal) × (text ≡ end_line refusal) × (files ≡ [])
+IsPlanAnswer (Err refusal) cert token held status text files = IsEndAlone refusal status text files
 
 -- what a listing comes to that is asked for: a plan, or how the run ends that is refused, where its names hold what the store tells
 pub record ComesTo (args : AlignArgs) (held : Contents) (outcome : Result ListingPlan Status) : Type 0 where

@@ -1,18 +1,16 @@
 -- The steps of a listing: a plan is read, and then carried out.
-use Rattle.std.specs.Prelude.{◌≡◌, ℕ, ◌==◌, ◌&&◌, if◌then◌else◌, List, [], ◌∷◌, length, Option, None, Some, option_map, IfNone, IfOk, OnErr, Result, Ok, Err}
+use Rattle.std.specs.Prelude.{◌≡◌, ℕ, ◌==◌, ◌&&◌, if◌then◌else◌, List, [], ◌∷◌, length, Option, None, Some, option_map, IfNone, IfOk, OnErr, Result}
 use Rattle.std.specs.Option.{option_to_list}
 use Rattle.outer_store.specs.Bytes.{GrownInPart, added}
-use Rattle.outer_store.specs.Contents.{Contents, OthersKept}
+use Rattle.outer_store.specs.Contents.{OthersKept}
 use Rattle.outer_store.specs.Faults.{IfFailed}
 use Rattle.outer_store.specs.declared.fault.StoreFault.{StoreFault}
 use Rattle.rcc5_core.specs.declared.Rel.{Rel}
 use Rattle.world_model.specs.Problem.{Problem}
 use Rattle.constraint_set.specs.Facts.{IsAsRead}
-use Rattle.resume_token.specs.declared.TokenKind.{TokenKind}
-use Rattle.resume_token.specs.Token.{token_text, token_result}
+use Rattle.resume_token.specs.Token.{token_text}
 use Rattle.run_ends.specs.declared.Status.{Status}
-use Rattle.run_ends.specs.declared.Status.TheVariants.{Done, Cut, NoWorld, RefusedToken, NoMemory}
-use Rattle.run_ends.specs.Reads.{ComesOf, IsWithout}
+use Rattle.run_ends.specs.declared.Status.TheVariants.{Done, Cut, NoWorld}
 use Rattle.outer_store.specs.States.{StoreState, SinkState, IsQuiet}
 use Rattle.run_ends.specs.Runs.{Answers, AreWritten, IsWriteCause, IsByCause}
 use Rattle.command_line.specs.Requests.{AreApart}
@@ -21,28 +19,6 @@ use Rattle.listing_log.specs.declared.Stop.{Stop}
 use Rattle.listing_log.specs.declared.Stop.TheVariants as stop
 use Rattle.listing_log.specs.Plans.{IsPlan}
 use Rattle.listing_run.specs.Output.{token_under, IsListed, cut_line, last_line}
-
--- a start, or how a run ends whose token is refused
-abbrev pub start_by : Result (List Rel) TokenKind → Result (List Rel) Status
-start_by (Ok start) = Ok start
-start_by (Err kind) = Err (RefusedToken kind)
-
-abbrev pub start_in : Problem → List ℕ → Result (List Rel) Status
-start_in p bytes = start_by (token_result p bytes)
-
--- how a run ends whose token has this fault, or that found no memory
-abbrev pub token_end : Option TokenKind → Status
-token_end None = NoMemory
-token_end (Some kind) = RefusedToken kind
-
--- a start: the empty position, or what comes of the token that is given
-abbrev pub IsStart : Contents → Problem → Option (List ℕ) → List Rel → Type 0
-IsStart held p None start = start ≡ []
-IsStart held p (Some name) start = ComesOf held name (start_in p) (Ok start)
-
-abbrev pub IsWithoutStart : Problem → Option (List ℕ) → Status → StoreState → StoreState → Type 0
-IsWithoutStart p None status one other = ⊥
-IsWithoutStart p (Some name) status one other = IsWithout name (start_in p) status one other
 
 -- a plan without an end that can be carried out, with the names for its certificate and its token
 pub record IsListingReady (plan : ListingPlan) (cert token : Option (List ℕ)) : Type 0 where

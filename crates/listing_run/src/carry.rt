@@ -1,15 +1,10 @@
 //! A plan carried out: its listing, the token of its cut, and the last line.
-ghost use Rattle.std.specs.Prelude.{◌≡◌, ◌≤◌, ◌++◌, [], ◌∷◌, length, None, Some, option_map, string_bytes, IfOk, IfNone, OnOk};
-ghost use Rattle.outer_store.specs.Bytes.{GrownInPart, added};
-ghost use Rattle.outer_store.specs.Contents.{OthersKept};
-ghost use Rattle.outer_store.specs.Faults.{Rose, IfFailed};
+ghost use Rattle.std.specs.Prelude.{◌≡◌, ◌≤◌, ◌++◌, [], ◌∷◌, length, None, string_bytes, IfOk, IfNone};
 ghost use Rattle.world_model.specs.Problem.{pair_count};
 ghost use Rattle.world_model.specs.Node.{IsCut};
 ghost use Rattle.constraint_set.specs.Facts.{IsAsRead};
-ghost use Rattle.resume_token.specs.Token.{token_text};
 ghost use Rattle.listing_run.specs.Output.{cut_line, written_names};
 ghost use Rattle.run_ends.specs.Ends.{complete_line};
-ghost use Rattle.outer_store.specs.States.{IsQuiet};
 ghost use Rattle.run_ends.specs.Runs.{LeavesPiece, IsCarriedOut};
 ghost use Rattle.listing_run.specs.Steps.{cut_of, status_at, IsListingReady, IsCutEnded, IsEnded, plan_answers};
 
@@ -18,8 +13,7 @@ use constraint_set::Problem;
 use listing_log::{Listed, ListingPlan, Stop, put_listing};
 use outer_store::{Sink, Store, StoreFault};
 use rcc5_core::Position;
-use resume_token::print_token;
-use run_ends::{Status, put_complete, put_line};
+use run_ends::{Status, put_complete, put_line, write_token};
 use std::alloc::{AllocError, Global};
 
 fn cut_words(alloc: Global, count: u64) -> Result<String, AllocError>
@@ -51,35 +45,6 @@ fn end_whole<W: Sink>(
 {
     put_complete(alloc, out, count)?;
     Ok(whole_status(start, count))
-}
-
-// Makes a name hold these bytes alone.
-#[tactic(auto, using(crate::proofs::CarryLemmas::write_rules))]
-fn write_file<S: Store>(store: &mut S, name: &str, bytes: &[u8]) -> Result<(), StoreFault>
-    ensures ok { OnOk result ((S.state store.new).held name.now ≡ option_map (λ _. bytes.now) ((S.state store.old).held name.now)) }
-    ensures others { OthersKept name.now (S.state store.old).held (S.state store.new).held }
-    ensures cause { IfFailed result (Rose ((S.state store.old).writes name.now) ((S.state store.new).writes name.now)) (IsQuiet (S.state store.old) (S.state store.new)) }
-{
-    store.create(name)?;
-    store.append(name, bytes)
-}
-
-// Writes the token of a position.
-fn write_token<S: Store>(
-    alloc: Global,
-    store: &mut S,
-    name: &str,
-    problem: &Problem,
-    position: &Position,
-) -> Result<(), StoreFault>
-    requires problem { IsAsRead problem.now }
-    requires position { length position.now ≤ pair_count problem.now }
-    ensures ok { OnOk result ((S.state store.new).held name.now ≡ option_map (λ _. token_text problem.now position.now) ((S.state store.old).held name.now)) }
-    ensures others { OthersKept name.now (S.state store.old).held (S.state store.new).held }
-    ensures cause { IfFailed result (Rose ((S.state store.old).writes name.now) ((S.state store.new).writes name.now)) (IsQuiet (S.state store.old) (S.state store.new)) }
-{
-    let token = print_token(alloc, problem, position)?;
-    write_file(store, name, &token)
 }
 
 // Writes the token of a cut, and then puts the last line.

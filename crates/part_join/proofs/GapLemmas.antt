@@ -1,9 +1,8 @@
 -- The least beginning above a position, and the first gap.
-use Rattle.std.proofs.Common.{◌≡◌, ℕ, ◌+◌, ◌<◌, ◌≤◌, length, take, get_or, Bool, true, false, not, ◌&&◌, ◌⊎◌, inl, inr, List, [], ◌∷◌, ◌++◌, map, refl, sym, ap, ◌∙◌, subst, true≢false, IsTrue}
+use Rattle.std.proofs.Common.{◌≡◌, Bool, true, false, not, ◌&&◌, ◌⊎◌, inl, inr, List, [], ◌∷◌, ◌++◌, map, refl, sym, ◌∙◌, subst, true≢false, IsTrue}
 use Rattle.std.specs.Prelude.{Option, Some, None, IfSome, Contains, Err}
 use Rattle.std.proofs.lemmas.Bool.{not-true, not_from_false, and_from, and_parts, and_left}
-use Rattle.std.proofs.lemmas.List.{take_more, take_all}
-use Rattle.std.proofs.lemmas.List.Elements.{All-contains, All-contains_itself, All-weaker, All-nil, All-push}
+use Rattle.std.proofs.lemmas.List.Elements.{All-contains, All-contains_itself, All-weaker, All-push}
 use Rattle.rcc5_core.specs.declared.Rel.{Rel}
 use Rattle.world_model.specs.Problem.{Problem}
 use Rattle.world_model.specs.Listing.{is_below, is_before_end}
@@ -23,10 +22,6 @@ NoneBetween r next q = IsTrue (not (is_below r q.from && is_before_end q.from ne
 -- the beginning of one of some parts
 begins_in : (parts : List Part) (q : Part) → In q parts → Contains (map (λ q. q.from) parts) q.from
 begins_in parts q i = contains_from_in (In-map (λ (q : Part). q.from) i)
-
--- of no parts none begins
-pub next_of_none : (r : List Rel) → IsNextBeginning [] r None
-next_of_none r = record { none = All-nil (NoneBetween r None); there = tt }
 
 -- what begins before the least beginning so far is the least
 pub next_here : (parts : List Part) (q : Part) (r : List Rel) (least : Option (List Rel)) → IsTrue (is_below r q.from) → IsTrue (is_before_end q.from least) →
@@ -114,15 +109,6 @@ lower_here q r m least b says passes is parts next =
 pub lower_kept : (q : Part) (r : List Rel) (least : Option (List Rel)) (b : Bool) → b ≡ (is_below r q.from && is_before_end q.from least) → b ≡ false →
     (parts : List Part) → IsNextBeginning parts r least → IsNextBeginning (parts ++ q ∷ []) r least
 lower_kept q r least b says fails parts next = next_kept parts q r least (sym says ∙ fails) next
-
--- a turn over the parts, and the last
-pub next_step : (parts : List Part) (place : ℕ) (q : Part) (r : List Rel) (lower : Option (List Rel)) → place < length parts → q ≡ get_or parts place q →
-    IsNextBeginning (take place parts ++ q ∷ []) r lower → IsNextBeginning (take (place + 1) parts) r lower
-next_step parts place q r lower within is next =
-    subst (λ parts. IsNextBeginning parts r lower) (sym (take_more parts place q within ∙ ap (λ q. take place parts ++ q ∷ []) (sym is))) next
-
-pub next_all : (parts : List Part) (place : ℕ) (r : List Rel) (least : Option (List Rel)) → length parts ≤ place → IsNextBeginning (take place parts) r least → IsNextBeginning parts r least
-next_all parts place r least past next = subst (λ parts. IsNextBeginning parts r least) (take_all place parts past) next
 
 -- how the joining ends where no part that is left goes on
 pub gap_is : (p : Problem) (all left next shown : List Part) (r : List Rel) (worlds : List (List Rel)) (fault : JoinFault) → IsSwept p all left r worlds →

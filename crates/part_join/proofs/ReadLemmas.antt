@@ -1,6 +1,6 @@
 -- What is read of the file under a name, and of the files under names, one after the other.
 use Rattle.std.proofs.Common.{◌≡◌, ℕ, suc, ◌+◌, ◌<◌, ◌++◌, List, [], ◌∷◌, map, length, take, drop, get_or, refl, sym, ap, ◌∙◌, subst, arith}
-use Rattle.std.specs.Prelude.{Option, Some, None, Result, Ok, Err, IfOk, Contains, ⊤}
+use Rattle.std.specs.Prelude.{Option, Some, None, Result, Ok, Err, Contains, ⊤}
 use Rattle.std.specs.List.{AllZip}
 use Rattle.std.proofs.lemmas.List.{map-append, map_more, length-map, length-take-le}
 use Rattle.std.proofs.Math.Seq.{split_at}
@@ -13,15 +13,13 @@ use Rattle.world_model.proofs.Members.{In-map, In-get_or, contains_from_in}
 use Rattle.world_model.specs.Problem.{Problem}
 use Rattle.cert_reader.specs.Bytes.{MayHold, ForSome}
 use Rattle.cert_reader.specs.Reading.{reading}
-use Rattle.cert_rules.specs.Laws.{VerdictIsSo}
-use Rattle.cert_check.specs.Answers.{verdict_of, IsAnswerOf}
-use Rattle.cert_check.specs.Answers as check
+use Rattle.cert_check.specs.Answers.{IsAnswerOf}
 use Rattle.cert_check.specs.declared.accepted.Accepted.{Accepted}
 use Rattle.cert_check.specs.declared.accepted.Accepted.TheVariants.{Listing, Claims}
 use Rattle.cert_check.specs.declared.fault.CheckFault.{CheckFault}
 use Rattle.cert_check.specs.declared.fault.CheckFault.TheVariants as unread
 use Rattle.part_rules.specs.declared.PartKind.{PartKind}
-use Rattle.part_join.specs.Parts.{Part, IsListed}
+use Rattle.part_join.specs.Parts.{Part}
 use Rattle.part_join.specs.Joining.{part_by, part_in, AreParts, IsJoin, MayHoldAll, SomeRose, IfReadFailed, IfReadFault}
 use Rattle.part_join.specs.Reads.{as_part, IsPartOf, IsUnread, IsReadOf}
 use Rattle.part_join.specs.Sweeping.{IsSweepOf}
@@ -41,21 +39,6 @@ part_tells p number bytes (Err unread.NoMemory) h = tt
 pub part_told : (p : Problem) (number : ℕ) (told : Option (List ℕ)) (said : Result Accepted CheckFault) → ForSome (MayHold told) (λ bytes. IsAnswerOf p (reading bytes) said) →
     ForSome (MayHold told) (λ bytes. IsPartOf p number bytes (as_part number said))
 part_told p number told said h = (h.0, (h.1.0, part_tells p number h.0 said h.1.1))
-
--- it lists its worlds
-pub part_listed : (p : Problem) (number : ℕ) (said : Result Accepted CheckFault) → IfOk said (λ said. VerdictIsSo p (verdict_of said)) → IfOk (as_part number said) (IsListed p)
-part_listed p number (Ok (Listing from to worlds)) h = h
-part_listed p number (Ok (Claims claims)) h = tt
-part_listed p number (Err fault) h = tt
-
--- a read failed where it failed for the check
-pub part_cause : (number : ℕ) (said : Result Accepted CheckFault) (failed other : Type 0) → check.IfReadFault said failed other → IfReadFault (as_part number said) failed other
-part_cause number (Ok (Listing from to worlds)) failed other h = h
-part_cause number (Ok (Claims claims)) failed other h = h
-part_cause number (Err (unread.Text line kind)) failed other h = h
-part_cause number (Err (unread.Rejected line kind)) failed other h = h
-part_cause number (Err unread.ReadFault) failed other h = h
-part_cause number (Err unread.NoMemory) failed other h = h
 
 -- some bytes that a name may hold
 some_file : (told : Option (List ℕ)) → ForSome (MayHold told) (λ bytes. ⊤)
@@ -79,10 +62,6 @@ zip_append R (x ∷ xs) (y ∷ ys) us vs h k = (h.0, zip_append R xs ys us vs h.
 -- files of some names are certificates of these parts
 abbrev pub IsReadSoFar : Problem → Contents → List (List ℕ) → List Part → Type 0
 IsReadSoFar p held names parts = ForSome (MayHoldAll held names) (λ files. AreParts p files parts)
-
--- of no names there are none
-pub read_none : (p : Problem) (held : Contents) → IsReadSoFar p held [] []
-read_none p held = ([], (tt, refl))
 
 -- one more part is read
 pub read_more : (p : Problem) (held : Contents) (names : List (List ℕ)) (name : List ℕ) (number : ℕ) (parts : List Part) (q : Part) → IsReadSoFar p held names parts →
@@ -157,23 +136,26 @@ pub joined_not : (p : Problem) (held : Contents) (names : List (List ℕ)) (faul
 joined_not p held names fault h = (h.0, (h.1.0, unread_is p h.0 fault h.1.1))
 
 -- a turn over the names: the name at a place is read as a part
-pub step_read : {N : Type 0} (f : N → List ℕ) (p : Problem) (held mid : Contents) (names : List N) (place : ℕ) (name : N) (text : List ℕ) (number : ℕ) (parts more : List Part) (q : Part) →
-    place < length names → name ≡ get_or names place name → text ≡ f name → mid ≡ held → more ≡ parts ++ q ∷ [] → IsReadSoFar p held (map f (take place names)) parts →
-    ForSome (MayHold (mid text)) (λ bytes. IsPartOf p number bytes (Ok q)) → IsReadSoFar p held (map f (take (place + 1) names)) more
-step_read f p held mid names place name text number parts more q within is told same are so_far one =
+pub step_read : {N : Type 0} (f : N → List ℕ) (p checked : Problem) (held mid : Contents) (names : List N) (place : ℕ) (name : N) (text : List ℕ) (number : ℕ) (parts more : List Part) (q : Part) →
+    checked ≡ p → place < length names → name ≡ get_or names place name → text ≡ f name → mid ≡ held → more ≡ parts ++ q ∷ [] → IsReadSoFar p held (map f (take place names)) parts →
+    ForSome (MayHold (mid text)) (λ bytes. IsPartOf checked number bytes (Ok q)) → IsReadSoFar p held (map f (take (place + 1) names)) more
+step_read f p checked held mid names place name text number parts more q one_problem within is told same are so_far one =
     rw (are, map_more f names place name within ∙ ap (λ name. map f (take place names) ++ f name ∷ []) (sym is))
     (read_more p held (map f (take place names)) (f name) number parts q so_far
-    (subst (λ text. ForSome (MayHold (held text)) (λ bytes. IsPartOf p number bytes (Ok q))) told (subst (λ (held : Contents). ForSome (MayHold (held text)) (λ bytes. IsPartOf p number bytes (Ok q))) same one)))
+    (subst (λ p. ForSome (MayHold (held (f name))) (λ bytes. IsPartOf p number bytes (Ok q))) one_problem
+    (subst (λ text. ForSome (MayHold (held text)) (λ bytes. IsPartOf checked number bytes (Ok q))) told
+    (subst (λ (held : Contents). ForSome (MayHold (held text)) (λ bytes. IsPartOf checked number bytes (Ok q))) same one))))
 
 -- or the reading ends there
-pub step_ended : {N : Type 0} (f : N → List ℕ) (p : Problem) (held mid : Contents) (names : List N) (place : ℕ) (name : N) (text : List ℕ) (parts : List Part) (fault : JoinFault) →
-    place < length names → name ≡ get_or names place name → text ≡ f name → mid ≡ held → IsReadSoFar p held (map f (take place names)) parts →
-    ForSome (MayHold (mid text)) (λ bytes. IsPartOf p (place + 1) bytes (Err fault)) → ForSome (MayHoldAll held (map f names)) (λ files. IsUnread p files fault)
-step_ended {N} f p held mid names place name text parts fault within is told same so_far one =
+pub step_ended : {N : Type 0} (f : N → List ℕ) (p checked : Problem) (held mid : Contents) (names : List N) (place : ℕ) (name : N) (text : List ℕ) (parts : List Part) (fault : JoinFault) →
+    checked ≡ p → place < length names → name ≡ get_or names place name → text ≡ f name → mid ≡ held → IsReadSoFar p held (map f (take place names)) parts →
+    ForSome (MayHold (mid text)) (λ bytes. IsPartOf checked (place + 1) bytes (Err fault)) → ForSome (MayHoldAll held (map f names)) (λ files. IsUnread p files fault)
+step_ended {N} f p checked held mid names place name text parts fault one_problem within is told same so_far one =
     subst (λ names. ForSome (MayHoldAll held names) (λ files. IsUnread p files fault)) (sym split)
     (read_ended p held (map f (take place names)) (f name) (map f (drop (suc place) names)) (place + 1) parts fault numbered so_far
-    (subst (λ text. ForSome (MayHold (held text)) (λ bytes. IsPartOf p (place + 1) bytes (Err fault))) told
-    (subst (λ (held : Contents). ForSome (MayHold (held text)) (λ bytes. IsPartOf p (place + 1) bytes (Err fault))) same one)))
+    (subst (λ p. ForSome (MayHold (held (f name))) (λ bytes. IsPartOf p (place + 1) bytes (Err fault))) one_problem
+    (subst (λ text. ForSome (MayHold (held text)) (λ bytes. IsPartOf checked (place + 1) bytes (Err fault))) told
+    (subst (λ (held : Contents). ForSome (MayHold (held text)) (λ bytes. IsPartOf checked (place + 1) bytes (Err fault))) same one))))
   where
     split : map f names ≡ map f (take place names) ++ f name ∷ map f (drop (suc place) names)
     split =

@@ -1,8 +1,7 @@
 -- What is joined of parts goes on from part to part, and where none goes on is the gap.
-use Rattle.std.proofs.Common.{◌≡◌, ℕ, suc, ◌<◌, length, take, drop, get_or, Bool, true, false, not, ◌⊎◌, inl, inr, List, [], ◌∷◌, ◌++◌, refl, sym, ap, ◌∙◌, subst, true≢false, IsTrue, arith}
+use Rattle.std.proofs.Common.{◌≡◌, ℕ, suc, ◌<◌, length, take, drop, get_or, Bool, true, false, not, ◌⊎◌, inl, inr, List, [], ◌∷◌, ◌++◌, refl, sym, ap, ◌∙◌, subst, true≢false, IsTrue}
 use Rattle.std.specs.Prelude.{Option, Some, None, filter, Contains, All, Result, Ok, Err, OnOk, is_ok, if◌then◌else◌}
 use Rattle.std.specs.List.{remove}
-use Rattle.std.proofs.lemmas.List.{length-append}
 use Rattle.std.proofs.Math.Seq.{split_at}
 use Rattle.std.proofs.lemmas.Bool.{not-true, not_from_false}
 use Rattle.std.proofs.lemmas.List.Elements.{All-contains}
@@ -138,10 +137,6 @@ appended (Err fault) new old kept more h same = tt
 -- where the joining begins
 pub swept_begin : (p : Problem) (all left : List Part) (reach : List Rel) (worlds : List (List Rel)) → left ≡ all → reach ≡ [] → worlds ≡ [] → IsSwept p all left reach worlds
 swept_begin p all left reach worlds same start none = rw (same, start, none) (swept_start p all)
-
--- one part less is left
-pub taken_less : (q : Part) (old new : List Part) → IsTaken q old new → length new < length old
-taken_less q old new taken = rw (taken.was, taken.is, length-append taken.before (q ∷ taken.after), length-append taken.before taken.after) (omega arith)
 
 -- the same of a part that was taken apart
 pub swept_on : (p : Problem) (all left next : List Part) (r end : List Rel) (worlds more : List (List Rel)) (q own : Part) → own ≡ q → All (IsListed p) all →

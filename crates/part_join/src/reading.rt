@@ -13,7 +13,7 @@ ghost use Rattle.part_join.specs.Reads.{fault_of, as_part, IsPartOf, IsReadOf};
 
 use crate::fault::JoinFault;
 use crate::part::Part;
-use cert_check::{Accepted, CheckFault, check};
+use cert_check::{Accepted, CheckFault, Checks};
 use cert_reader::CertTextKind;
 use constraint_set::Problem;
 use outer_store::{Store, StoreReader};
@@ -61,34 +61,34 @@ fn as_part(number: u64, said: Result<Accepted, CheckFault>) -> Result<Part, Join
 
 // What a check says of the file under a name.
 fn check_under<S: Store>(
-    alloc: Global,
-    problem: &Problem,
+    checks: &mut Checks,
     store: &mut S,
     name: &str,
 ) -> Result<Accepted, CheckFault>
-    ensures answer { ForSome (MayHold ((S.state store.old).held name.now)) (λ bytes. IsAnswerOf problem.now (reading bytes) result) }
-    ensures so { IfOk result (λ said. VerdictIsSo problem.now (verdict_of said)) }
+    ensures answer { ForSome (MayHold ((S.state store.old).held name.now)) (λ bytes. IsAnswerOf checks.old (reading bytes) result) }
+    ensures so { IfOk result (λ said. VerdictIsSo checks.old (verdict_of said)) }
     ensures contents { (S.state store.new).held ≡ (S.state store.old).held }
     ensures cause { IfUnread result (Rose ((S.state store.old).reads name.now) ((S.state store.new).reads name.now)) (IsQuiet (S.state store.old) (S.state store.new)) }
+    ensures problem { checks.new ≡ checks.old }
 {
     let mut reader = StoreReader::new(store, name);
-    check(alloc, problem, &mut reader)
+    checks.check(&mut reader)
 }
 
 // The part that the file of a number, which a name holds, is a certificate of.
 fn part_under<S: Store>(
-    alloc: Global,
-    problem: &Problem,
+    checks: &mut Checks,
     store: &mut S,
     number: u64,
     name: &str,
 ) -> Result<Part, JoinFault>
-    ensures answer { ForSome (MayHold ((S.state store.old).held name.now)) (λ bytes. IsPartOf problem.now number bytes result) }
-    ensures listed { IfOk result (IsListed problem.now) }
+    ensures answer { ForSome (MayHold ((S.state store.old).held name.now)) (λ bytes. IsPartOf checks.old number bytes result) }
+    ensures listed { IfOk result (IsListed checks.old) }
     ensures contents { (S.state store.new).held ≡ (S.state store.old).held }
     ensures cause { IfReadFault result (Rose ((S.state store.old).reads name.now) ((S.state store.new).reads name.now)) (IsQuiet (S.state store.old) (S.state store.new)) }
+    ensures problem { checks.new ≡ checks.old }
 {
-    as_part(number, check_under(alloc, problem, store, name))
+    as_part(number, check_under(checks, store, name))
 }
 
 /// The parts that the files under some names are certificates of, one each, or the first that is none.
@@ -103,15 +103,10 @@ pub(crate) fn read_parts<S: Store>(
     ensures contents { (S.state store.new).held ≡ (S.state store.old).held }
     ensures cause { IfReadFault result (SomeRose (map string_bytes names.now) (S.state store.old).reads (S.state store.new).reads) (IsQuiet (S.state store.old) (S.state store.new)) }
 {
+    let mut checks = Checks::new(alloc, problem)?;
     let mut parts = Vec::new(alloc);
     for place in 0..names.len() {
-        match part_under(
-            alloc,
-            problem,
-            store,
-            place as u64 + 1,
-            names[place].as_str(),
-        ) {
+        match part_under(&mut checks, store, place as u64 + 1, names[place].as_str()) {
             Ok(part) => parts.push(part)?,
             Err(fault) => return Err(fault),
         }

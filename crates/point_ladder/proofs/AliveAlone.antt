@@ -15,7 +15,8 @@ use Rattle.world_model.specs.Alive.{allowed, IsAlive}
 use Rattle.world_model.specs.Trial.{points_by_trial}
 use Rattle.point_ladder.specs.declared.bounds.Bounds.{Bounds}
 use Rattle.point_ladder.specs.Bounds.{bound_to, HoldsPoints}
-use Rattle.point_ladder.specs.Ladders.{LeadsOn, IsFrame}
+use Rattle.point_frames.specs.Frames.{LeadsOn}
+use Rattle.point_ladder.specs.Ladders.{IsFrame}
 use Rattle.point_ladder.specs.Alone.{IsAliveAlone, AreAliveAlone}
 use Rattle.world_model.proofs.Narrowed.{forced_only, only_some, only_inside}
 use Rattle.point_ladder.proofs.AllowsSame.{same_back, alive_same}

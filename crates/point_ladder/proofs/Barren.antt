@@ -25,7 +25,8 @@ use Rattle.point_ladder.specs.declared.ladder.Ladder.TheInside.{Inside}
 use Rattle.point_ladder.specs.declared.stretches.Stretch.{Stretch}
 use Rattle.point_ladder.specs.Stretches.{stretch_at, HasFrames, IsInForce}
 use Rattle.point_ladder.specs.Bounds.{IsAliveIn}
-use Rattle.point_ladder.specs.Ladders.{Satisfies, AreRegionsMet, left_at, IsAliveFrame, LeadsOn, IsNarrowed, IsFrame, ShowsPair, BeginsNone}
+use Rattle.point_frames.specs.Frames.{Satisfies, AreRegionsMet, left_at, IsAliveFrame, LeadsOn, IsNarrowed}
+use Rattle.point_ladder.specs.Ladders.{IsFrame, ShowsPair, BeginsNone}
 use Rattle.point_ladder.specs.Barren.{with_narrowings, IsBarren, IsFreeAt, IsStand, LiesNone, AreNoneBy}
 use Rattle.point_ladder.proofs.Narrower.{IsNarrower, narrowings_of}
 use Rattle.point_ladder.proofs.Served.{alive_here, alive_next, frame_next, holds_next}

@@ -23,7 +23,8 @@ use Rattle.world_model.proofs.PointNarrowings.{worlds_stay}
 use Rattle.point_table.specs.Points.{AreAllowed}
 use Rattle.point_ladder.specs.declared.bounds.Bounds.{Bounds}
 use Rattle.point_ladder.specs.Bounds.{bounds_of, bound_to, HoldsPoints, IsAliveIn, AreBounds}
-use Rattle.point_ladder.specs.Ladders.{LeadsOn, IsNarrowed, IsFrame, ShowsPair, LadderState, IsBoundOf}
+use Rattle.point_frames.specs.Frames.{LeadsOn, IsNarrowed}
+use Rattle.point_ladder.specs.Ladders.{IsFrame, ShowsPair, LadderState, IsBoundOf}
 use Rattle.world_model.proofs.Narrowed.{forced_only, only_some, only_inside}
 use Rattle.point_ladder.proofs.AllowsSame.{AllowsSame, alive_same, point_same, frame_same}
 use Rattle.point_ladder.proofs.Served.{holds_all, frame_next, holds_next, alive_next}

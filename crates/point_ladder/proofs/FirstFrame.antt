@@ -14,8 +14,9 @@ use Rattle.bit_rows.specs.declared.words.Cells.{Cells}
 use Rattle.bit_rows.specs.Rows.{SomePlace, BitRows, bit_in, in_cells, all_cells}
 use Rattle.point_table.specs.Points.{AreAllowed}
 use Rattle.point_table.specs.Table.{AreRowsOf}
-use Rattle.point_ladder.proofs.Frames.{in_all}
-use Rattle.point_ladder.specs.Ladders.{is_occupied, IsAliveFrame, AreRegionsMet, IsOwing, IsFrame, PairsMet, ConceptsMet, bits_at}
+use Rattle.point_frames.proofs.Frames.{in_all}
+use Rattle.point_frames.specs.Frames.{is_occupied, IsAliveFrame, AreRegionsMet, IsOwing}
+use Rattle.point_ladder.specs.Ladders.{IsFrame, PairsMet, ConceptsMet, bits_at}
 use Rattle.point_ladder.proofs.Served.{holds_all, table_point, served_by_parts, alive_here}
 
 -- what is owed for each number below one more

@@ -22,7 +22,8 @@ use Rattle.point_ladder.specs.declared.ladder.Ladder.TheInside.{Inside}
 use Rattle.point_ladder.specs.declared.stretches.Stretch.{Stretch}
 use Rattle.point_ladder.specs.Bounds.{bound_to, HoldsPoints, IsAliveIn, AreBounds}
 use Rattle.point_ladder.specs.Stretches.{stretch_at, HasFrames, IsCutBack, AreNexts, IsLadder}
-use Rattle.point_ladder.specs.Ladders.{IsAliveFrame, LeadsOn, IsNarrowed, IsFrame, ShowsPair, IsAlong}
+use Rattle.point_frames.specs.Frames.{IsAliveFrame, LeadsOn, IsNarrowed}
+use Rattle.point_ladder.specs.Ladders.{IsFrame, ShowsPair, IsAlong}
 use Rattle.world_model.proofs.Narrowed.{forced_only}
 use Rattle.point_ladder.proofs.Narrower.{IsNext, narrowings_of, next_is_narrower, point_before, refused_is_dead}
 use Rattle.point_ladder.proofs.Served.{alive_here, alive_next, frame_next}

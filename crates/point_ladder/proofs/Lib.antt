@@ -1,6 +1,3 @@
-pub mod Frames
-pub mod Needs
-pub mod Grouped
 pub mod Narrower
 pub mod AllowsSame
 pub mod Served

@@ -20,7 +20,8 @@ use Rattle.world_model.proofs.PointAlive.{Pointed, point_parts, point_whole, IsN
 use Rattle.world_model.proofs.PointOnce.{narrowed_inside, narrowed_beyond}
 use Rattle.world_model.proofs.PointPositions.{with_narrowings}
 use Rattle.bit_rows.specs.Rows.{SomePlace}
-use Rattle.point_ladder.specs.Ladders.{bits_at, AreRegionsMet, AreServed}
+use Rattle.point_frames.specs.Frames.{AreRegionsMet}
+use Rattle.point_ladder.specs.Ladders.{bits_at, AreServed}
 use Rattle.world_model.proofs.Narrowed.{both_only, none_common, only_some, only_inside}
 
 pub has_both : (a b : RelSet) (rel : Rel) → has (both_of a b) rel ≡ true → has a rel ≡ true

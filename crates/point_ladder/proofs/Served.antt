@@ -17,8 +17,9 @@ use Rattle.world_model.proofs.TrialPoints.{in_points}
 use Rattle.bit_rows.specs.Rows.{SomePlace, BitRows, bit_in}
 use Rattle.world_model.specs.Points.{forced_at}
 use Rattle.point_ladder.specs.Bounds.{HoldsPoints}
-use Rattle.point_ladder.specs.Ladders.{is_occupied, AreWithin, Satisfies, IsAliveFrame, AreRegionsMet, left_at, LeadsOn, IsNarrowed, AreServed, IsFrame, PairsMet, ConceptsMet, bits_at, ShowsPair}
-use Rattle.point_ladder.proofs.Frames.{some_alike, left_within}
+use Rattle.point_frames.specs.Frames.{is_occupied, AreWithin, Satisfies, IsAliveFrame, AreRegionsMet, left_at, LeadsOn, IsNarrowed}
+use Rattle.point_ladder.specs.Ladders.{AreServed, IsFrame, PairsMet, ConceptsMet, bits_at, ShowsPair}
+use Rattle.point_frames.proofs.Frames.{some_alike, left_within}
 use Rattle.point_ladder.proofs.Narrower.{IsNarrower, point_next, served_next, allow_next}
 
 -- all points of a problem stand in the list of its points

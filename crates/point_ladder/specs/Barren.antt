@@ -11,7 +11,8 @@ use Rattle.world_model.specs.Alive.{allowed, IsAlive}
 use Rattle.world_model.specs.Trial.{points_by_trial}
 use Rattle.bit_rows.specs.Rows.{BitRows}
 use Rattle.point_ladder.specs.Bounds.{HoldsPoints}
-use Rattle.point_ladder.specs.Ladders.{IsFrame, IsNarrowed}
+use Rattle.point_frames.specs.Frames.{IsNarrowed}
+use Rattle.point_ladder.specs.Ladders.{IsFrame}
 
 -- the problem with other narrowings
 abbrev pub with_narrowings : Problem → List Constraint → Problem

@@ -13,7 +13,8 @@ use Rattle.world_model.specs.Trial.{points_by_trial}
 use Rattle.bit_rows.specs.Rows.{BitRows}
 use Rattle.point_table.specs.Points.{AreAllowed}
 use Rattle.point_ladder.specs.declared.bounds.Bounds.{Bounds}
-use Rattle.point_ladder.specs.Ladders.{LeadsOn, IsFrame}
+use Rattle.point_frames.specs.Frames.{LeadsOn}
+use Rattle.point_ladder.specs.Ladders.{IsFrame}
 
 -- the first so many pairs, each with its set, as statements
 abbrev pub bounds_of : Problem → List RelSet → ℕ → List Constraint

@@ -1,5 +1,4 @@
 pub mod Ladders
-pub mod Groups
 pub mod Barren
 pub mod Bounds
 pub mod Stretches

@@ -4,15 +4,14 @@ ghost use Rattle.rcc5_core.specs.RelationSet.{has};
 ghost use Rattle.rcc5_core.specs.Region.{row_of};
 ghost use Rattle.bit_rows.specs.Rows.{has_bit};
 ghost use Rattle.point_table.specs.Table.{AreRowsOf};
-ghost use Rattle.point_ladder.specs.Ladders.{IsAliveFrame, LeadsOn};
+ghost use Rattle.point_frames.specs.Frames.{IsAliveFrame, LeadsOn};
 ghost use Rattle.point_ladder.specs.Barren.{IsFreeAt, LiesNone, LiesNoneBy, AreNoneBy};
 
 use crate::bounds::bound;
-use crate::builder::narrowed;
-use crate::frame::Frame;
 use crate::sides::sides_of;
 use bit_rows::{Rows, Sides};
 use constraint_set::Problem;
+use point_frames::{Frame, narrowed};
 use rcc5_core::{Rel, RelSet};
 use std::alloc::{AllocError, Global};
 

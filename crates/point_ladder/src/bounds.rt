@@ -7,15 +7,14 @@ ghost use Rattle.world_model.specs.Trial.{points_by_trial};
 ghost use Rattle.bit_rows.specs.Rows.{has_bit};
 ghost use Rattle.point_table.specs.Points.{AreAllowed};
 ghost use Rattle.point_table.specs.Table.{AreRowsOf};
-ghost use Rattle.point_ladder.specs.Ladders.{IsAliveFrame, IsNarrowed, IsSeen};
+ghost use Rattle.point_frames.specs.Frames.{IsAliveFrame, IsNarrowed, IsSeen};
 ghost use Rattle.point_ladder.specs.Bounds.{AreBounds, IsAliveIn};
 
-use crate::builder::{MOST_COMPARED, narrowed};
-use crate::frame::{Frame, Seen};
 use crate::sides::sides_of;
 use crate::start::{first_frame, is_alive};
 use bit_rows::{Rows, Sides};
 use constraint_set::Problem;
+use point_frames::{Frame, MOST_COMPARED, Seen, narrowed};
 use rcc5_core::{Regions, Rel, RelSet, forced};
 use std::alloc::{AllocError, Global};
 

@@ -12,12 +12,12 @@ ghost use Rattle.point_ladder.specs.Bounds.{bound_to, AreBounds};
 
 use crate::behind::{Effort, Ground, is_barren, move_all_to_front, move_to_front, new_effort};
 use crate::bounds::{Bounds, bound, narrow_all};
-use crate::builder::{MOST_COMPARED, narrowed};
 use crate::sides::sides_of;
 use crate::start::{begin, first_line, nexts_of, split_pairs};
 use crate::stretches::{Stretch, cut, in_force};
 use bit_rows::Rows;
 use constraint_set::Problem;
+use point_frames::{MOST_COMPARED, narrowed};
 use rcc5_core::{Rel, RelSet};
 use std::alloc::{AllocError, Global};
 use std::marker::Model;

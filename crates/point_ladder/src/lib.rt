@@ -5,14 +5,10 @@
 mod alone;
 mod behind;
 mod bounds;
-mod builder;
-mod frame;
-mod groups;
 mod ladder;
 mod sides;
 mod start;
 mod stretches;
-mod words;
 
 pub use alone::alive_alone;
 pub use ladder::Ladder;

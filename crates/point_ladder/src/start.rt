@@ -9,14 +9,14 @@ ghost use Rattle.point_table.specs.Points.{AreAllowed};
 ghost use Rattle.point_table.specs.Table.{AreRowsOf};
 ghost use Rattle.point_ladder.specs.Bounds.{AreBounds};
 ghost use Rattle.point_ladder.specs.Stretches.{AreNexts};
-ghost use Rattle.point_ladder.specs.Ladders.{left_of, IsLaid, AreWithin, IsOwing, PairsMet, ConceptsMet, IsFrame};
+ghost use Rattle.point_frames.specs.Frames.{left_of, IsLaid, AreWithin, IsOwing};
+ghost use Rattle.point_ladder.specs.Ladders.{PairsMet, ConceptsMet, IsFrame};
 
 use crate::bounds::{Bounds, are_same, no_bounds};
-use crate::builder::{Builder, MOST_COMPARED};
-use crate::frame::Frame;
 use crate::sides::sides_of;
 use bit_rows::{Cells, Rows, Sides};
 use constraint_set::Problem;
+use point_frames::{Builder, Frame, MOST_COMPARED};
 use point_table::{all_points, allowed_sets, rows_of};
 use rcc5_core::{Rel, RelSet, forced};
 use std::alloc::{AllocError, Global};

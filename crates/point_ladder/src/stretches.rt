@@ -2,7 +2,7 @@
 ghost use Rattle.std.specs.Prelude.{◌≡◌, ◌<◌, length};
 ghost use Rattle.point_ladder.specs.Stretches.{stretch_at, IsCutBack, IsInForce};
 
-use crate::frame::Frame;
+use point_frames::Frame;
 
 /// The length of the path from which on a frame is in force, and the frame.
 #[derive(Drop)]

@@ -71,4 +71,11 @@ impl Clauses {
         }
         Ok(())
     }
+
+    /// Takes all derived clauses out.
+    pub fn restart(&mut self)
+        ensures { self.new ≡ first_state self.old.given }
+    {
+        self.entries.clear();
+    }
 }

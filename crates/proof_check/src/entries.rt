@@ -70,6 +70,14 @@ impl Entries {
         }
     }
 
+    /// Takes all out.
+    pub fn clear(&mut self)
+        ensures { self.new ≡ [] }
+    {
+        self.slots.clear();
+        self.places.clear();
+    }
+
     /// Whether the ids can be forgotten one after the other.
     pub fn can_forget(&self, alloc: Global, ids: &[u64]) -> Result<(), LineFault>
         ensures { Gives (forget_fault self.now ids.now) result }

@@ -71,6 +71,13 @@ impl Book {
         }
     }
 
+    /// Forgets all that was derived, and takes no memory.
+    pub fn restart(&mut self)
+        ensures { self.new ≡ first_state self.old.given }
+    {
+        self.clauses.restart();
+    }
+
     /// The live clause with an id.
     pub fn live(&self, id: u64) -> Option<&[Lit]>
         ensures value { option_copied result ≡ live_clause self.now id }

@@ -14,6 +14,7 @@ mod position;
 mod printing;
 
 use constraint_set::Problem;
+pub use printing::Tokens;
 use rcc5_core::Position;
 use std::alloc::{AllocError, Global};
 use thiserror::Error;
@@ -76,7 +77,7 @@ pub fn print_token(
     ensures text { IfOk result (λ token. token.items ≡ token_text problem.now position.now) }
     ensures reads_back { IfOk result (λ token. token_result problem.now token.items ≡ Ok position.now) }
 {
-    printing::print(alloc, problem, position)
+    Tokens::new(alloc, problem)?.text(position)
 }
 
 /// The position that a token has for a problem.

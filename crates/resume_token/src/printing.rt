@@ -1,4 +1,4 @@
-//! The text of a token.
+//! The texts of tokens.
 ghost use Rattle.std.specs.Prelude.{◌≡◌, ◌≤◌, ◌++◌, length, Ok, IfOk, OnOk};
 ghost use Rattle.world_model.specs.Problem.{pair_count};
 ghost use Rattle.constraint_set.specs.Facts.{IsAsRead};
@@ -11,6 +11,57 @@ use constraint_set::Problem;
 use proof_text::{print_number, print_position};
 use rcc5_core::Position;
 use std::alloc::{AllocError, Global};
+use std::marker::Model;
+
+/// The tokens of one problem, whose text is hashed once for them all.
+#[derive(Drop)]
+pub struct Tokens<'a> {
+    problem: &'a Problem,
+    digest: String,
+    alloc: Global,
+}
+
+impl<'a> Model for Tokens<'a> {
+    ghost use Rattle.std.specs.Prelude.{◌≡◌, string_bytes};
+    ghost use Rattle.world_model.specs.Problem.{Problem};
+
+    ghost Value = { Problem };
+
+    ghost use Rattle.resume_token.specs.Token.{digest_of};
+
+    ghost view = { λ tokens. tokens.problem.now };
+
+    ghost invariant = { λ tokens. string_bytes tokens.digest ≡ digest_of tokens.problem.now };
+}
+
+impl<'a> Tokens<'a> {
+    /// Of a problem as it was read.
+    pub fn new(alloc: Global, problem: &'a Problem) -> Result<Tokens<'a>, AllocError>
+        requires { IsAsRead problem.now }
+        ensures { IfOk result (λ tokens. tokens ≡ problem.now) }
+    {
+        let digest = digest_of(alloc, problem)?;
+        Ok(Tokens {
+            problem,
+            digest,
+            alloc,
+        })
+    }
+
+    /// The token of the problem and a position, by which a listing goes on there.
+    pub fn text(&self, position: &Position) -> Result<Vec<u8>, AllocError>
+        requires { length position.now ≤ pair_count self.now }
+        ensures text { IfOk result (λ token. token.items ≡ token_text self.now position.now) }
+        ensures reads_back { IfOk result (λ token. token_result self.now token.items ≡ Ok position.now) }
+    {
+        printing_reads_back();
+        let problem = self.problem;
+        problem.facts();
+        let mut token = Vec::from_slice(self.alloc, b"token 2 ")?;
+        put_words(&mut token, problem, self.digest.as_bytes(), position)?;
+        Ok(token)
+    }
+}
 
 // The words behind the version's number, with one space between, and the line end.
 fn put_words(
@@ -30,23 +81,4 @@ fn put_words(
     print_position(out, position)?;
     out.push(b'\n')?;
     Ok(())
-}
-
-/// The token of a problem and a position.
-pub(crate) fn print(
-    alloc: Global,
-    problem: &Problem,
-    position: &Position,
-) -> Result<Vec<u8>, AllocError>
-    requires problem { IsAsRead problem.now }
-    requires position { length position.now ≤ pair_count problem.now }
-    ensures text { IfOk result (λ token. token.items ≡ token_text problem.now position.now) }
-    ensures reads_back { IfOk result (λ token. token_result problem.now token.items ≡ Ok position.now) }
-{
-    printing_reads_back();
-    problem.facts();
-    let digest = digest_of(alloc, problem)?;
-    let mut token = Vec::from_slice(alloc, b"token 2 ")?;
-    put_words(&mut token, problem, digest.as_bytes(), position)?;
-    Ok(token)
 }

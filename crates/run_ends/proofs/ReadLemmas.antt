@@ -1,6 +1,6 @@
 -- What comes of the bytes that are read under a name.
-use Rattle.std.proofs.Common.{◌≡◌, ◌≢◌, ℕ, ◌<◌, ◌≤◌, Bool, true, false, List, Result, Ok, Err, length, take, refl, sym, ap, ◌∙◌, ◌⊎◌, inl, inr, ⊎_elim, arith, length-take, take_all}
-use Rattle.std.specs.Prelude.{nat_lt}
+use Rattle.std.proofs.Common.{◌≡◌, ◌≢◌, ℕ, ◌<◌, ◌≤◌, Bool, true, false, List, [], Result, Ok, Err, length, take, refl, sym, ap, subst, ◌∙◌, ◌⊎◌, inl, inr, ⊎_elim, arith, length-take, take_all}
+use Rattle.std.specs.Prelude.{nat_lt, Contains}
 use Rattle.std.proofs.lemmas.Bool.{ltb-true, lt-ltb, ltb-false}
 use Rattle.world_model.specs.declared.Switches.{Switches}
 use Rattle.world_model.specs.Problem.{Problem}
@@ -12,6 +12,9 @@ use Rattle.outer_store.specs.Faults.{Counts}
 use Rattle.run_ends.specs.declared.Status.{Status}
 use Rattle.run_ends.specs.declared.Status.TheVariants as status
 use Rattle.outer_store.specs.States.{StoreState, IsQuiet}
+use Rattle.command_line.specs.Requests.{Names}
+use Rattle.run_ends.specs.Ends.{end_line}
+use Rattle.run_ends.specs.Runs.{Answered, Answers, ending_of, IsEarlyEnd}
 use Rattle.run_ends.specs.Reads.{AreFront, problem_by, problem_in, IsRefused, ComesOf, IsWithout}
 
 -- bytes that are cut behind the longest text are too long still
@@ -63,3 +66,22 @@ one_state one other same quiet =
     ap (λ (held : Contents). record other { held = held }) same
     ∙ ap (λ (reads : Counts). record one { reads = reads; writes = other.writes }) quiet.0
     ∙ ap (λ (writes : Counts). record one { writes = writes }) quiet.1
+
+-- a run that ends without what was to come of a name that it reads: its answer is a last line alone, a read failed, or memory was wanting
+pub early_without : {X : Type 0} (names : Names) (answers : Answers Status) (name : List ℕ) (judge : List ℕ → Result X Status) (s : Status) (one other : StoreState) → Contains names.read name
+    → (ComesOf one.held name judge (Err s) → answers one.held s (end_line s) [] × (ending_of s ≡ Answered))
+    → IsWithout name judge s one other → IsEarlyEnd names answers s one other
+early_without names answers name judge s one other named refusal end = ⊎_elim
+    (λ refused. let said = refusal refused.0 in inl (said.0, said.1, refused.1))
+    (λ unread. ⊎_elim
+    (λ failed. inr (inl (failed.0, record { name = name; named = named; rose = failed.1 })))
+    (λ starved. inr (inr starved))
+    unread)
+    end
+
+-- what comes of a name, or why nothing does, by the text of the word that holds it
+pub comes_as : {X : Type 0} (held : Contents) (text name : List ℕ) (judge : List ℕ → Result X Status) (outcome : Result X Status) → text ≡ name → ComesOf held text judge outcome → ComesOf held name judge outcome
+comes_as held text name judge outcome same comes = subst (λ (n : List ℕ). ComesOf held n judge outcome) same comes
+
+pub without_as : {X : Type 0} (text name : List ℕ) (judge : List ℕ → Result X Status) (s : Status) (one other : StoreState) → text ≡ name → IsWithout text judge s one other → IsWithout name judge s one other
+without_as text name judge s one other same end = subst (λ (n : List ℕ). IsWithout n judge s one other) same end

@@ -1,5 +1,5 @@
 -- How a run goes on by the text of its problem.
-use Rattle.std.proofs.Common.{◌≡◌, ℕ, List, [], Option, None, Some, IfSome, Result, Ok, Err, take, refl, sym, ap, subst, ◌∙◌, inl, inr, ⊎_elim}
+use Rattle.std.proofs.Common.{◌≡◌, ℕ, List, [], Option, None, Some, IfSome, Result, Ok, Err, take, refl, sym, ap, subst, ◌∙◌, IfErr}
 use Rattle.std.specs.Prelude.{Contains}
 use Rattle.outer_store.specs.Contents.{Contents}
 use Rattle.world_model.specs.declared.Switches.{Switches}
@@ -12,8 +12,8 @@ use Rattle.run_ends.specs.Ends.{end_line}
 use Rattle.run_ends.specs.Reads.{problem_by, problem_in, ComesOf, IsWithout}
 use Rattle.outer_store.specs.States.{StoreState}
 use Rattle.command_line.specs.Requests.{Names}
-use Rattle.run_ends.specs.Runs.{Answers, ending_of, IsEarlyEnd}
-use Rattle.run_ends.proofs.ReadLemmas.{text_cut}
+use Rattle.run_ends.specs.Runs.{Answered, Answers, ending_of, IsEarlyEnd}
+use Rattle.run_ends.proofs.ReadLemmas.{text_cut, early_without}
 
 -- bytes that agree with what is told of a name, and what they say
 pub record SaysText (told : Option (List ℕ)) (switches : Switches) (says : Result Problem (ℕ × TextKind)) : Type 0 where
@@ -47,21 +47,25 @@ said_err : (r : Result Problem (ℕ × TextKind)) (s : Status) → problem_by r 
 said_err (Ok q) s e = cc
 said_err (Err f) s e = (f, refl, sym (err_same (status.RefusedText f.0 f.1) s (Err (status.RefusedText f.0 f.1)) refl e))
 
+-- a text that is refused is an answer
+pub text_answers : (switches : Switches) (bytes : List ℕ) (s : Status) → problem_in switches bytes ≡ Err s → ending_of s ≡ Answered
+text_answers switches bytes s e = ap ending_of (said_err (text_result bytes switches) s e).2
+
 -- a run that has no problem: it answers the fault of the text, or a read failed, or memory was wanting
 pub without_text : (names : Names) (answers : Answers Status) (input : List ℕ) (switches : Switches) (s : Status) (one other : StoreState) → Contains names.read input
     → ((fault : ℕ × TextKind) → SaysText (one.held input) switches (Err fault) → answers one.held (status.RefusedText fault.0 fault.1) (end_line (status.RefusedText fault.0 fault.1)) [])
     → IsWithout input (problem_in switches) s one other → IsEarlyEnd names answers s one other
-without_text names answers input switches s one other named refusal end = ⊎_elim
+without_text names answers input switches s one other named refusal end =
+    early_without names answers input (problem_in switches) s one other named
     (λ refused.
-    let said = said_err (text_result refused.0.bytes switches) s refused.0.judged in
-    let text = subst (SaysText (one.held input) switches) said.1 (text_of (one.held input) switches refused.0.bytes refused.0.front) in
-    inl (
+    let said = said_err (text_result refused.bytes switches) s refused.judged in
+    let text = subst (SaysText (one.held input) switches) said.1 (text_of (one.held input) switches refused.bytes refused.front) in (
       subst (λ x. answers one.held x (end_line x) []) (sym said.2) (refusal said.0 text),
-      ap ending_of said.2,
-      refused.1,
+      text_answers switches refused.bytes s refused.judged,
     ))
-    (λ unread. ⊎_elim
-    (λ failed. inr (inl (failed.0, record { name = input; named = named; rose = failed.1 })))
-    (λ starved. inr (inr starved))
-    unread)
     end
+
+-- a fact of a fault, where the answer is that fault
+pub if_err : {X E : Type 0} (r : Result X E) (P : E → Type 0) (fault : E) → P fault → r ≡ Err fault → IfErr r P
+if_err (Ok value) P fault fact e = tt
+if_err (Err other) P fault fact e = subst P (sym (err_same other fault (Err other) refl e)) fact

@@ -1,3 +1,4 @@
 pub mod Ends
-pub mod Runs
 pub mod Reads
+pub mod Runs
+pub mod Writes

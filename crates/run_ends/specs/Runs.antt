@@ -64,6 +64,10 @@ file_under (Some name) bytes = record { name = name; bytes = bytes } ∷ []
 abbrev pub Answers : Type 0 → Type 1
 Answers S = Contents → S → List ℕ → List File → Type 0
 
+-- just the last line of a status is put
+abbrev pub IsEndAlone : Status → Status → List ℕ → List File → Type 0
+IsEndAlone end status text files = (status ≡ end) × (text ≡ end_line end) × (files ≡ [])
+
 -- the count of one of some names rose
 pub record HasFailed (names : List (List ℕ)) (before now : Counts) : Type 0 where
   pub name : List ℕ

@@ -1,17 +1,21 @@
 //! How a run of the program ends, and what it reads of a store before it works.
 #![tactic(auto)]
 
+mod files;
 mod help;
 mod lines;
 mod names;
 mod put;
 mod read;
 mod texts;
+mod tokens;
+mod worlds;
 
 use cert_reader::CertTextKind;
 use cert_rules::RejectKind;
 use cleantax_text::TextKind;
 use command_line::UsageKind;
+pub use files::{write_file, write_token};
 pub use help::text_help;
 pub use lines::put_lines;
 pub use names::{cert_name, pair_name, part_name, reject_name, text_name, token_name};
@@ -21,6 +25,8 @@ use rcc5_core::Position;
 pub use read::{TEXT_LIMIT, read_front};
 use resume_token::TokenKind;
 pub use texts::{bytes_under, problem_under};
+pub use tokens::{position_given, position_under};
+pub use worlds::{put_world, put_worlds};
 
 /// Why two words name no pair of concepts.
 #[derive(Clone, Copy, Debug, PartialEq, Eq)]

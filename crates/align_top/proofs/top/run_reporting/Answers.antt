@@ -1,8 +1,8 @@
-use Rattle.std.proofs.Common.{ℕ, List, map, Ok, sym, subst}
+use Rattle.std.proofs.Common.{ℕ, List, map, Ok, refl, sym, subst}
 use Rattle.run_ends.specs.Runs.{IsRunOf}
-use Rattle.command_line.specs.Requests.{IsMade, names_of}
+use Rattle.command_line.specs.Requests.{IsMade}
 use Rattle.report_run.specs.Reporting.{watched, AreKinds, report_names, IsReportAnswer}
-use Rattle.align_top.specs.Output.{answers_to}
+use Rattle.align_top.specs.Output.{IsRunFor}
 use Rattle.align_top.proofs.KindLemmas.{kinds_by}
 use Rattle.align_top.proofs.top.run_reporting.Goals as goal
 
@@ -14,12 +14,17 @@ run_report-requires g c =
 
 pub returns : goal.returns
 returns g c =
-    subst (λ r. IsRunOf (names_of r) (answers_to (watched (λ z. (goal.WorldWatcher-dyn g (z.vtable, z.value)).name z.value) (λ z. (goal.WorldWatcher-dyn g (z.vtable, z.value)).text z.value) c.args.watchers.items) (Ok r)) c.run_report.result
+    subst (λ r. IsRunFor (watched (λ z. (goal.WorldWatcher-dyn g (z.vtable, z.value)).name z.value) (λ z. (goal.WorldWatcher-dyn g (z.vtable, z.value)).text z.value) c.args.watchers.items) (Ok r) c.run_report.result
     (g.S.Store.state c.args.store.now) (g.S.Store.state c.run_report.new.store)
     (g.W.Sink.state c.args.out.now) (g.W.Sink.state c.run_report.new.out)) (sym c.in-Report.is)
-    (subst (λ (input : List ℕ). IsRunOf (report_names input) (IsReportAnswer input c.in-Report.args.kinds c.in-Report.args.switches (watched (λ z. (goal.WorldWatcher-dyn g (z.vtable, z.value)).name z.value) (λ z. (goal.WorldWatcher-dyn g (z.vtable, z.value)).text z.value) c.args.watchers.items)) c.run_report.result
-    (g.S.Store.state c.args.store.now) (g.S.Store.state c.run_report.new.store)
-    (g.W.Sink.state c.args.out.now) (g.W.Sink.state c.run_report.new.out)) c.text.ensures
-    (subst (λ (kinds : List (List ℕ)). IsRunOf (report_names c.text.result.now) (IsReportAnswer c.text.result.now kinds c.in-Report.args.switches (watched (λ z. (goal.WorldWatcher-dyn g (z.vtable, z.value)).name z.value) (λ z. (goal.WorldWatcher-dyn g (z.vtable, z.value)).text z.value) c.args.watchers.items)) c.run_report.result
-    (g.S.Store.state c.args.store.now) (g.S.Store.state c.run_report.new.store)
-    (g.W.Sink.state c.args.out.now) (g.W.Sink.state c.run_report.new.out)) c.list.ensures c.run_report.ensures))
+    (record {
+      names = _;
+      named = refl;
+      run =
+          subst (λ (input : List ℕ). IsRunOf (report_names input) (IsReportAnswer input c.in-Report.args.kinds c.in-Report.args.switches (watched (λ z. (goal.WorldWatcher-dyn g (z.vtable, z.value)).name z.value) (λ z. (goal.WorldWatcher-dyn g (z.vtable, z.value)).text z.value) c.args.watchers.items)) c.run_report.result
+          (g.S.Store.state c.args.store.now) (g.S.Store.state c.run_report.new.store)
+          (g.W.Sink.state c.args.out.now) (g.W.Sink.state c.run_report.new.out)) c.text.ensures
+          (subst (λ (kinds : List (List ℕ)). IsRunOf (report_names c.text.result.now) (IsReportAnswer c.text.result.now kinds c.in-Report.args.switches (watched (λ z. (goal.WorldWatcher-dyn g (z.vtable, z.value)).name z.value) (λ z. (goal.WorldWatcher-dyn g (z.vtable, z.value)).text z.value) c.args.watchers.items)) c.run_report.result
+          (g.S.Store.state c.args.store.now) (g.S.Store.state c.run_report.new.store)
+          (g.W.Sink.state c.args.out.now) (g.W.Sink.state c.run_report.new.out)) c.list.ensures c.run_report.ensures);
+    })

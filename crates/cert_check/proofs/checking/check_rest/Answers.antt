@@ -1,4 +1,4 @@
-use Rattle.std.proofs.Common.{arith, refl}
+use Rattle.std.proofs.Common.{arith, refl, ◌∙◌}
 use Rattle.cert_reader.proofs.GoesOnLemmas.{goes_stays}
 use Rattle.cert_reader.proofs.ReaderLemmas.{some_read}
 use Rattle.cert_check.proofs.AnswerLemmas.{too_many, answers_on, answers_end, answers_fault}
@@ -9,6 +9,7 @@ pub loop-read-init : goal.loop-read-init
 loop-read-init g c = record {
   ready = c.requires.ready;
   fresh = c.requires.fresh;
+  given = refl;
   few = c.requires.few;
   answers = goes_stays _ _ (λ read. refl);
   source = record { fault = refl; later = omega arith; comes = g.met.R.Source.steady_stays c.args.source.now; still = g.met.R.Source.quiet_stays c.args.source.now };
@@ -22,9 +23,10 @@ loop-read-preserved g c =
     record {
       ready = c.in-Ok-Further.ensures.ready;
       fresh = c.in-Ok-Further.ensures.fresh;
+      given = c.in-Ok-Further.ensures.given ∙ c.loop-read.invariant.given;
       few = c.in-Ok-Further.ensures.few c.loop-read.invariant.few;
       answers =
-          answers_on c.args.checker c.loop-read.checker c.loop-read.read c.loop-read.invariant.answers c.take_next.new.checker c.in-Ok-Further.field-0 c.in-Ok-Further.field-0-is
+          answers_on c.args.book.now c.args.checker c.loop-read.book c.loop-read.checker c.loop-read.read c.loop-read.invariant.answers c.take_next.new.book c.take_next.new.checker c.in-Ok-Further.field-0 c.in-Ok-Further.field-0-is
           c.in-Ok-Further.ensures.turn;
       source =
           source_joins _ _ old here new (g.met.R.Source.steady_joins old here new) (g.met.R.Source.quiet_joins old here new) c.loop-read.invariant.source
@@ -33,12 +35,12 @@ loop-read-preserved g c =
 
 pub returns-in-Ok-Ended-clause-answer : goal.returns-in-Ok-Ended-clause-answer
 returns-in-Ok-Ended-clause-answer g c =
-    answers_end c.args.checker c.loop-read.checker c.loop-read.read c.loop-read.invariant.answers c.take_next.new.checker c.in-Ok-Ended.field-0 c.in-Ok-Ended.to c.finish.result
-    c.in-Ok-Ended.field-0-is c.in-Ok-Ended.ensures.turn c.finish.ensures.answer
+    answers_end c.args.book.now c.args.checker c.loop-read.book c.loop-read.checker c.loop-read.read c.loop-read.invariant.answers c.take_next.new.book c.take_next.new.checker c.in-Ok-Ended.field-0
+    c.in-Ok-Ended.to c.finish.result c.in-Ok-Ended.field-0-is c.in-Ok-Ended.ensures.turn c.finish.ensures.answer
 
 pub returns-in-Err-clause-answer : goal.returns-in-Err-clause-answer
 returns-in-Err-clause-answer g c =
-    answers_fault c.args.checker c.loop-read.checker c.loop-read.read c.loop-read.invariant.answers c.take_next.new.checker c.in-Err.fault
+    answers_fault c.args.book.now c.args.checker c.loop-read.book c.loop-read.checker c.loop-read.read c.loop-read.invariant.answers c.take_next.new.book c.take_next.new.checker c.in-Err.fault
     (some_read c.take_next.new.reader (g.R.Source.left c.take_next.new.source)) c.in-Err.ensures.turn
 
 pub returns-clause-answer : goal.returns-clause-answer

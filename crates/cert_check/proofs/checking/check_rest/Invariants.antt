@@ -10,7 +10,8 @@ abbrev pub invariant-loop-read : goal.invariant-loop-read
 invariant-loop-read g l = record {
   ready : IsReady l.checker;
   fresh : l.reader.refusal ≡ None;
+  given : l.book.given ≡ l.fn.book.given;
   few : AreFew l.read (MayRead l.reader (g.R.Source.left l.source));
-  answers : GoesOn (MayRead l.fn.reader (g.R.Source.left l.fn.source)) (MayRead l.reader (g.R.Source.left l.source)) (λ all read. answer_from l.fn.checker 1 all ≡ answer_from l.checker l.read read);
+  answers : GoesOn (MayRead l.fn.reader (g.R.Source.left l.fn.source)) (MayRead l.reader (g.R.Source.left l.source)) (λ all read. answer_from l.fn.book l.fn.checker 1 all ≡ answer_from l.book l.checker l.read read);
   source : SourceGoes g.R.Source.faults g.R.Source.steady g.R.Source.quiet (Ok (tt {0})) l.fn.source l.source;
 }

@@ -1,6 +1,7 @@
 use Rattle.std.proofs.Common.{rules}
 use Rattle.run_ends.proofs.ReadLemmas.{one_state}
-use Rattle.check_run.proofs.CheckLemmas.{if_err, without_problem, found_ok, ended_err}
+use Rattle.run_ends.proofs.TextLemmas.{if_err}
+use Rattle.check_run.proofs.CheckLemmas.{without_problem, found_ok, ended_err}
 use Rattle.check_run.proofs.checking.accepted_of.Goals as goal
 
 pub returns-in_err-problem-clause-ended : goal.returns-in_err-problem-clause-ended

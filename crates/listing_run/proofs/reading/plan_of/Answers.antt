@@ -1,26 +1,38 @@
-use Rattle.std.proofs.Common.{rules}
-use Rattle.run_ends.proofs.ReadLemmas.{one_state}
-use Rattle.listing_run.proofs.AskedLemmas.{if_err, start_from, comes_ok, ends_without_problem, ends_without_start, named_without, named_comes}
+use Rattle.std.proofs.Common.{rules, subst}
+use Rattle.outer_store.specs.Contents.{Contents}
+use Rattle.run_ends.specs.Reads.{problem_in, IsGiven}
+use Rattle.run_ends.proofs.ReadLemmas.{one_state, comes_as, without_as}
+use Rattle.run_ends.proofs.TextLemmas.{if_err}
+use Rattle.listing_run.proofs.AskedLemmas.{comes_ok, ends_without_problem, ends_without_start}
 use Rattle.listing_run.proofs.reading.plan_of.Goals as goal
 
 pub returns-in_err-problem-clause-ended : goal.returns-in_err-problem-clause-ended
 returns-in_err-problem-clause-ended g c =
+    let args = c.args.args.now in
+    let one = g.S.Store.state c.args.store.now in
+    let mid = g.S.Store.state c.problem_under.new.store in
     if_err c.from_residual.result _ _
-    (ends_without_problem (g.S.Store.state c.args.store.now) (g.S.Store.state c.problem_under.new.store) c.args.args.now _ c.requires
-    (named_without c.text.result.now c.args.args.now.input c.args.args.now.switches _ (g.S.Store.state c.args.store.now) (g.S.Store.state c.problem_under.new.store) (search rules) c.in_err-problem.ensures.ended))
+    (ends_without_problem one mid args _
+    (without_as c.text.result.now args.input (problem_in args.switches) _ one mid (search rules) c.in_err-problem.ensures.ended))
     (search rules)
 
 pub returns-in_err-start-clause-ended : goal.returns-in_err-start-clause-ended
 returns-in_err-start-clause-ended g c =
-    let same = one_state (g.S.Store.state c.args.store.now) (g.S.Store.state c.problem_under.new.store) c.in_ok-problem.ensures.kept c.in_ok-problem.ensures.quiet in
+    let args = c.args.args.now in
+    let one = g.S.Store.state c.args.store.now in
+    let mid = g.S.Store.state c.problem_under.new.store in
+    let same = one_state one mid c.in_ok-problem.ensures.kept c.in_ok-problem.ensures.quiet in
     if_err c.from_residual-in_err-start.result _ _
-    (ends_without_start (g.S.Store.state c.args.store.now) (g.S.Store.state c.problem_under.new.store) (g.S.Store.state c.start_of.new.store) c.args.args.now c.in_ok-problem.problem _ c.requires same
-    (named_comes c.text.result.now c.args.args.now.input c.args.args.now.switches c.in_ok-problem.problem (g.S.Store.state c.args.store.now).held (search rules) c.in_ok-problem.ensures.problem)
+    (ends_without_start one mid (g.S.Store.state c.position_given.new.store) args c.in_ok-problem.problem _ c.requires same
+    (comes_as one.held c.text.result.now args.input (problem_in args.switches) _ (search rules) c.in_ok-problem.ensures.problem)
     c.in_err-start.ensures.ended)
     (search rules)
 
 pub returns-clause-plan : goal.returns-clause-plan
 returns-clause-plan g c =
-    comes_ok (g.S.Store.state c.args.store.now).held c.args.args.now c.in_ok-problem.problem c.in_ok-start.start c.requires
-    (named_comes c.text.result.now c.args.args.now.input c.args.args.now.switches c.in_ok-problem.problem (g.S.Store.state c.args.store.now).held (search rules) c.in_ok-problem.ensures.problem)
-    (start_from (g.S.Store.state c.args.store.now).held (g.S.Store.state c.problem_under.new.store).held c.in_ok-problem.problem c.args.args.now.resume c.in_ok-start.start c.in_ok-problem.ensures.kept c.in_ok-start.ensures.start)
+    let args = c.args.args.now in
+    let one = g.S.Store.state c.args.store.now in
+    let mid = g.S.Store.state c.problem_under.new.store in
+    comes_ok one.held args c.in_ok-problem.problem c.in_ok-start.start c.unwrap_or.result c.requires
+    (comes_as one.held c.text.result.now args.input (problem_in args.switches) _ (search rules) c.in_ok-problem.ensures.problem)
+    (subst (λ (held : Contents). IsGiven held c.in_ok-problem.problem args.resume c.in_ok-start.start) c.in_ok-problem.ensures.kept c.in_ok-start.ensures.given) (search rules)

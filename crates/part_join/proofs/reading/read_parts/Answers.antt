@@ -7,12 +7,16 @@ use Rattle.part_join.proofs.reading.read_parts.Goals as goal
 
 pub returns-in_err-push-in-Ok-clause-answer : goal.returns-in_err-push-in-Ok-clause-answer
 returns-in_err-push-in-Ok-clause-answer g c =
+    starved_is c.args.problem.now (g.S.Store.state c.args.store.now).held (map string_bytes c.args.names.now) _ c.from_residual-in_err-push-in-Ok.result (search rules)
+
+pub returns-in_err-checks-clause-answer : goal.returns-in_err-checks-clause-answer
+returns-in_err-checks-clause-answer g c =
     starved_is c.args.problem.now (g.S.Store.state c.args.store.now).held (map string_bytes c.args.names.now) _ c.from_residual.result (search rules)
 
 pub returns-in-Err-clause-answer : goal.returns-in-Err-clause-answer
 returns-in-Err-clause-answer g c =
-    step_ended string_bytes c.args.problem.now (g.S.Store.state c.args.store.now).held (g.S.Store.state c.loop-place.store).held c.args.names.now c.loop-place.place c.index-names-place.result c.as_str.result.now
-    c.loop-place.parts.items c.in-Err.fault (omega arith) c.index-names-place.is c.as_str.ensures.value c.loop-place.invariant.held c.loop-place.invariant.read c.in-Err.ensures.answer
+    step_ended string_bytes c.args.problem.now c.loop-place.checks (g.S.Store.state c.args.store.now).held (g.S.Store.state c.loop-place.store).held c.args.names.now c.loop-place.place c.index-names-place.result c.as_str.result.now
+    c.loop-place.parts.items c.in-Err.fault c.loop-place.invariant.checks (omega arith) c.index-names-place.is c.as_str.ensures.value c.loop-place.invariant.held c.loop-place.invariant.read c.in-Err.ensures.answer
 
 pub returns-in-Err-clause-cause : goal.returns-in-Err-clause-cause
 returns-in-Err-clause-cause g c =
@@ -22,13 +26,15 @@ returns-in-Err-clause-cause g c =
 
 pub loop-place-preserved : goal.loop-place-preserved
 loop-place-preserved g c = record {
+  checks = search rules;
   read =
-      step_read string_bytes c.args.problem.now (g.S.Store.state c.args.store.now).held (g.S.Store.state c.loop-place.store).held c.args.names.now c.loop-place.place c.index-names-place.result c.as_str.result.now
-      (c.loop-place.place + 1) c.loop-place.parts.items c.push.new.self.items c.in-Ok.part (omega arith) c.index-names-place.is c.as_str.ensures.value c.loop-place.invariant.held c.in_ok-push-in-Ok.ensures.items
+      step_read string_bytes c.args.problem.now c.loop-place.checks (g.S.Store.state c.args.store.now).held (g.S.Store.state c.loop-place.store).held c.args.names.now c.loop-place.place c.index-names-place.result c.as_str.result.now
+      (c.loop-place.place + 1) c.loop-place.parts.items c.push.new.self.items c.in-Ok.part c.loop-place.invariant.checks (omega arith) c.index-names-place.is c.as_str.ensures.value c.loop-place.invariant.held c.in_ok-push-in-Ok.ensures.items
       c.loop-place.invariant.read c.in-Ok.ensures.answer;
   listed =
       subst (All (IsListed c.args.problem.now)) (sym c.in_ok-push-in-Ok.ensures.items)
-      (All-push (IsListed c.args.problem.now) c.loop-place.parts.items c.in-Ok.part c.loop-place.invariant.listed c.in-Ok.ensures.listed);
+      (All-push (IsListed c.args.problem.now) c.loop-place.parts.items c.in-Ok.part c.loop-place.invariant.listed
+      (subst (λ p. IsListed p c.in-Ok.part) c.loop-place.invariant.checks c.in-Ok.ensures.listed));
   held = search rules;
   quiet = search rules;
 }

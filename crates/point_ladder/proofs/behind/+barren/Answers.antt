@@ -9,7 +9,8 @@ use Rattle.world_model.specs.Node.{pair_at}
 use Rattle.world_model.specs.Trial.{points_by_trial}
 use Rattle.bit_rows.specs.Rows.{BitRows, has_bit}
 use Rattle.point_ladder.specs.Barren.{LiesNone, AreNoneBy}
-use Rattle.point_ladder.specs.Ladders.{IsNarrowed, ShowsPair}
+use Rattle.point_frames.specs.Frames.{IsNarrowed}
+use Rattle.point_ladder.specs.Ladders.{ShowsPair}
 use Rattle.point_ladder.proofs.Barren.{none_skipped, none_by_all, narrowed_lives}
 use Rattle.point_ladder.proofs.behind.+barren.Goals as goal
 

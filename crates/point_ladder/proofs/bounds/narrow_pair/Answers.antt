@@ -4,7 +4,7 @@ use Rattle.world_model.specs.Trial.{points_by_trial}
 use Rattle.bit_rows.specs.Rows.{has_bit}
 use Rattle.point_ladder.specs.declared.bounds.Bounds.{Bounds}
 use Rattle.point_ladder.specs.Bounds.{bound_to}
-use Rattle.point_ladder.specs.Ladders.{IsNarrowed}
+use Rattle.point_frames.specs.Frames.{IsNarrowed}
 use Rattle.point_ladder.proofs.Served.{alive_here}
 use Rattle.point_ladder.proofs.Bounded.{IsBounded, bounded_next, bounds_same, bounds_dead, bounds_fewer}
 use Rattle.point_ladder.proofs.bounds.narrow_pair.Goals as goal

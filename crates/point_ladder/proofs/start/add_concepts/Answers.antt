@@ -2,7 +2,7 @@ use Rattle.std.proofs.Common.{ℕ, Bool, ◌+◌, ◌&&◌, refl, arith}
 use Rattle.world_model.specs.Trial.{points_by_trial}
 use Rattle.bit_rows.specs.Rows.{has_bit, in_cells, SomePlace}
 use Rattle.point_ladder.specs.Ladders.{bits_at, ConceptsMet}
-use Rattle.point_ladder.proofs.Needs.{owing_as, owing_more}
+use Rattle.point_frames.proofs.Needs.{owing_as, owing_more}
 use Rattle.point_ladder.proofs.FirstFrame.{below_more, side_bits, concept_owed}
 use Rattle.point_ladder.proofs.start.add_concepts.Goals as goal
 

@@ -4,8 +4,9 @@ use Rattle.world_model.specs.Node.{pair_at}
 use Rattle.world_model.specs.Trial.{points_by_trial}
 use Rattle.bit_rows.specs.Rows.{has_bit}
 use Rattle.world_model.specs.Points.{forced_at}
-use Rattle.point_ladder.specs.Ladders.{bits_at, AreRegionsMet, PairsMet}
-use Rattle.point_ladder.proofs.Needs.{owing_as, owing_more}
+use Rattle.point_frames.specs.Frames.{AreRegionsMet}
+use Rattle.point_ladder.specs.Ladders.{bits_at, PairsMet}
+use Rattle.point_frames.proofs.Needs.{owing_as, owing_more}
 use Rattle.point_ladder.proofs.FirstFrame.{below_more, met_as}
 use Rattle.point_ladder.proofs.start.add_pairs.Goals as goal
 

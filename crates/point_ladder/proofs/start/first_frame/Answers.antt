@@ -4,7 +4,7 @@ use Rattle.world_model.specs.Problem.{concept_count, pair_count}
 use Rattle.world_model.specs.Trial.{points_by_trial}
 use Rattle.bit_rows.specs.Rows.{bit_in, IsPushed}
 use Rattle.point_ladder.specs.Ladders.{PairsMet, ConceptsMet, IsFrame}
-use Rattle.point_ladder.proofs.Needs.{owing_more}
+use Rattle.point_frames.proofs.Needs.{owing_more}
 use Rattle.point_ladder.proofs.FirstFrame.{first_is_frame}
 use Rattle.point_ladder.proofs.start.first_frame.Goals as goal
 

@@ -1,0 +1,3 @@
+pub mod LevelOrder
+pub mod LevelLemmas
+pub mod BeginningLemmas

@@ -1,0 +1,4 @@
+pub mod AskedLemmas
+pub mod EndLemmas
+pub mod JoinLemmas
+pub mod PutLemmas

@@ -1,0 +1,4 @@
+pub mod PartLemmas
+pub mod NameLemmas
+pub mod PutLemmas
+pub mod EndLemmas

@@ -1,4 +1,0 @@
-use Rattle.point_ladder.proofs.builder.is_needless.Given as goal
-
-abbrev pub invariant-loop-other : goal.invariant-loop-other
-invariant-loop-other l = Unit {0}

@@ -1,9 +1,0 @@
-use Rattle.std.proofs.Common.{length}
-use Rattle.point_ladder.proofs.Grouped.{AreSoFar}
-use Rattle.point_ladder.proofs.groups.groups_of.Given as goal
-
-abbrev pub invariant-loop-alloc : goal.invariant-loop-alloc
-invariant-loop-alloc l = AreSoFar l.rows l.groups.items l.rest.items
-
-abbrev pub decreases-loop-alloc : goal.decreases-loop-alloc
-decreases-loop-alloc l = length l.rest.items
