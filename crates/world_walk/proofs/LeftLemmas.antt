@@ -9,8 +9,12 @@ use Rattle.world_model.specs.Listing.{is_below, is_before_end, IsListing}
 use Rattle.world_model.proofs.Members.{In, here, there, in_from_contains, contains_from_in}
 use Rattle.world_model.proofs.OrderPositions.{below_itself, below_chain, below_cases, below_apart, below_upto}
 use Rattle.world_model.proofs.OrderLists.{between_parts, between_from}
-use Rattle.world_walk.specs.TempAhead.{Lists, ListsBetween}
+use Rattle.table_walk.specs.Ahead.{Lists, ListsBetween}
 use Rattle.world_walk.specs.ToCome.{IsAbove, IsToCome, IsFirstToCome, NoneToCome, IsFrom, IsLeftAt, Comes}
+
+-- where none is told, none is
+pub untold_none : (t : List Rel) → Contains [] t → ⊥
+untold_none t c = elim (in_from_contains [] c) [ ]
 
 -- a position is not before a place, or before it
 from_or_before : (other : Option (List Rel)) (t : List Rel) (b : Bool) → is_before_end t other ≡ b → (IsTrue (is_before_end t other) → ⊥) → IsFrom other t
@@ -42,7 +46,7 @@ left_passed p (Some one) other told lists t = (
   λ left. record {
     world = left.world;
     from = from_or_before other t (is_before_end t other) refl (λ before. left.untold ((lists.exactly.members t).1 (left.world, between_from one other t (not-true (is_below t one) left.from) before)));
-    untold = λ c. elim (in_from_contains [] c) [ ];
+    untold = untold_none t;
   },
   λ left. record {
     world = left.world;
@@ -72,11 +76,11 @@ above_of x t from other = elim (below_cases x t) [
 -- a world that is told where the walk stands comes first
 pub told_comes : (p : Problem) (x : List Rel) → IsPossibleWorld p x → Comes (IsLeftAt p (Some x) []) (IsLeftAt p (Some x) (x ∷ [])) x
 told_comes p x world = record {
-  there = record { world = world; from = not_from_false (is_below x x) (below_itself x); untold = λ c. elim (in_from_contains [] c) [ ] };
+  there = record { world = world; from = not_from_false (is_below x x) (below_itself x); untold = untold_none x };
   least = λ u left. left.from;
   rest = λ u. (
     λ left. (
-      record { world = left.world; from = left.from; untold = λ c. elim (in_from_contains [] c) [ ] },
+      record { world = left.world; from = left.from; untold = untold_none u },
       above_of x u (not-true (is_below u x) left.from) (λ same. left.untold (contains_one x u same)),
     ),
     λ both. record { world = both.0.world; from = both.0.from; untold = λ c. above_other x u both.1 (one_of x u c) },
@@ -101,7 +105,7 @@ passed_one p (Some one) other x lists =
     let there = (lists.exactly.members x).0 (contains_one x x refl) in
     let parts = between_parts one other x there.1 in
     record {
-      left = record { world = there.0; from = not_from_false (is_below x one) parts.0; untold = λ c. elim (in_from_contains [] c) [ ] };
+      left = record { world = there.0; from = not_from_false (is_below x one) parts.0; untold = untold_none x };
       before = parts.1;
     }
 
@@ -117,7 +121,7 @@ passed_comes p at other x lists = record {
   least = λ u left. not_from_false (is_below u x) (upto u left (is_below u x) refl);
   rest = λ u. (
     λ left. let back = (left_passed p at other (x ∷ []) lists u).1 left in (
-      record { world = back.world; from = back.from; untold = λ c. elim (in_from_contains [] c) [ ] },
+      record { world = back.world; from = back.from; untold = untold_none u },
       above_end other x u passed.before left.from,
     ),
     λ both. (left_passed p at other (x ∷ []) lists u).0 (untold_too p at x u both.0 (above_other x u both.1)),
@@ -187,7 +191,7 @@ front_behind p left begun u = (
 pub begun_left : (p : Problem) (from : List Rel) (at : Option (List Rel)) → Lists p (Some from) at [] → (u : List Rel) → IsLeftAt p at [] u ↔ (IsPossibleWorld p u × IsFrom (Some from) u)
 begun_left p from at lists u = (
   λ left. let back = (left_passed p (Some from) at [] lists u).1 left in (back.world, back.from),
-  λ both. (left_passed p (Some from) at [] lists u).0 (record { world = both.0; from = both.1; untold = λ c. elim (in_from_contains [] c) [ ] }),
+  λ both. (left_passed p (Some from) at [] lists u).0 (record { world = both.0; from = both.1; untold = untold_none u }),
 )
 
 -- where all is passed, nothing is left

@@ -1,2 +1,2 @@
 pub mod ToCome
-pub mod TempAhead
+pub mod Walks

@@ -1,2 +1,7 @@
-//! A walk along the possible worlds of a problem, from any of them on.
+//! A walk along the possible worlds of a problem, in order, from any of them on.
 #![tactic(auto)]
+
+mod steps;
+mod walk;
+
+pub use walk::Walk;
