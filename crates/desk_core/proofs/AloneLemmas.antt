@@ -23,19 +23,19 @@ one_first p last t u a b = elim (below_cases t u) [
 ]
 
 -- a reply to `next` is a world
-record IsWorld (s : OpenSlot) (reply : Reply) (new : Slot) : Type 0 where
-  table : List Rel
-  first : IsFirstToCome s.problem s.last table
-  replied : reply ≡ World table
-  moved : new ≡ Some (record s { last = Some table })
+pub record IsWorld (s : OpenSlot) (reply : Reply) (new : Slot) : Type 0 where
+  pub table : List Rel
+  pub first : IsFirstToCome s.problem s.last table
+  pub replied : reply ≡ World table
+  pub moved : new ≡ Some (record s { last = Some table })
 
 -- or none is left
-record IsEnd (s : OpenSlot) (reply : Reply) (new : Slot) : Type 0 where
-  none : NoneToCome s.problem s.last
-  replied : reply ≡ NoneLeft
-  kept : new ≡ Some s
+pub record IsEnd (s : OpenSlot) (reply : Reply) (new : Slot) : Type 0 where
+  pub none : NoneToCome s.problem s.last
+  pub replied : reply ≡ NoneLeft
+  pub kept : new ≡ Some s
 
-by_reply : (s : OpenSlot) (reply : Reply) (new : Slot) → IsNextReply s reply new → IsWorld s reply new ⊎ IsEnd s reply new
+pub by_reply : (s : OpenSlot) (reply : Reply) (new : Slot) → IsNextReply s reply new → IsWorld s reply new ⊎ IsEnd s reply new
 by_reply s (World t) new h = inl (record { table = t; first = h.0; replied = refl; moved = h.1 })
 by_reply s NoneLeft new h = inr (record { none = h.0; replied = refl; kept = h.1 })
 by_reply s Opened new h = absurd h

@@ -1,1 +1,3 @@
 pub mod AloneLemmas
+pub mod DeskLemmas
+pub mod SlotLemmas

@@ -1,2 +1,4 @@
 pub mod Slots
 pub mod Talks
+pub mod Desks
+pub mod Keeping

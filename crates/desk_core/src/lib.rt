@@ -1,10 +1,14 @@
-//! Slots apart: up to sixteen sessions over one problem, which share what finds worlds and nothing else.
+//! The desk: sixteen slots over one problem, apart from each other, which share what finds worlds.
 #![tactic(auto)]
 
 ghost use Rattle.desk_core.specs.Talks.{SlotsAnswerAlone};
 
+mod acts;
+mod desk;
 mod reply;
+mod slot;
 
+pub use desk::Desk;
 pub use reply::Reply;
 
 /// A slot's replies follow from what is asked of it alone.

@@ -13,12 +13,21 @@ use table_walk::Tables;
 use world_search::Search;
 
 /// A walk along the possible worlds of a problem, in order.
-#[derive(Drop)]
 pub enum Walk {
     /// By a table of all points of the problem.
     ByTable(Tables),
     /// By questions, where the problem has too many points for a table.
     BySearch(Search),
+}
+
+// Written out, so that letting one go is a call.
+impl Drop for Walk {
+    fn drop(self) {
+        match self {
+            Walk::ByTable(_) => {}
+            Walk::BySearch(_) => {}
+        }
+    }
 }
 
 impl Walk {

@@ -1,0 +1,120 @@
+//! An open slot.
+ghost use Rattle.std.specs.Prelude.{◌≡◌, ◌<◌, length, None, IfOk, OnErr};
+ghost use Rattle.world_model.specs.Problem.{pair_count, restricted, narrowed};
+ghost use Rattle.world_model.specs.Node.{pair_at};
+ghost use Rattle.world_walk.specs.Walks.{FitsAsker};
+ghost use Rattle.desk_core.specs.Keeping.{IsShown, IsWalkBehind};
+
+use constraint_set::Problem;
+use point_query::Asker;
+use rcc5_core::{Position, RelSet};
+use std::alloc::{AllocError, Global};
+use std::marker::Model;
+use world_walk::Walk;
+
+/// What an open slot has of its own: a problem, the last world that it showed, and a walk on from there.
+pub(crate) struct OpenSlot {
+    problem: Problem,
+    last: Option<Position>,
+    // A hint: what is shown next follows from the others.
+    walk: Option<Walk>,
+}
+
+// Written out, so that letting one go is a call.
+impl Drop for OpenSlot {
+    fn drop(self) {
+        let OpenSlot {
+            problem: _,
+            last: _,
+            walk: _,
+        } = self;
+    }
+}
+
+impl Model for OpenSlot {
+    ghost use Rattle.desk_core.specs.Slots.{OpenSlot};
+
+    ghost Value = { OpenSlot };
+
+    ghost use Rattle.desk_core.specs.Keeping.{IsKept};
+
+    ghost view = { λ s. record { problem = s.problem; last = s.last } };
+
+    ghost invariant = { λ s. IsKept s.problem s.last s.walk };
+}
+
+impl OpenSlot {
+    /// A slot that has shown no world yet.
+    pub(crate) fn new(problem: Problem) -> OpenSlot
+        ensures { result ≡ record { problem = problem; last = None } }
+    {
+        OpenSlot {
+            problem,
+            last: None,
+            walk: None,
+        }
+    }
+
+    /// A slot that keeps other statements.
+    pub(crate) fn restricted(&self, alloc: Global, flags: &[bool]) -> Result<OpenSlot, AllocError>
+        requires { length flags.now ≡ length self.now.problem.articulations }
+        ensures { IfOk result (λ s. s ≡ record { problem = restricted self.now.problem flags.now; last = None }) }
+    {
+        let problem = self.problem.restricted(alloc, flags)?;
+        Ok(OpenSlot::new(problem))
+    }
+
+    /// A slot where a pair is narrowed besides.
+    pub(crate) fn narrowed(
+        &self,
+        alloc: Global,
+        pair: u32,
+        set: RelSet,
+    ) -> Result<OpenSlot, AllocError>
+        requires { pair < pair_count self.now.problem }
+        ensures { IfOk result (λ s. s ≡ record { problem = narrowed self.now.problem (pair_at self.now.problem pair) set; last = None }) }
+    {
+        let problem = self.problem.narrowed(alloc, pair, set)?;
+        Ok(OpenSlot::new(problem))
+    }
+
+    /// Goes to the next world, if one is to come.
+    pub(crate) fn next(
+        &mut self,
+        alloc: Global,
+        asker: &mut Option<Asker>,
+    ) -> Result<Option<Position>, AllocError>
+        requires { FitsAsker self.old.problem asker.old }
+        ensures asker { FitsAsker self.old.problem asker.new }
+        ensures shown { IfOk result (IsShown self.old self.new) }
+        ensures starved { OnErr result (self.new ≡ self.old) }
+    {
+        // Without memory the walk is not put back, and the next one begins at the last world.
+        let mut walk = self.take_walk(alloc, asker)?;
+        match walk.next(alloc, &self.problem, asker)? {
+            Some(table) => {
+                let last = table.copy(alloc)?;
+                self.last = Some(last);
+                self.walk = Some(walk);
+                Ok(Some(table))
+            }
+            None => {
+                self.walk = Some(walk);
+                Ok(None)
+            }
+        }
+    }
+
+    // The walk that was kept, or a new one behind the last world. The slot keeps none.
+    fn take_walk(&mut self, alloc: Global, asker: &mut Option<Asker>) -> Result<Walk, AllocError>
+        requires { FitsAsker self.old.problem asker.old }
+        ensures asker { FitsAsker self.old.problem asker.new }
+        ensures same { self.new ≡ self.old }
+        ensures walk { IfOk result (IsWalkBehind self.old.problem self.old.last) }
+    {
+        match self.walk.take() {
+            Some(walk) => Ok(walk),
+            None => Walk::behind(alloc, &self.problem, asker, &self.last),
+        }
+    }
+}
