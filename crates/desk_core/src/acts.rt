@@ -43,10 +43,11 @@ fn keep(alloc: Global, slot: OpenSlot, flags: &Flags) -> Answer
     requires { length flags.now ≡ length slot.problem.articulations }
     ensures { (p : Problem) → IsAnswer p (Some slot) (Keep flags.now) result.reply result.slot }
 {
-    match slot.restricted(alloc, flags.list()) {
-        Ok(other) => Answer {
+    let mut slot = slot;
+    match slot.keep(alloc, flags.list()) {
+        Ok(()) => Answer {
             reply: Reply::Kept,
-            slot: Some(other),
+            slot: Some(slot),
         },
         Err(_) => Answer {
             reply: Reply::NoMemory,
@@ -60,10 +61,11 @@ fn narrow(alloc: Global, slot: OpenSlot, pair: u32, set: RelSet) -> Answer
     requires { pair < pair_count slot.problem }
     ensures { (p : Problem) → IsAnswer p (Some slot) (Narrow pair set) result.reply result.slot }
 {
-    match slot.narrowed(alloc, pair, set) {
-        Ok(other) => Answer {
+    let mut slot = slot;
+    match slot.narrow(alloc, pair, set) {
+        Ok(()) => Answer {
             reply: Reply::Narrowed,
-            slot: Some(other),
+            slot: Some(slot),
         },
         Err(_) => Answer {
             reply: Reply::NoMemory,

@@ -1,5 +1,5 @@
 //! An open slot.
-ghost use Rattle.std.specs.Prelude.{◌≡◌, ◌<◌, length, None, IfOk, OnErr};
+ghost use Rattle.std.specs.Prelude.{◌≡◌, ◌<◌, length, None, IfOk, OnOk, OnErr};
 ghost use Rattle.world_model.specs.Problem.{pair_count, restricted, narrowed};
 ghost use Rattle.world_model.specs.Node.{pair_at};
 ghost use Rattle.world_walk.specs.Walks.{FitsAsker};
@@ -55,27 +55,35 @@ impl OpenSlot {
         }
     }
 
-    /// A slot that keeps other statements.
-    pub(crate) fn restricted(&self, alloc: Global, flags: &[bool]) -> Result<OpenSlot, AllocError>
-        requires { length flags.now ≡ length self.now.problem.articulations }
-        ensures { IfOk result (λ s. s ≡ record { problem = restricted self.now.problem flags.now; last = None }) }
+    // Begins anew with a problem.
+    fn begin(&mut self, problem: Problem)
+        ensures { self.new ≡ record { problem = problem; last = None } }
     {
-        let problem = self.problem.restricted(alloc, flags)?;
-        Ok(OpenSlot::new(problem))
+        self.problem = problem;
+        self.last = None;
+        self.walk = None;
     }
 
-    /// A slot where a pair is narrowed besides.
-    pub(crate) fn narrowed(
-        &self,
-        alloc: Global,
-        pair: u32,
-        set: RelSet,
-    ) -> Result<OpenSlot, AllocError>
-        requires { pair < pair_count self.now.problem }
-        ensures { IfOk result (λ s. s ≡ record { problem = narrowed self.now.problem (pair_at self.now.problem pair) set; last = None }) }
+    /// Keeps other statements, and begins anew.
+    pub(crate) fn keep(&mut self, alloc: Global, flags: &[bool]) -> Result<(), AllocError>
+        requires { length flags.now ≡ length self.old.problem.articulations }
+        ensures kept { OnOk result (self.new ≡ record { problem = restricted self.old.problem flags.now; last = None }) }
+        ensures starved { OnErr result (self.new ≡ self.old) }
+    {
+        let problem = self.problem.restricted(alloc, flags)?;
+        self.begin(problem);
+        Ok(())
+    }
+
+    /// Narrows a pair besides, and begins anew.
+    pub(crate) fn narrow(&mut self, alloc: Global, pair: u32, set: RelSet) -> Result<(), AllocError>
+        requires { pair < pair_count self.old.problem }
+        ensures narrowed { OnOk result (self.new ≡ record { problem = narrowed self.old.problem (pair_at self.old.problem pair) set; last = None }) }
+        ensures starved { OnErr result (self.new ≡ self.old) }
     {
         let problem = self.problem.narrowed(alloc, pair, set)?;
-        Ok(OpenSlot::new(problem))
+        self.begin(problem);
+        Ok(())
     }
 
     /// Goes to the next world, if one is to come.
