@@ -1,9 +1,9 @@
 -- A slot's replies follow from its own acts.
 use Rattle.std.proofs.Common.{◌≡◌, List, [], ◌∷◌, ◌⊎◌, inl, inr, refl, sym, ap, ◌∙◌, subst, true≢false}
-use Rattle.std.specs.Prelude.{Option, Some, None, IsTrue}
+use Rattle.std.specs.Prelude.{Option, Some, None}
 use Rattle.std.proofs.lemmas.Bool.{not-true}
 use Rattle.rcc5_core.specs.declared.Rel.{Rel}
-use Rattle.world_model.specs.Problem.{Problem, restricted, narrowed}
+use Rattle.world_model.specs.Problem.{Problem}
 use Rattle.world_model.specs.Listing.{is_below}
 use Rattle.world_model.proofs.OrderPositions.{below_cases}
 use Rattle.world_walk.specs.ToCome.{IsFirstToCome, NoneToCome}
@@ -12,7 +12,7 @@ use Rattle.desk_script.specs.declared.requests.Act.TheVariants.{Open, Keep, Narr
 use Rattle.desk_core.specs.declared.reply.Reply.{Reply}
 use Rattle.desk_core.specs.declared.reply.Reply.TheVariants.{Opened, Kept, Narrowed, World, NoneLeft, Closed, SlotOpen, SlotClosed, NoMemory}
 use Rattle.desk_core.specs.Slots.{OpenSlot, Slot, IsNextReply, IsStep}
-use Rattle.desk_core.specs.Talks.{Exchange, Talk, acts, replies, IsAlone, SlotsAnswerAlone}
+use Rattle.desk_core.specs.Talks.{Talk, acts, replies, IsAlone, SlotsAnswerAlone}
 
 -- two first worlds are one
 one_first : (p : Problem) (last : Option (List Rel)) (t u : List Rel) → IsFirstToCome p last t → IsFirstToCome p last u → t ≡ u

@@ -1,6 +1,6 @@
 -- One request more keeps the slots apart.
-use Rattle.std.proofs.Common.{◌≡◌, ◌≢◌, ℕ, zero, suc, Bool, true, false, cond, List, [], ◌∷◌, ◌++◌, replicate, length, get_or, ◌<◌, ◌≤◌, ◌⊎◌, inl, inr, refl, sym, ap, ◌∙◌, subst, true≢false, eqb-true, eq-eqb, arith}
-use Rattle.std.specs.Prelude.{◌==◌, ◌&&◌, not, filter, Option, None}
+use Rattle.std.proofs.Common.{◌≡◌, ℕ, Bool, true, false, cond, [], ◌∷◌, ◌++◌, replicate, get_or, inl, inr, refl, sym, ap, ◌∙◌, subst, true≢false, eqb-true, eq-eqb, arith}
+use Rattle.std.specs.Prelude.{◌==◌, ◌&&◌, not, None}
 use Rattle.std.proofs.lemmas.Bool.{cases_lt}
 use Rattle.std.proofs.lemmas.List.{get_or-replicate, get_or_past, length-replicate}
 use Rattle.std.proofs.lemmas.List.Elements.{filter-append}
@@ -10,7 +10,7 @@ use Rattle.desk_core.specs.declared.reply.Reply.{Reply}
 use Rattle.desk_core.specs.declared.reply.Reply.TheVariants.{Opened, Kept, Narrowed, World, NoneLeft, Closed, SlotOpen, SlotClosed, NoMemory}
 use Rattle.desk_core.specs.Slots.{Slot, IsStep}
 use Rattle.desk_core.specs.Talks.{Exchange, Talk, is_starved, of_slot, IsAlone}
-use Rattle.desk_core.specs.Desks.{DeskState, slot_at, all_closed, IsExchange}
+use Rattle.desk_core.specs.Desks.{DeskState, slot_at, IsExchange}
 use Rattle.desk_core.specs.Apart.{IsAfter, SlotsStayApart}
 
 starved_is : (reply : Reply) → is_starved reply ≡ true → reply ≡ NoMemory

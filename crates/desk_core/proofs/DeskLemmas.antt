@@ -1,22 +1,18 @@
 -- What a step leaves of the desk.
-use Rattle.std.proofs.Common.{◌≡◌, ◌≢◌, ℕ, ◌<◌, ◌≤◌, length, get_or, set, List, [], ◌⊎◌, inl, inr, refl, sym, ap, ◌∙◌, subst, arith}
+use Rattle.std.proofs.Common.{◌≡◌, ◌≢◌, ℕ, ◌<◌, length, get_or, set, List, ◌⊎◌, inl, inr, refl, sym, ap, ◌∙◌, subst}
 use Rattle.std.specs.Prelude.{Option, Some, None}
-use Rattle.std.proofs.lemmas.List.{get_or-set_same, get_or-set_other, set-get_or, set-set, length-set}
+use Rattle.std.proofs.lemmas.List.{get_or-set_same, get_or-set_other, set-get_or, length-set}
 use Rattle.std.proofs.lemmas.Bool.{cases_eq}
-use Rattle.rcc5_core.specs.declared.Rel.{Rel}
-use Rattle.world_model.specs.Problem.{Problem, pair_count, restricted, narrowed}
-use Rattle.world_model.specs.Node.{pair_at}
-use Rattle.constraint_set.specs.Shape.{shape_of, SameShape}
+use Rattle.world_model.specs.Problem.{Problem, pair_count}
+use Rattle.constraint_set.specs.Shape.{SameShape}
 use Rattle.point_query.specs.Asking.{AskerState}
 use Rattle.world_walk.specs.Walks.{FitsAsker}
-use Rattle.desk_script.specs.Requests.{IsRequest}
 use Rattle.desk_script.specs.declared.requests.Act.{Act}
 use Rattle.desk_script.specs.declared.requests.Act.TheVariants.{Open, Keep, Narrow, Next, Close}
-use Rattle.desk_script.specs.declared.requests.DeskRequest.{DeskRequest}
 use Rattle.desk_core.specs.declared.reply.Reply.{Reply}
 use Rattle.desk_core.specs.declared.reply.Reply.TheVariants.{Opened, Kept, Narrowed, World, NoneLeft, Closed, SlotOpen, SlotClosed, NoMemory}
-use Rattle.desk_core.specs.Slots.{OpenSlot, Slot, IsNextReply, IsStep}
-use Rattle.desk_core.specs.Desks.{DeskState, slot_at, IsAnswer, IsExchange}
+use Rattle.desk_core.specs.Slots.{Slot, IsStep}
+use Rattle.desk_core.specs.Desks.{IsAnswer, IsExchange}
 use Rattle.desk_core.specs.Keeping.{HasShape, IsDesk}
 use Rattle.desk_core.proofs.AloneLemmas.{by_reply}
 

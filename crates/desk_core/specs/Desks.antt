@@ -1,5 +1,5 @@
 -- What the desk is, and what a request does to it.
-use Rattle.std.specs.Prelude.{◌≡◌, ◌≢◌, ℕ, List, Option, None, replicate, slice_index_or}
+use Rattle.std.specs.Prelude.{◌≡◌, ◌≢◌, ℕ, List, None, replicate, slice_index_or}
 use Rattle.world_model.specs.Problem.{Problem}
 use Rattle.desk_script.specs.declared.requests.Act.{Act}
 use Rattle.desk_script.specs.declared.requests.DeskRequest.{DeskRequest}

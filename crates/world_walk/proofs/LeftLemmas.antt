@@ -1,16 +1,16 @@
 -- What a step along the worlds leaves of them.
-use Rattle.std.proofs.Common.{◌≡◌, true, false, not, Bool, inl, inr, List, [], ◌∷◌, refl, sym, ap, ◌∙◌, subst, true≢false, IsTrue}
+use Rattle.std.proofs.Common.{◌≡◌, true, false, Bool, inl, inr, List, [], ◌∷◌, refl, sym, ap, ◌∙◌, subst, true≢false, IsTrue}
 use Rattle.std.specs.Prelude.{◌↔◌, Option, Some, None, Contains}
 use Rattle.std.proofs.lemmas.Bool.{not-true, not_from_false}
 use Rattle.rcc5_core.specs.declared.Rel.{Rel}
 use Rattle.world_model.specs.Problem.{Problem}
 use Rattle.world_model.specs.Family.{IsPossibleWorld}
-use Rattle.world_model.specs.Listing.{is_below, is_before_end, IsListing}
-use Rattle.world_model.proofs.Members.{In, here, there, in_from_contains, contains_from_in}
+use Rattle.world_model.specs.Listing.{is_below, is_before_end}
+use Rattle.world_model.proofs.Members.{here, there, in_from_contains, contains_from_in}
 use Rattle.world_model.proofs.OrderPositions.{below_itself, below_chain, below_cases, below_apart, below_upto}
 use Rattle.world_model.proofs.OrderLists.{between_parts, between_from}
 use Rattle.table_walk.specs.Ahead.{Lists, ListsBetween}
-use Rattle.world_walk.specs.ToCome.{IsAbove, IsToCome, IsFirstToCome, NoneToCome, IsFrom, IsLeftAt, Comes}
+use Rattle.world_walk.specs.ToCome.{IsAbove, IsToCome, IsFirstToCome, IsFrom, IsLeftAt, Comes}
 
 -- where none is told, none is
 pub untold_none : (t : List Rel) → Contains [] t → ⊥
@@ -56,7 +56,7 @@ left_passed p (Some one) other told lists t = (
 )
 
 one_of : (x t : List Rel) → Contains (x ∷ []) t → t ≡ x
-one_of x t c = elim (in_from_contains (x ∷ []) c) [ | here same ↦ same | there i ↦ absurd (elim i [ ]) ]
+one_of x t c = elim (in_from_contains (x ∷ []) c) [ here same ↦ same | there i ↦ absurd (elim i [ ]) ]
 
 contains_one : (x t : List Rel) → t ≡ x → Contains (x ∷ []) t
 contains_one x t same = contains_from_in {xs = x ∷ []} (here same)

@@ -1,5 +1,5 @@
 -- What the steps of either kind of walk give.
-use Rattle.std.proofs.Common.{◌≡◌, ℕ, not, List, [], ◌∷◌, refl, sym, ap, ◌∙◌, subst, IsTrue}
+use Rattle.std.proofs.Common.{◌≡◌, ℕ, not, List, [], ◌∷◌, sym, ap, ◌∙◌, subst, IsTrue}
 use Rattle.std.specs.Prelude.{◌↔◌, Option, Some, None}
 use Rattle.std.proofs.lemmas.Bool.{not_from_false}
 use Rattle.rcc5_core.specs.declared.Rel.{Rel}
@@ -9,12 +9,12 @@ use Rattle.world_model.specs.Listing.{is_below, is_before_end}
 use Rattle.world_model.proofs.OrderPositions.{below_itself}
 use Rattle.table_walk.specs.Ahead.{IsOnward, Lists}
 use Rattle.table_walk.specs.Tables.{TablesState, IsNewListing, IsAtWorld, PassedTold}
-use Rattle.world_search.specs.Searching.{SearchState, Passes, Came, begun, last_place}
+use Rattle.world_search.specs.Searching.{SearchState, Passes, Came, last_place}
 use Rattle.world_walk.specs.declared.walk.Walk.{Walk}
 use Rattle.world_walk.specs.declared.walk.Walk.TheVariants.{ByTable, BySearch}
-use Rattle.world_walk.specs.ToCome.{IsFrom, IsLeftAt, Comes, IsToCome, IsFirstToCome, NoneToCome}
-use Rattle.world_walk.specs.Walks.{IsLeft, IsOver, IsNext, StandsBefore, StandsBehind}
-use Rattle.world_walk.proofs.LeftLemmas.{left_passed, told_comes, passed_comes, behind_comes, begun_comes, begun_left, none_left, front_behind, untold_none}
+use Rattle.world_walk.specs.ToCome.{IsFrom, IsLeftAt, Comes, IsFirstToCome, NoneToCome}
+use Rattle.world_walk.specs.Walks.{IsLeft, IsNext, StandsBefore, StandsBehind}
+use Rattle.world_walk.proofs.LeftLemmas.{left_passed, told_comes, passed_comes, behind_comes, begun_comes, begun_left, none_left, front_behind}
 
 -- the same positions, told otherwise
 comes_same : (before other after : List Rel → Type 0) (t : List Rel) → ((u : List Rel) → before u ↔ other u) → Comes other after t → Comes before after t
@@ -79,15 +79,9 @@ search_over p old new left same unbounded came end = (
     over : new.at ≡ None
     over = end ∙ ap (last_place new.from) unbounded
 
--- where walks begin
+-- where a walk by a table begins
 pub table_before : (p : Problem) (from : List Rel) (s : TablesState) → IsNewListing p from s → StandsBefore p from (ByTable s)
 table_before p from s new = subst (λ ts. (u : List Rel) → IsLeftAt p s.at ts u ↔ (IsPossibleWorld p u × IsFrom (Some from) u)) (sym new.untold) (begun_left p from s.at new.passed)
-
-pub search_before : (p : Problem) (from : List Rel) (s : SearchState) → s ≡ begun p from None → StandsBefore p from (BySearch s)
-search_before p from s new = subst (λ o. (u : List Rel) → IsLeftAt p o [] u ↔ (IsPossibleWorld p u × IsFrom (Some from) u)) (sym (ap (λ (x : SearchState). x.at) new)) (λ u. (
-  λ left. (left.world, left.from),
-  λ both. record { world = both.0; from = both.1; untold = untold_none u },
-))
 
 -- where a walk stands behind a world, its next step gives the first world to come, and it stands behind that
 pub steps_behind : (p : Problem) (last : Option (List Rel)) (old new : Walk) (t : List Rel) → StandsBehind p last old → IsNext p old new (Some t) → IsFirstToCome p last t × StandsBehind p (Some t) new

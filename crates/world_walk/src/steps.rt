@@ -42,11 +42,7 @@ pub(crate) fn next_told(
 }
 
 // Takes the asker out, or makes one.
-fn taken(
-    alloc: Global,
-    problem: &Problem,
-    asker: &mut Option<Asker>,
-) -> Result<Asker, AllocError>
+fn taken(alloc: Global, problem: &Problem, asker: &mut Option<Asker>) -> Result<Asker, AllocError>
     requires { FitsAsker problem.now asker.old }
     ensures none { asker.new ≡ None }
     ensures shape { IfOk result (λ one. one.shape ≡ shape_of problem.now) }

@@ -1,6 +1,6 @@
-use Rattle.std.proofs.Common.{◌≡◌, ◌∙◌, [], ◌∷◌, sym}
-use Rattle.std.specs.Prelude.{Option, None, Some}
-use Rattle.world_search.specs.Searching.{SearchState, Came, IsNext, IsNodeAtEnd, last_place}
+use Rattle.std.proofs.Common.{◌≡◌, ◌∙◌, [], ◌∷◌}
+use Rattle.std.specs.Prelude.{None, Some}
+use Rattle.world_search.specs.Searching.{Came, IsNext, IsNodeAtEnd, last_place}
 use Rattle.world_search.specs.Steps.{StandsBehind}
 use Rattle.world_walk.proofs.WalkLemmas.{search_next, search_over}
 use Rattle.world_walk.proofs.steps.next_found.Goals as goal

@@ -1,7 +1,7 @@
 use Rattle.std.proofs.Common.{◌≡◌, ◌∙◌, [], ◌∷◌, sym, ap, subst}
-use Rattle.std.specs.Prelude.{IfSome, IfNone, None}
+use Rattle.std.specs.Prelude.{IfSome}
 use Rattle.table_walk.specs.Tables.{IsAtWorld}
-use Rattle.world_walk.proofs.WalkLemmas.{table_next, table_over}
+use Rattle.world_walk.proofs.WalkLemmas.{table_next}
 use Rattle.world_walk.proofs.steps.next_told.Goals as goal
 
 pub returns-in_ok-table-in-Some-clause-next : goal.returns-in_ok-table-in-Some-clause-next

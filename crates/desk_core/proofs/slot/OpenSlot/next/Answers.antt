@@ -1,4 +1,4 @@
-use Rattle.std.proofs.Common.{◌≡◌, ◌∙◌, sym, subst}
+use Rattle.std.proofs.Common.{◌∙◌, sym, subst}
 use Rattle.std.specs.Prelude.{Some}
 use Rattle.world_walk.specs.Walks.{IsNext}
 use Rattle.desk_core.specs.Slots.{OpenSlot}

@@ -1,5 +1,5 @@
 use Rattle.std.proofs.Common.{sym, subst}
-use Rattle.std.specs.Prelude.{IfSome, Some}
+use Rattle.std.specs.Prelude.{IfSome}
 use Rattle.world_model.specs.Family.{IsPossibleWorld}
 use Rattle.world_walk.specs.Walks.{StandsBefore, StandsBehind}
 use Rattle.world_walk.proofs.WalkLemmas.{begins_behind, front_is_behind}
