@@ -74,7 +74,7 @@ pub(crate) fn next_found(
     *asker = Some(one);
     match step? {
         TableStep::World(table) => Ok(Some(table)),
-        // A node is left to visit, whatever their number.
+        // The nodes have no limit, so none is the last that may be visited.
         TableStep::Spent(_) => Ok(None),
         TableStep::End(_) => Ok(None),
     }
