@@ -3,7 +3,8 @@
 use crate::line::{is_plain, read_again};
 use crate::unknown::unknown_name;
 use crate::words::{switch_words, value_of};
-use align_top::{Key, PairKind};
+use command_line::Key;
+use run_ends::PairKind;
 use std::alloc::{AllocError, Global};
 use std::io;
 use text_words::reference_of;
@@ -48,7 +49,7 @@ fn explain_unknown(rt: &HostRuntime, words: &[String]) -> io::Result<()> {
 }
 
 /// Tells why two words name no pair of concepts.
-pub(crate) fn explain_pair(rt: &HostRuntime, words: &[String], kind: PairKind) -> io::Result<()> {
+pub fn explain_pair(rt: &HostRuntime, words: &[String], kind: PairKind) -> io::Result<()> {
     match kind {
         PairKind::UnknownConcept => explain_unknown(rt, words),
         PairKind::SameConcept => eprintln!(rt;
@@ -58,7 +59,7 @@ pub(crate) fn explain_pair(rt: &HostRuntime, words: &[String], kind: PairKind) -
 }
 
 /// Tells that the problem has more statements than all conflicts are looked for among.
-pub(crate) fn explain_many(rt: &impl Eprint, alloc: Global, words: &[String]) -> io::Result<()> {
+pub fn explain_many(rt: &impl Eprint, alloc: Global, words: &[String]) -> io::Result<()> {
     let input = value_of(words, Key::In);
     let switches = switch_words(alloc, words)?;
     eprintln!(rt;
@@ -78,7 +79,7 @@ fn are_of_one(left: &str, right: &str) -> bool {
 }
 
 /// Tells that the statements don't say what was to be explained.
-pub(crate) fn explain_open(rt: &impl Eprint, alloc: Global, words: &[String]) -> io::Result<()> {
+pub fn explain_open(rt: &impl Eprint, alloc: Global, words: &[String]) -> io::Result<()> {
     let (input, left, right) = (
         value_of(words, Key::In),
         value_of(words, Key::Left),

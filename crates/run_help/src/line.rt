@@ -1,7 +1,7 @@
 //! The text of a problem, read once more, and its line that has the fault.
 
-use align_top::{TEXT_LIMIT, read_front};
 use outer_store::FileStore;
+use run_ends::{TEXT_LIMIT, read_front};
 use std::{fs, io};
 
 // Whether a name can be read once more: a pipe may wait for ever, and what has come out of it is gone.
@@ -21,7 +21,7 @@ pub(crate) fn is_there(rt: &HostRuntime, name: &str) -> bool {
 }
 
 /// What a file holds, read once more where that can be done; else nothing.
-pub(crate) fn read_again(rt: &HostRuntime, name: &str) -> Vec<u8> {
+pub fn read_again(rt: &HostRuntime, name: &str) -> Vec<u8> {
     let alloc = rt.alloc();
     if !is_file(rt, name) {
         return Vec::new(alloc);
@@ -34,7 +34,7 @@ pub(crate) fn read_again(rt: &HostRuntime, name: &str) -> Vec<u8> {
 }
 
 /// The line with this number, from 1; empty where there is none.
-pub(crate) fn line_of(text: &str, number: u32) -> &str {
+pub fn line_of(text: &str, number: u32) -> &str {
     let mut count: u32 = 0;
     for line in text.lines() {
         count = count.saturating_add(1);
@@ -56,7 +56,7 @@ pub(crate) fn is_plain(text: &str) -> bool {
 }
 
 /// Shows a line, if it may be shown.
-pub(crate) fn show_line(rt: &impl Eprint, line: &str) -> io::Result<()> {
+pub fn show_line(rt: &impl Eprint, line: &str) -> io::Result<()> {
     if is_plain(line) {
         eprintln!(rt; "  {line}")?;
     }

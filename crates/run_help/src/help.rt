@@ -5,7 +5,7 @@ use cert_rules::RejectKind;
 use resume_token::TokenKind;
 
 /// What a fault of a token means, and what to do about it.
-pub(crate) fn token_help(kind: TokenKind) -> &'static str {
+pub fn token_help(kind: TokenKind) -> &'static str {
     match kind {
         TokenKind::BadToken =>
             "this is no token; give a file that `align` or `parts` wrote under `token=`",
@@ -19,7 +19,7 @@ pub(crate) fn token_help(kind: TokenKind) -> &'static str {
 }
 
 /// What a fault of a certificate's text means.
-pub(crate) fn certificate_help(kind: CertTextKind) -> &'static str {
+pub fn certificate_help(kind: CertTextKind) -> &'static str {
     match kind {
         CertTextKind::BadLine => {
             "this line has no form that may stand here; the file was changed, or is no certificate"
@@ -37,7 +37,7 @@ pub(crate) fn certificate_help(kind: CertTextKind) -> &'static str {
 }
 
 /// Why a line of a certificate is rejected.
-pub(crate) fn rejection_help(kind: RejectKind) -> &'static str {
+pub fn rejection_help(kind: RejectKind) -> &'static str {
     match kind {
         RejectKind::UnknownHint => "a hint names a clause that isn't there",
         RejectKind::HintNotUnit => {

@@ -1,10 +1,10 @@
 //! What words say, read once more for people: their command, and the values of its keys.
 
-use align_top::{Command, Key, KeyKind};
+use command_line::{Command, Key, KeyKind};
 use std::alloc::{AllocError, Global};
 
 /// The command of the first word, if it is one.
-pub(crate) fn command_of(words: &[String]) -> Option<Command> {
+pub fn command_of(words: &[String]) -> Option<Command> {
     match words.first() {
         Some(word) => Command::named(word.as_str()),
         None => None,
@@ -12,7 +12,7 @@ pub(crate) fn command_of(words: &[String]) -> Option<Command> {
 }
 
 /// What stands before the equals sign of a word.
-pub(crate) fn key_of(word: &str) -> &str {
+pub fn key_of(word: &str) -> &str {
     match word.split_once('=') {
         Some((key, _)) => key,
         None => word,
@@ -28,7 +28,7 @@ pub(crate) fn value_in(word: &str) -> &str {
 }
 
 /// The value of a key; empty where no word gives it.
-pub(crate) fn value_of<'a>(words: &'a [String], key: Key) -> &'a str {
+pub fn value_of<'a>(words: &'a [String], key: Key) -> &'a str {
     for word in words {
         if key_of(word.as_str()) == key.name() {
             return value_in(word.as_str());
@@ -38,14 +38,14 @@ pub(crate) fn value_of<'a>(words: &'a [String], key: Key) -> &'a str {
 }
 
 /// What the value of a word is, by its key.
-pub(crate) fn kind_of(words: &[String], word: &str) -> Option<KeyKind> {
+pub fn kind_of(words: &[String], word: &str) -> Option<KeyKind> {
     let command = command_of(words)?;
     let key = command.key_named(key_of(word))?;
     Some(key.kind())
 }
 
 /// The switches that words give, each behind a space.
-pub(crate) fn switch_words(alloc: Global, words: &[String]) -> Result<String, AllocError> {
+pub fn switch_words(alloc: Global, words: &[String]) -> Result<String, AllocError> {
     let mut text = String::new(alloc);
     for word in words {
         let word = word.as_str();

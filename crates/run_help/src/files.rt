@@ -2,7 +2,7 @@
 
 use crate::line::is_there;
 use crate::words::{command_of, files_of, value_in, value_of};
-use align_top::{Command, Key};
+use command_line::{Command, Key};
 use outer_store::FileStore;
 use std::alloc::{AllocError, Global};
 use std::io;
@@ -79,7 +79,7 @@ fn unread(rt: &HostRuntime, names: &[&str]) -> Result<String, AllocError> {
 }
 
 /// Tells that a file can't be read: which one, where one of several is not there.
-pub(crate) fn explain_read(rt: &HostRuntime, words: &[String]) -> io::Result<()> {
+pub fn explain_read(rt: &HostRuntime, words: &[String]) -> io::Result<()> {
     let names = files_read(rt.alloc(), words)?;
     let told = unread(rt, &names)?;
     eprintln!(rt;
@@ -98,7 +98,7 @@ fn word_naming<'a>(words: &'a [String], name: &'a str) -> &'a str {
 }
 
 /// Tells that something can't be written, or that two words name one file, which the second would have replaced.
-pub(crate) fn explain_write(
+pub fn explain_write(
     rt: &HostRuntime,
     words: &[String],
     store: &FileStore<'_, HostRuntime>,

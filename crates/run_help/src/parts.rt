@@ -5,9 +5,10 @@ ghost use Rattle.constraint_set.specs.Facts.{IsAsRead};
 use crate::help::{certificate_help, rejection_help};
 use crate::line::read_again;
 use crate::words::{switch_words, value_of};
-use align_top::{Key, PartKind};
 use cleantax_text::read_problem;
+use command_line::Key;
 use constraint_set::{Problem, Switches};
+use part_rules::PartKind;
 use rcc5_core::Position;
 use resume_token::read_token;
 use std::alloc::{AllocError, Global};
@@ -35,7 +36,7 @@ fn has_token(rt: &HostRuntime, problem: &Problem, name: &str) -> bool
 }
 
 /// The name of the token that was refused. Of two tokens it is the first, unless that one can be read.
-pub(crate) fn refused_token<'a>(rt: &HostRuntime, words: &'a [String]) -> &'a str {
+pub fn refused_token<'a>(rt: &HostRuntime, words: &'a [String]) -> &'a str {
     let (resume, until) = (value_of(words, Key::Resume), value_of(words, Key::Until));
     if resume.is_empty() {
         return until;
@@ -55,7 +56,7 @@ pub(crate) fn refused_token<'a>(rt: &HostRuntime, words: &'a [String]) -> &'a st
 }
 
 /// Tells that a part has nothing to list.
-pub(crate) fn explain_empty(rt: &impl Eprint, words: &[String]) -> io::Result<()> {
+pub fn explain_empty(rt: &impl Eprint, words: &[String]) -> io::Result<()> {
     let until = value_of(words, Key::Until);
     eprintln!(rt;
         "{until}: the position of this token is not above the one at which the part begins, so there is nothing to list; give the earlier token as resume= and the later one as until="
@@ -75,7 +76,7 @@ fn name_at(names: &str, number: u64) -> &str {
 }
 
 /// Tells what is wrong with the certificate of a part, by its number from 1.
-pub(crate) fn explain_part(
+pub fn explain_part(
     rt: &impl Eprint,
     words: &[String],
     part: u64,
@@ -113,7 +114,7 @@ fn part_words(
 }
 
 /// Tells that no part lists what lies from one position on and below another, or to the end.
-pub(crate) fn explain_gap(
+pub fn explain_gap(
     rt: &impl Eprint,
     alloc: Global,
     words: &[String],

@@ -172,11 +172,7 @@ pub(crate) fn unknown_name(
 }
 
 /// What to say of each name of a statement that no row above has, by the text and the number of the statement's line.
-pub(crate) fn unknown_names(
-    alloc: Global,
-    text: &str,
-    number: u32,
-) -> Result<Vec<String>, AllocError> {
+pub fn unknown_names(alloc: Global, text: &str, number: u32) -> Result<Vec<String>, AllocError> {
     let mut told = Vec::new(alloc);
     let above = above(alloc, text, number)?;
     let Some(problem) = problem_of(alloc, above.as_bytes()) else {
