@@ -88,7 +88,6 @@ fn is_within_at(problem: &Problem, bits: &[bool], concept: u32) -> bool
 }
 
 // Whether no two different ones of some concepts have the point, the first of which is given.
-#[tactic(auto, using(point_table::proofs::PointTests::apart_of_none))]
 fn is_apart_from(bits: &[bool], child: u32, children: &[u32]) -> bool
     ensures { result ≡ list_all (λ other. (child == other) || not (bit_of bits.now child && bit_of bits.now other)) children.now }
 {
