@@ -25,32 +25,36 @@ request_of p slot words =
     need (number_in 1 16 slot) BadSlot (λ n.
     asked n (act_of p form)))
 
+-- what lines come to: their requests, or the first fault with its line
+abbrev pub Outcome : Type 0
+Outcome = Result (List DeskRequest) (ℕ × ScriptKind)
+
 -- requests before others
-abbrev pub onto : List DeskRequest → Result (List DeskRequest) (ℕ × ScriptKind) → Result (List DeskRequest) (ℕ × ScriptKind)
+abbrev pub onto : List DeskRequest → Outcome → Outcome
 onto requests (Ok others) = Ok (requests ++ others)
 onto requests (Err fault) = Err fault
 
 -- a request before those of the lines after it, or a fault with its line
-abbrev pub before_rest : ℕ → Result DeskRequest ScriptKind → Result (List DeskRequest) (ℕ × ScriptKind) → Result (List DeskRequest) (ℕ × ScriptKind)
+abbrev pub before_rest : ℕ → Result DeskRequest ScriptKind → Outcome → Outcome
 before_rest number (Ok request) rest = onto (request ∷ []) rest
 before_rest number (Err kind) rest = Err (number, kind)
 
 -- a line by its words; one without words is passed over
-abbrev pub with_line : Problem → ℕ → List (List ℕ) → Result (List DeskRequest) (ℕ × ScriptKind) → Result (List DeskRequest) (ℕ × ScriptKind)
+abbrev pub with_line : Problem → ℕ → List (List ℕ) → Outcome → Outcome
 with_line p number [] rest = rest
 with_line p number (slot ∷ words) rest = before_rest number (request_of p slot words) rest
 
--- the requests of lines, or their first fault with its line, where the first of these lines has this number
-abbrev pub script_lines : Problem → ℕ → List (List ℕ) → Result (List DeskRequest) (ℕ × ScriptKind)
+-- what lines come to, where the first of them has this number
+abbrev pub script_lines : Problem → ℕ → List (List ℕ) → Outcome
 script_lines p number [] = Ok []
 script_lines p number (line ∷ lines) = with_line p number (words_in line) (script_lines p (number + 1) lines)
 
--- the requests of a script of 1,048,576 bytes at most, or its first fault with its line
-abbrev pub script_result : Problem → List ℕ → Result (List DeskRequest) (ℕ × ScriptKind)
+-- what a script comes to; it may have 1,048,576 bytes
+abbrev pub script_result : Problem → List ℕ → Outcome
 script_result p bytes = if nat_lt 1048576 (length bytes) then Err (0, TooLong) else script_lines p 1 (lines_of bytes)
 
--- that is answered, the requests or the fault, unless memory was wanting
-abbrev pub Gives : Result (Vec DeskRequest) ScriptFault → Result (List DeskRequest) (ℕ × ScriptKind) → Type 0
+-- a reader's answer is right, unless memory was wanting
+abbrev pub Gives : Result (Vec DeskRequest) ScriptFault → Outcome → Type 0
 Gives (Ok requests) right = right ≡ Ok requests.items
 Gives (Err (Refused line kind)) right = right ≡ Err (line, kind)
 Gives (Err NoMemory) right = Unit {0}

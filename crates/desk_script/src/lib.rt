@@ -1,4 +1,4 @@
-//! The desk's script: requests to open, change and ask copies of one problem.
+//! The desk's requests, and the reader of its script.
 #![tactic(auto)]
 
 ghost use Rattle.std.specs.Prelude.{◌≡◌, All, IfOk};
@@ -54,9 +54,9 @@ impl ScriptKind {
             ScriptKind::TooLong => "the script has more than 1,048,576 bytes",
             ScriptKind::BadLine => "a line has none of the forms",
             ScriptKind::BadSlot => "a slot is not a number from 1 to 16",
-            ScriptKind::BadBits => "a line does not have a 0 or 1 for each statement",
+            ScriptKind::BadBits => "the flags are not a 0 or 1 for each statement",
             ScriptKind::UnknownConcept => "a concept is not known",
-            ScriptKind::SameConcept => "a concept is to be narrowed with itself",
+            ScriptKind::SameConcept => "two references name the same concept",
             ScriptKind::BadLetters => "a set has a byte that is no letter of a relation",
         }
     }

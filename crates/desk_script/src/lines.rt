@@ -46,6 +46,7 @@ fn request_of(
 }
 
 /// The requests of a script that isn't too long.
+#[tactic(auto, using(crate::proofs::LineLemmas::line_rules))]
 pub(crate) fn read_lines(
     alloc: Global,
     problem: &Problem,
