@@ -4,7 +4,7 @@
 mod files;
 mod help;
 mod line;
-mod nearest;
+mod near;
 mod pairs;
 mod parts;
 mod unknown;
@@ -13,7 +13,7 @@ mod words;
 pub use files::{explain_read, explain_write};
 pub use help::{certificate_help, rejection_help, token_help};
 pub use line::{line_of, read_again, show_line};
-pub use nearest::nearest;
+pub use near::nearest;
 pub use pairs::{explain_many, explain_open, explain_pair};
 pub use parts::{explain_empty, explain_gap, explain_part, refused_token};
 pub use unknown::unknown_names;

@@ -1,7 +1,7 @@
 //! Which name of a statement no row above has, and what may be meant by it.
 
 use crate::line::{is_plain, line_of};
-use crate::nearest::nearest;
+use crate::near::nearest;
 use cleantax_text::read_problem;
 use constraint_set::{Problem, Switches};
 use std::alloc::{AllocError, Global};
