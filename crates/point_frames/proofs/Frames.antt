@@ -19,12 +19,12 @@ use Rattle.point_frames.specs.Frames.{is_occupied, AreWithin, Satisfies, AreRegi
 pub some_alike : (f g : ℕ → Bool) → ((k : ℕ) → f k ≡ true → g k ≡ true) → SomePlace f → SomePlace g
 some_alike f g to some = record { place = some.place; passes = to some.place some.passes }
 
--- a place that three tests pass, by what the tests show
-pub shown_some : (a b f g h : ℕ → Bool) → ((k : ℕ) → a k ≡ f k) → ((k : ℕ) → b k ≡ g k) → SomePlace (λ k. a k && b k && h k) → SomePlace (λ k. f k && g k && h k)
-shown_some a b f g h one other some = record {
-  place = some.place;
-  passes = ap (λ x. x && g some.place && h some.place) (sym (one some.place)) ∙ ap (λ x. a some.place && x && h some.place) (sym (other some.place)) ∙ some.passes;
-}
+-- a place that passes a test of a row passes it by another that shows the row
+pub some_as : (g : Bool → ℕ → Bool) (a b : ℕ → Bool) → ((k : ℕ) → a k ≡ b k) → SomePlace (λ k. g (a k) k) ↔ SomePlace (λ k. g (b k) k)
+some_as g a b same = (
+  λ some. record { place = some.place; passes = ap (λ x. g x some.place) (sym (same some.place)) ∙ some.passes },
+  λ some. record { place = some.place; passes = ap (λ x. g x some.place) (same some.place) ∙ some.passes },
+)
 
 pub three_parts : (a b c : Bool) → (a && b && c) ≡ true → (a ≡ true) × (b ≡ true) × (c ≡ true)
 three_parts true true true h = (refl, refl, refl)
@@ -72,7 +72,7 @@ occupied_left words region a b occupied lies =
     out false b h = refl
 
 -- the other cells
-others_not : (cells : Cells) (a b : Bool) → in_cells (other_cells cells) a b ≡ not (in_cells cells a b)
+pub others_not : (cells : Cells) (a b : Bool) → in_cells (other_cells cells) a b ≡ not (in_cells cells a b)
 others_not cells true true = refl
 others_not cells true false = refl
 others_not cells false true = refl

@@ -1,3 +1,4 @@
 pub mod Frames
 pub mod Needs
 pub mod Grouped
+pub mod Joined
