@@ -1,20 +1,17 @@
 -- Rows in two places: what each row of both together has, and which places satisfy them.
-use Rattle.std.proofs.Common.{◌≡◌, ℕ, ◌+◌, ◌-◌, ◌*◌, ◌/◌, ◌%◌, ◌<◌, ◌≤◌, ◌↔◌, Bool, true, ◌&&◌, not, List, ◌++◌, inl, inr, length, get_or, drop, refl, sym, ap, ◌∙◌, subst, arith, Ok, Err}
+use Rattle.std.proofs.Common.{◌≡◌, ℕ, ◌+◌, ◌-◌, ◌*◌, ◌/◌, ◌%◌, ◌<◌, ◌≤◌, ◌↔◌, Bool, true, ◌&&◌, List, ◌++◌, inl, inr, length, get_or, drop, refl, sym, ap, ◌∙◌, subst, arith, Ok, Err}
 use Rattle.std.specs.Prelude.{replicate, Result, IfOk, OnOk}
 use Rattle.std.proofs.Math.Nat.{mul-le-mul_right}
-use Rattle.std.proofs.lemmas.Bool.{and_from, and_parts, cases_lt, cases_Bool}
+use Rattle.std.proofs.lemmas.Bool.{cases_lt}
 use Rattle.std.proofs.lemmas.List.{length-append, length-replicate, length-take, get_or_append_left, get_or-append_right, get_or-replicate, get_or_past, get_or-take, get_or-drop}
-use Rattle.rcc5_core.specs.declared.Occupancy.{Occupancy}
-use Rattle.rcc5_core.specs.declared.Region.{Region}
-use Rattle.rcc5_core.specs.declared.Region.TheVariants.{LeftOnly, Both, RightOnly}
 use Rattle.rcc5_core.specs.declared.Regions.{Regions}
 use Rattle.bit_rows.specs.declared.words.Cells.{Cells}
-use Rattle.bit_rows.specs.Rows.{word_bit, BitRows, SomePlace, bit_in, in_cells, other_cells, IsPushed, IsPut}
+use Rattle.bit_rows.specs.Rows.{word_bit, BitRows, SomePlace, bit_in, in_cells, IsPushed, IsPut}
 use Rattle.bit_rows.proofs.RowBits.{bit_within, bit_past}
-use Rattle.world_model.specs.Alive.{lies_by, avoids_by}
-use Rattle.point_frames.specs.Frames.{AreWithin, Satisfies, IsInRegion, IsMetBy, IsRegionMet, AreRegionsMet, left_at, IsOwing, IsNarrowed}
-use Rattle.point_frames.specs.Joined.{filled, joined, HaveSome, HasFirst}
-use Rattle.point_frames.proofs.Frames.{some_alike, some_as, three_from, three_regions, others_not, AreKept}
+use Rattle.world_model.specs.Alive.{avoids_by}
+use Rattle.point_frames.specs.Frames.{Satisfies, AreRegionsMet, SayAlike, left_at, IsOwing, IsNarrowed}
+use Rattle.point_frames.specs.Joined.{filled, joined, HasFirst}
+use Rattle.point_frames.proofs.Frames.{some_alike, some_as, left_within, AreKept}
 use Rattle.point_frames.proofs.Needs.{mask_pushed}
 
 -- what follows from an answer follows from what it says
@@ -111,6 +108,10 @@ joined_left own base places g shows wide two low =
     left : (r : ℕ) → SomePlace (λ k. g (bit_in (joined own base) r k) (places k) k) ↔ SomePlace (λ k. g (bit_in (joined own base) r k) (bit_in (joined own base) 0 k) k)
     left r = some_as (λ x k. g (bit_in (joined own base) r k) x k) places (bit_in (joined own base) 0) (λ k. shows k ∙ sym (joined_own own base 0 k (omega (arith, two))))
 
+-- some places are one of each open row
+abbrev pub HaveSome : BitRows → (ℕ → Bool) → Type 0
+HaveSome rows some = (r : ℕ) → 2 ≤ r → r < rows.count → SomePlace (λ k. bit_in rows r k && some k)
+
 -- what satisfies both together
 pub joined_satisfies : (own base : BitRows) (some : ℕ → Bool) → base.width ≡ own.width → 2 ≤ own.count → 2 ≤ base.count →
     Satisfies (joined own base) (own.count + (base.count - 2)) some ↔ (Satisfies own own.count some × HaveSome base some)
@@ -190,13 +191,9 @@ narrowed_first old mid new l r words two first is = record {
     left : (k : ℕ) → left_at mid l r words k ≡ left_at old l r words k
     left k = ap (λ b. b && avoids_by words (l k) (r k)) (first.same 0 k (omega (arith, two)))
 
--- words that say the same of regions, for places of some that are one of each open row
-abbrev pub AreAlike : BitRows → (ℕ → Bool) → (ℕ → Bool) → (ℕ → Bool) → Regions → Regions → Type 0
-AreAlike base places l r words needed = (some : ℕ → Bool) → AreWithin some places → HaveSome base some → AreRegionsMet needed l r some ↔ AreRegionsMet words l r some
-
--- words are said of two sets: the own rows change, and what the base sees to is not added
+-- words are said of two sets: the own rows change, and no need is added that is there already
 pub joined_narrowed : (own mid new base : BitRows) (l r places : ℕ → Bool) (words needed : Regions) (kept : Cells) → AreKept kept words → ((k : ℕ) → places k ≡ bit_in own 0 k) → base.width ≡ own.width → 2 ≤ own.count → 2 ≤ base.count →
-    IsPut own mid 0 (λ k. places k && places k && in_cells kept (l k) (r k)) → AreAlike base places l r words needed → IsOwing mid new (AreRegionsMet needed l r) → IsNarrowed (joined own base) (joined new base) l r words
+    IsPut own mid 0 (λ k. places k && places k && in_cells kept (l k) (r k)) → SayAlike (joined own base) l r needed words → IsOwing mid new (AreRegionsMet needed l r) → IsNarrowed (joined own base) (joined new base) l r words
 joined_narrowed own mid new base l r places words needed kept are shows wide two low put alike o = record {
   width = width;
   mask = λ k. joined_own new base 0 k (omega (arith, o.rows_two)) ∙ o.mask k ∙ put.there k ∙ left k;
@@ -206,9 +203,9 @@ joined_narrowed own mid new base l r places words needed kept are shows wide two
       let before = joined_satisfies own base some wide two low in
       let after = joined_satisfies new base some (wide ∙ sym width) o.rows_two low in
       let same = put_satisfies some in
-      let words_same = alike some (λ k h. (and_parts (places k) (places k) (and_parts (places k && places k) (in_cells kept (l k) (r k)) (here k h)).0).0) in (
-        λ s. let m = after.0 s in let f = both.0 m.0 in (before.1 (same.0 f.0, m.1), (words_same m.1).0 f.1),
-        λ h. let m = before.0 h.0 in after.1 (both.1 (same.1 m.0, (words_same m.1).1 h.1), m.1),
+      let words_same = alike some (λ k h. left_within (joined own base) l r words k (within k h)) in (
+        λ s. let m = after.0 s in let f = both.0 m.0 in let all = before.1 (same.0 f.0, m.1) in (all, (words_same all).0 f.1),
+        λ h. let m = before.0 h.0 in after.1 (both.1 (same.1 m.0, (words_same h.0).1 h.1), m.1),
       );
 }
   where
@@ -242,27 +239,3 @@ first_more old now new n test first pushed is = record {
         subst (λ q. bit_in new q k ≡ bit_in old q k) here (ap (λ q. bit_in new q k) (sym first.counted) ∙ pushed.there k ∙ is k)
   ];
 }
-
--- a row with no place that is left outside a region
-pub in_region : (row shown places l r some : ℕ → Bool) (region : Region) (cells outside : Cells) → ((k : ℕ) → shown k ≡ row k) → ((a b : Bool) → in_cells cells a b ≡ lies_by region a b) → outside ≡ other_cells cells → AreWithin some places →
-    (SomePlace (λ k. shown k && places k && in_cells outside (l k) (r k)) → ⊥) → SomePlace (λ k. row k && some k) → IsInRegion l r some region
-in_region row shown places l r some region cells outside shows are is within none there =
-    let k = there.place in
-    let parts = and_parts (row k) (some k) there.passes in
-    record {
-      place = k;
-      passes = and_from (some k) (lies_by region (l k) (r k)) parts.1 (elim (cases_Bool (lies_by region (l k) (r k))) [
-        | inl lies ↦ lies
-        | inr out ↦
-            let beyond : in_cells outside (l k) (r k) ≡ true = ap (λ cells. in_cells cells (l k) (r k)) is ∙ others_not cells (l k) (r k) ∙ ap not (are (l k) (r k) ∙ out) in
-            absurd (none (record { place = k; passes = three_from (shown k) (places k) (in_cells outside (l k) (r k)) (shows k ∙ parts.0) (within k parts.1) beyond }))
-      ]);
-    }
-
--- words that say the same of three regions
-pub alike_by_three : (words : Regions) (l r some : ℕ → Bool) (a b c : Occupancy) → (IsMetBy a l r some LeftOnly ↔ IsRegionMet words l r some LeftOnly) → (IsMetBy b l r some Both ↔ IsRegionMet words l r some Both) →
-    (IsMetBy c l r some RightOnly ↔ IsRegionMet words l r some RightOnly) → AreRegionsMet (record { left_only = a; both = b; right_only = c }) l r some ↔ AreRegionsMet words l r some
-alike_by_three words l r some a b c one two three = (
-  λ h. three_regions (IsRegionMet words l r some) (one.0 (h LeftOnly)) (two.0 (h Both)) (three.0 (h RightOnly)),
-  λ h. three_regions (IsRegionMet (record { left_only = a; both = b; right_only = c }) l r some) (one.1 (h LeftOnly)) (two.1 (h Both)) (three.1 (h RightOnly)),
-)

@@ -56,6 +56,10 @@ IsRegionMet words left right some region = IsMetBy (word_at words region) left r
 abbrev pub AreRegionsMet : Regions → (ℕ → Bool) → (ℕ → Bool) → (ℕ → Bool) → Type 0
 AreRegionsMet words left right some = (region : Region) → IsRegionMet words left right some region
 
+-- two triples of words say the same of regions, for those places that are left which satisfy the rows
+abbrev pub SayAlike : BitRows → (ℕ → Bool) → (ℕ → Bool) → Regions → Regions → Type 0
+SayAlike rows left right one other = (some : ℕ → Bool) → AreWithin some (left_of rows) → Satisfies rows rows.count some → AreRegionsMet one left right some ↔ AreRegionsMet other left right some
+
 -- a region's cell
 abbrev pub cell_of : Cells → Region → Bool
 cell_of cells LeftOnly = cells.left_only

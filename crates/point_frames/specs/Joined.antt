@@ -20,11 +20,7 @@ pub record StandsOn (own : BitRows) (base : Base) : Type 0 where
   pub width : base.rows.width ≡ own.width
   pub grouped : AreGrouped base.rows base.groups.items base.grouped
 
--- some places are one of each open row
-abbrev pub HaveSome : BitRows → (ℕ → Bool) → Type 0
-HaveSome rows some = (r : ℕ) → 2 ≤ r → r < rows.count → SomePlace (λ k. bit_in rows r k && some k)
-
--- some are one of those places of each that lie in some cells of two sets
+-- some places are one of those of each open row that others leave in some cells of two sets
 abbrev pub HaveSomeIn : BitRows → (ℕ → Bool) → (ℕ → Bool) → (ℕ → Bool) → Cells → (ℕ → Bool) → Type 0
 HaveSomeIn rows places left right cells some = (r : ℕ) → 2 ≤ r → r < rows.count → SomePlace (λ k. (bit_in rows r k && places k && in_cells cells (left k) (right k)) && some k)
 

@@ -1,15 +1,11 @@
 //! Bases: the open rows that frames share, in their groups.
-ghost use Rattle.std.specs.Prelude.{◌≡◌, ℕ, ◌<◌, ◌≤◌, ◌↔◌, Bool, true, IfOk, IsTrue};
+ghost use Rattle.std.specs.Prelude.{◌≡◌, ℕ, ◌<◌, ◌≤◌, ◌↔◌, IfOk, IsTrue};
 ghost use Rattle.bit_rows.specs.Rows.{has_bit};
-ghost use Rattle.point_frames.specs.Frames.{AreWithin, AreRegionsMet, IsInRegion, IsMetBy, IsRegionMet};
 ghost use Rattle.point_frames.specs.Groups.{AreGrouped, AreMetBelow, IsOpenMet};
-ghost use Rattle.point_frames.specs.Joined.{HasFirst, HaveSome};
+ghost use Rattle.point_frames.specs.Joined.{HasFirst};
 
-use crate::builder::first_compared;
 use crate::groups::{FIRST_OPEN, Group, groups_met, groups_of};
-use crate::words::{is_occupied, region_cell};
 use bit_rows::{Cells, Rows, Sides, meets};
-use rcc5_core::{Occupancy, Region, Regions};
 use std::alloc::{AllocError, Global};
 
 /// The rows of a frame as they were when it was made. Its open rows hold for all frames that come of it, and are in groups
@@ -83,53 +79,5 @@ impl Base {
     {
         groups_met(&self.rows, &self.groups, self.grouped, left, sides, cells)
             && are_met_from(&self.rows, self.grouped, left, sides, cells)
-    }
-
-    // Whether one of the last so many open rows has places left in a region alone, so that one has to stay there.
-    fn is_in_region(&self, left: &[u64], sides: &Sides, region: Region, most: usize) -> bool
-        ensures { result ≡ true → (some : ℕ → Bool) → AreWithin some (has_bit left.now) → HaveSome self.now.rows some → IsInRegion (has_bit sides.now.left.now) (has_bit sides.now.right.now) some region }
-    {
-        let outside = region_cell(region).others();
-        let count = self.rows.count();
-        for row in first_compared(count, most)..count {
-            if !meets(self.rows.row(row), left, sides, outside) {
-                return true;
-            }
-        }
-        false
-    }
-
-    // The word for a region, unless an open row sees to it that one has to stay there.
-    fn word_left(
-        &self,
-        left: &[u64],
-        sides: &Sides,
-        words: Regions,
-        region: Region,
-        most: usize,
-    ) -> Occupancy
-        ensures { (some : ℕ → Bool) → AreWithin some (has_bit left.now) → HaveSome self.now.rows some → IsMetBy result (has_bit sides.now.left.now) (has_bit sides.now.right.now) some region ↔ IsRegionMet words (has_bit sides.now.left.now) (has_bit sides.now.right.now) some region }
-    {
-        if is_occupied(words, region) && self.is_in_region(left, sides, region, most) {
-            return Occupancy::Free;
-        }
-        words.at(region)
-    }
-
-    /// Words about two sets, without the regions that open rows see to. So many rows are looked at: a hint.
-    pub(crate) fn words_left(
-        &self,
-        left: &[u64],
-        sides: &Sides,
-        words: Regions,
-        most: usize,
-    ) -> Regions
-        ensures { (some : ℕ → Bool) → AreWithin some (has_bit left.now) → HaveSome self.now.rows some → AreRegionsMet result (has_bit sides.now.left.now) (has_bit sides.now.right.now) some ↔ AreRegionsMet words (has_bit sides.now.left.now) (has_bit sides.now.right.now) some }
-    {
-        Regions {
-            left_only: self.word_left(left, sides, words, Region::LeftOnly, most),
-            both: self.word_left(left, sides, words, Region::Both, most),
-            right_only: self.word_left(left, sides, words, Region::RightOnly, most),
-        }
     }
 }

@@ -21,8 +21,8 @@ struct Sieve {
     most: usize,
 }
 
-/// The first of the rows below a number of which so many are looked at.
-pub(crate) fn first_compared(last: usize, most: usize) -> usize
+// The first row that is set beside the last one.
+fn first_compared(last: usize, most: usize) -> usize
     ensures { 2 ≤ result }
 {
     last.saturating_sub(most).max(2)
@@ -130,7 +130,7 @@ impl Builder {
     ) -> Result<(), AllocError>
         requires laid { IsLaid self.old.rows }
         requires width { length one.now ≤ self.old.rows.width }
-        ensures { OnOk result (IsOwing self.old.rows self.new.rows (λ some. SomePlace (λ k. meets_at one.now other.now sides.now.left.now sides.now.right.now cells k && some k))) }
+        ensures owing { OnOk result (IsOwing self.old.rows self.new.rows (λ some. SomePlace (λ k. meets_at one.now other.now sides.now.left.now sides.now.right.now cells k && some k))) }
     {
         self.rows.push(one, other, sides, cells)?;
         reduce_last(&mut self.rows, &self.sieve);
@@ -149,7 +149,7 @@ impl Builder {
         requires laid { IsLaid self.old.rows }
         requires width { length places.now ≤ self.old.rows.width }
         requires places { AreWithin (left_of self.old.rows) (has_bit places.now) }
-        ensures { OnOk result (IsOwing self.old.rows self.new.rows (λ some. IsRegionMet words (has_bit sides.now.left.now) (has_bit sides.now.right.now) some region)) }
+        ensures owing { OnOk result (IsOwing self.old.rows self.new.rows (λ some. IsRegionMet words (has_bit sides.now.left.now) (has_bit sides.now.right.now) some region)) }
     {
         if is_occupied(words, region) {
             self.add_need(places, places, sides, region_cell(region))?;
@@ -167,7 +167,7 @@ impl Builder {
         requires laid { IsLaid self.old.rows }
         requires width { length places.now ≤ self.old.rows.width }
         requires places { AreWithin (left_of self.old.rows) (has_bit places.now) }
-        ensures { OnOk result (IsOwing self.old.rows self.new.rows (AreRegionsMet words (has_bit sides.now.left.now) (has_bit sides.now.right.now))) }
+        ensures owing { OnOk result (IsOwing self.old.rows self.new.rows (AreRegionsMet words (has_bit sides.now.left.now) (has_bit sides.now.right.now))) }
     {
         self.add_region(places, sides, words, Region::LeftOnly)?;
         self.add_region(places, sides, words, Region::Both)?;

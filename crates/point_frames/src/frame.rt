@@ -1,17 +1,17 @@
 //! Frames: the points that are left, those of them that have to stay, and rows of which one point each has to stay.
-ghost use Rattle.std.specs.Prelude.{◌≡◌, ℕ, ◌<◌, ◌≤◌, ◌↔◌, true, length, IfOk, OnOk, IsTrue};
+ghost use Rattle.std.specs.Prelude.{◌≡◌, ℕ, ◌<◌, ◌≤◌, ◌↔◌, Bool, true, length, IfOk, OnOk, IsTrue};
 ghost use Rattle.bit_rows.specs.Rows.{has_bit, SomePlace};
-ghost use Rattle.point_frames.specs.Frames.{left_of, must_of, IsLaid, IsAliveFrame, open_at, LeadsOn, IsOwing, IsNarrowed, IsSeen};
+ghost use Rattle.point_frames.specs.Frames.{left_of, must_of, IsLaid, AreWithin, Satisfies, IsInRegion, IsMetBy, IsRegionMet, SayAlike, IsAliveFrame, open_at, LeadsOn, IsOwing, IsNarrowed, IsSeen};
 ghost use Rattle.point_frames.specs.Joined.{HasFirst, HaveSomeIn};
 
 use crate::base::{Base, are_met_from, first_rows};
 use crate::builder::Builder;
 use crate::groups::FIRST_OPEN;
 use crate::words::{
-    are_regions_met, cells_with, has_empty, has_occupied, is_region_met, kept_cells,
+    cells_with, has_empty, has_occupied, is_occupied, is_region_met, kept_cells, region_cell,
 };
 use bit_rows::{Cells, Rows, Sides, is_inside, meets};
-use rcc5_core::{Region, Regions};
+use rcc5_core::{Occupancy, Region, Regions};
 use std::alloc::{AllocError, Global};
 use std::marker::Model;
 use std::rc::Rc;
@@ -65,7 +65,7 @@ impl Frame {
     }
 
     /// The frame after words were said of two sets, made of this one: places that went are left in its open rows.
-    /// So many rows are set beside each new one: a hint.
+    /// So many of its own rows are set beside each new one: a hint.
     pub fn narrow(
         self,
         alloc: Global,
@@ -75,10 +75,10 @@ impl Frame {
     ) -> Result<Frame, AllocError>
         ensures { IfOk result (λ next. IsNarrowed self next (has_bit sides.now.left.now) (has_bit sides.now.right.now) words) }
     {
+        let needed = self.words_left(sides, words);
         let Frame { base, mut own } = self;
         let left = Vec::from_slice(alloc, own.row(0))?;
         let places = left.as_slice();
-        let needed = base.words_left(places, sides, words, most);
         own.write(0, places, places, sides, kept_cells(words));
         let mut next = Builder::new(alloc, own, most)?;
         next.add_regions(places, sides, needed)?;
@@ -218,7 +218,37 @@ impl Frame {
         self.leads_by(sides, self.seen(sides), words)
     }
 
-    /// Whether words about two sets take no place away, and each region that is occupied has a place that has to stay.
+    // Whether one place has to stay in a region already: one of those that have to lies there, or all that are left of an open row do.
+    fn is_kept(&self, sides: &Sides, region: Region) -> bool
+        ensures { result ≡ true → (some : ℕ → Bool) → AreWithin some (left_of self.now) → Satisfies self.now self.now.count some → IsInRegion (has_bit sides.now.left.now) (has_bit sides.now.right.now) some region }
+    {
+        let must = self.must();
+        let cell = region_cell(region);
+        meets(must, must, sides, cell) || !self.open_met(sides, cell.others())
+    }
+
+    // The word for a region, unless one place has to stay there already.
+    fn word_left(&self, sides: &Sides, words: Regions, region: Region) -> Occupancy
+        ensures { (some : ℕ → Bool) → AreWithin some (left_of self.now) → Satisfies self.now self.now.count some → IsMetBy result (has_bit sides.now.left.now) (has_bit sides.now.right.now) some region ↔ IsRegionMet words (has_bit sides.now.left.now) (has_bit sides.now.right.now) some region }
+    {
+        if is_occupied(words, region) && self.is_kept(sides, region) {
+            return Occupancy::Free;
+        }
+        words.at(region)
+    }
+
+    // Words about two sets, without the regions in which one place has to stay already.
+    fn words_left(&self, sides: &Sides, words: Regions) -> Regions
+        ensures { SayAlike self.now (has_bit sides.now.left.now) (has_bit sides.now.right.now) result words }
+    {
+        Regions {
+            left_only: self.word_left(sides, words, Region::LeftOnly),
+            both: self.word_left(sides, words, Region::Both),
+            right_only: self.word_left(sides, words, Region::RightOnly),
+        }
+    }
+
+    /// Whether words about two sets take no place away, and one has to stay already in each region that is occupied.
     pub fn is_same(&self, sides: &Sides, words: Regions) -> bool
         ensures { result ≡ true → IsNarrowed self.now self.now (has_bit sides.now.left.now) (has_bit sides.now.right.now) words }
     {
@@ -226,7 +256,7 @@ impl Frame {
         if meets(left, left, sides, kept_cells(words).others()) {
             return false;
         }
-        are_regions_met(self.must(), sides, words)
+        has_occupied(self.words_left(sides, words), Cells::neither())
     }
 }
 

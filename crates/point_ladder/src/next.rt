@@ -9,7 +9,8 @@ use rcc5_core::Regions;
 use std::alloc::{AllocError, Global};
 
 /// The frame after words were said of two sets, beside the one before.
-// It is looked at after it was made whether it is stale: one that was made anew then serves all that come of it.
+// It is the new frame that is tested for being stale: made anew here, it serves all that come of it, while those that come of
+// a stale one would each be made anew.
 pub(crate) fn next_frame(
     alloc: Global,
     frame: &Frame,

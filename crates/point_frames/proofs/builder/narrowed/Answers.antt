@@ -19,7 +19,7 @@ returns c =
     let second : IsPushed one two must = subst (λ v. IsPushed one v must) (sym c.in_ok-next.ensures) c.in_ok-push_copy.ensures in
     let counted : one.count ≡ 1 = pushed.count ∙ ap (λ n. n + 1) c.new-rows.ensures.count in
     let open_rows : (ℕ → Bool) → Type 0 = λ some. (q : ℕ) → 2 ≤ q → q < old.count → SomePlace (λ k. (bit_in old q k && bit_in old 0 k && in_cells kept (l k) (r k)) && some k) in
-    let regions : IsOwing two c.add_regions.new.self.rows (AreRegionsMet words l r) = c.in_ok-add_regions.ensures in
+    let regions : IsOwing two c.add_regions.new.self.rows (AreRegionsMet words l r) = c.in_ok-add_regions.ensures.owing in
     if_ok _ _ c.finish.result c.finish.ensures (λ next first.
     narrowed_from old two next l r words kept c.kept_cells-kept.ensures
     (second.count ∙ ap (λ n. n + 1) counted)

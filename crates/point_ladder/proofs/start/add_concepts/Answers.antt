@@ -14,7 +14,7 @@ loop-concept-preserved c =
     let row = has_bit c.row-row.result.now in
     let test : ℕ → Bool = λ k. row k && row k && in_cells c.all.result (row k) (row k) in
     let pushed : (ℕ → Bool) → Type 0 = λ some. SomePlace (λ k. test k && some k) in
-    let more = owing_more c.args.frame.now.rows c.loop-concept.frame.rows c.add_need.new.self.rows (ConceptsMet points n) pushed c.loop-concept.invariant c.in_ok-add_need.ensures in
+    let more = owing_more c.args.frame.now.rows c.loop-concept.frame.rows c.add_need.new.self.rows (ConceptsMet points n) pushed c.loop-concept.invariant c.in_ok-add_need.ensures.owing in
     let counted = c.requires.rows.counted in
     let shows = side_bits p c.args.rows.now row n n c.requires.rows (omega (arith, counted, c.loop-concept-test.true, c.count-concept-end.ensures)) refl c.row-row.ensures.bits in
     owing_as c.args.frame.now.rows c.add_need.new.self.rows (λ some. ConceptsMet points n some × pushed some) (ConceptsMet points (n + 1)) more

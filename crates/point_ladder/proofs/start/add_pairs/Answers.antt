@@ -20,7 +20,7 @@ loop-pair-preserved c =
     let shows = c.sides_of-sides.ensures in
     let words : c.forced.result ≡ forced_at p n = c.forced.ensures ∙ ap forced_regions (c.requires.sets.each n _ (omega (arith, c.loop-pair-test.true, c.pair_count-pair-end.ensures))) in
     let start = c.args.frame.now.rows in
-    let more = owing_more start c.loop-pair.frame.rows c.add_regions.new.self.rows (PairsMet p points n) (AreRegionsMet c.forced.result l r) c.loop-pair.invariant c.in_ok-add_regions.ensures in
+    let more = owing_more start c.loop-pair.frame.rows c.add_regions.new.self.rows (PairsMet p points n) (AreRegionsMet c.forced.result l r) c.loop-pair.invariant c.in_ok-add_regions.ensures.owing in
     owing_as start c.add_regions.new.self.rows (λ some. PairsMet p points n some × AreRegionsMet c.forced.result l r some) (PairsMet p points (n + 1)) more
     (λ some within.
     let both = below_more (λ k. AreRegionsMet (forced_at p k) (bits_at points (pair_at p k).0) (bits_at points (pair_at p k).1) some) n in

@@ -13,7 +13,7 @@ loop-row-preserved c =
     let owed : ℕ → (ℕ → Bool) → Type 0 = λ q some. SomePlace (λ k. (bit_in old q k && has_bit c.args.left.now k && in_cells c.args.cells (l k) (r k)) && some k) in
     let below : (ℕ → Bool) → Type 0 = λ some. (q : ℕ) → 2 ≤ q → q < n → owed q some in
     let pushed : (ℕ → Bool) → Type 0 = λ some. SomePlace (λ k. (has_bit c.row.result.now k && has_bit c.args.left.now k && in_cells c.args.cells (l k) (r k)) && some k) in
-    let more = owing_more c.args.self.now.rows c.loop-row.self.rows c.add_need.new.self.rows below pushed c.loop-row.invariant c.in_ok-add_need.ensures in
+    let more = owing_more c.args.self.now.rows c.loop-row.self.rows c.add_need.new.self.rows below pushed c.loop-row.invariant c.in_ok-add_need.ensures.owing in
     owing_as c.args.self.now.rows c.add_need.new.self.rows (λ some. below some × pushed some) (λ some. (q : ℕ) → 2 ≤ q → q < n + 1 → owed q some) more
     (λ some within.
     let both = each_more (λ q. owed q some) n c.loop-row.auto.row in

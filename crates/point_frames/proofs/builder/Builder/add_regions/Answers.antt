@@ -16,7 +16,9 @@ returns c =
     let start = c.args.self.now.rows in
     let end = c.add_region-3.new.self.rows in
     let owed : Region → (ℕ → Bool) → Type 0 = λ region some. is_occupied words region ≡ true → SomePlace (λ k. some k && lies_by region (l k) (r k)) in
-    let two = owing_more start c.add_region.new.self.rows c.add_region-2.new.self.rows (owed LeftOnly) (owed Both) c.in_ok-add_region.ensures c.in_ok-add_region-2.ensures in
-    let three = owing_more start c.add_region-2.new.self.rows end (λ some. owed LeftOnly some × owed Both some) (owed RightOnly) two c.in_ok-add_region-3.ensures in
-    owing_as start end (λ some. (owed LeftOnly some × owed Both some) × owed RightOnly some) (AreRegionsMet words l r) three
-    (λ some within. (λ h. met_by_three words l r some h.0.0 h.0.1 h.1, λ h. ((h LeftOnly, h Both), h RightOnly)))
+    let two = owing_more start c.add_region.new.self.rows c.add_region-2.new.self.rows (owed LeftOnly) (owed Both) c.in_ok-add_region.ensures.owing c.in_ok-add_region-2.ensures.owing in
+    let three = owing_more start c.add_region-2.new.self.rows end (λ some. owed LeftOnly some × owed Both some) (owed RightOnly) two c.in_ok-add_region-3.ensures.owing in
+    record {
+      owing = owing_as start end (λ some. (owed LeftOnly some × owed Both some) × owed RightOnly some) (AreRegionsMet words l r) three
+          (λ some within. (λ h. met_by_three words l r some h.0.0 h.0.1 h.1, λ h. ((h LeftOnly, h Both), h RightOnly)));
+    }

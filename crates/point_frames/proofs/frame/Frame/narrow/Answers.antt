@@ -1,9 +1,8 @@
 use Rattle.std.proofs.Common.{◌∙◌, ◌≤◌, ℕ, List, sym, ap, subst, arith}
 use Rattle.bit_rows.specs.Rows.{BitRows, has_bit}
-use Rattle.point_frames.specs.declared.base.Base.{Base}
-use Rattle.point_frames.specs.Frames.{AreRegionsMet, IsNarrowed, IsOwing}
+use Rattle.point_frames.specs.Frames.{AreRegionsMet, SayAlike, IsNarrowed, IsOwing}
 use Rattle.point_frames.specs.Joined.{joined, StandsOn}
-use Rattle.point_frames.proofs.Joined.{AreAlike, joined_narrowed}
+use Rattle.point_frames.proofs.Joined.{joined_narrowed}
 use Rattle.point_frames.proofs.frame.Frame.narrow.Goals as goal
 
 pub invariant_of-result : goal.invariant_of-result
@@ -13,7 +12,7 @@ invariant_of-result c =
     let mid = c.write.new.self in
     let new = c.add_regions.new.self.rows in
     let owed = AreRegionsMet c.words_left-needed.result (has_bit c.args.sides.now.left.now) (has_bit c.args.sides.now.right.now) in
-    let owing : IsOwing mid new owed = subst (λ (rows : BitRows). IsOwing rows new owed) c.in_ok-next.ensures c.in_ok-add_regions.ensures in
+    let owing : IsOwing mid new owed = subst (λ (rows : BitRows). IsOwing rows new owed) c.in_ok-next.ensures c.in_ok-add_regions.ensures.owing in
     subst (λ (rows : BitRows). StandsOn rows s.base.value) (sym c.into_rows-own.ensures)
     (record { laid = (omega (arith, owing.width, c.write.ensures.width, is.laid.0), owing.rows_two); width = is.width ∙ sym (owing.width ∙ c.write.ensures.width); grouped = is.grouped })
 
@@ -29,8 +28,8 @@ returns c =
     let places = has_bit c.as_slice-places.result.now in
     let words = c.args.words in
     let needed = c.words_left-needed.result in
-    let owing : IsOwing mid new (AreRegionsMet needed l r) = subst (λ (rows : BitRows). IsOwing rows new (AreRegionsMet needed l r)) c.in_ok-next.ensures c.in_ok-add_regions.ensures in
-    let alike : AreAlike base places l r words needed = subst (λ (b : Base). AreAlike b.rows places l r words needed) c.deref.ensures c.words_left-needed.ensures in
+    let owing : IsOwing mid new (AreRegionsMet needed l r) = subst (λ (rows : BitRows). IsOwing rows new (AreRegionsMet needed l r)) c.in_ok-next.ensures c.in_ok-add_regions.ensures.owing in
+    let alike : SayAlike (joined own base) l r needed words = subst (λ (v : BitRows). SayAlike v l r needed words) (sym c.self.view_is) c.words_left-needed.ensures in
     let low : 2 ≤ base.count = omega (arith, is.grouped.two, is.grouped.within) in
     subst (λ (rows : BitRows). IsNarrowed c.args.self (joined rows base) l r words) (sym c.into_rows-own.ensures)
     (subst (λ (v : BitRows). IsNarrowed v (joined new base) l r words) c.self.view_is
