@@ -61,7 +61,7 @@ impl Frame {
         let added = self.own.count().saturating_sub(FIRST_OPEN);
         let left_then = count_places(self.base.rows.row(0));
         let gone = left_then.saturating_sub(count_places(self.own.row(0)));
-        added > 16 + self.base.rows.count() / 8 || gone > 16 + left_then / 4
+        added > 16 + self.base.rows.count() / 8 || gone > 16 + left_then / 8
     }
 
     /// The frame after words were said of two sets, made of this one: places that went are left in its open rows.
