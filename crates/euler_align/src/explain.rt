@@ -1,16 +1,14 @@
 //! What people are told, on standard error, of an ending that is not good, and what to do about it.
 
-use crate::files::{explain_read, explain_write};
-use crate::help::{certificate_help, rejection_help, token_help};
-use crate::line::{line_of, read_again, show_line};
-use crate::pairs::{explain_many, explain_open, explain_pair};
-use crate::parts::{explain_empty, explain_gap, explain_part, refused_token};
-use crate::unknown::unknown_names;
 use crate::usage::{asks_for_help, explain_fault, explain_program};
-use crate::words::{switch_words, value_of};
 use align_top::{Key, Status, UsageKind, fault_place, text_help};
 use cleantax_text::TextKind;
 use outer_store::FileStore;
+use run_help::{
+    certificate_help, explain_empty, explain_gap, explain_many, explain_open, explain_pair,
+    explain_part, explain_read, explain_write, line_of, read_again, refused_token, rejection_help,
+    show_line, switch_words, token_help, unknown_names, value_of,
+};
 use std::alloc::Global;
 use std::io;
 use world_watch::{

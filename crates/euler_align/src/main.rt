@@ -2,15 +2,7 @@
 #![tactic(auto)]
 
 mod explain;
-mod files;
-mod help;
-mod line;
-mod nearest;
-mod pairs;
-mod parts;
-mod unknown;
 mod usage;
-mod words;
 
 use align_top::{Status, run};
 use explain::explain;

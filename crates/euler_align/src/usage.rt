@@ -1,10 +1,9 @@
 //! What is wrong with the words, at which word, and what to do about it, for people.
 
-use crate::nearest::nearest;
-use crate::words::{command_of, key_of, kind_of};
 use align_top::{
     Command, Key, KeyKind, UsageKind, WordsFault, command_help, key_help, read_words, usage_help,
 };
+use run_help::{command_of, key_of, kind_of, nearest};
 use std::alloc::{AllocError, Global};
 use std::io;
 use world_watch::WorldWatcher;

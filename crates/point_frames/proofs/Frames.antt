@@ -1,5 +1,5 @@
 -- Rows of which some places have to stay: when places satisfy them, and what is added to them or taken away.
-use Rattle.std.proofs.Common.{◌≡◌, ℕ, ◌<◌, ◌≤◌, ◌↔◌, Bool, true, false, ◌&&◌, not, inl, inr, refl, sym, ap, ◌∙◌, subst}
+use Rattle.std.proofs.Common.{◌≡◌, ℕ, ◌<◌, ◌≤◌, ◌↔◌, Bool, true, false, ◌&&◌, not, inl, inr, refl, sym, ap, ◌∙◌}
 use Rattle.std.specs.Prelude.{IsTrue}
 use Rattle.std.proofs.lemmas.Bool.{and_from, and_parts, true≢false, false≢true, cases_Bool}
 use Rattle.rcc5_core.specs.declared.Region.{Region}
@@ -13,18 +13,18 @@ use Rattle.world_model.proofs.PointSets.{In-all_regions}
 use Rattle.bit_rows.specs.declared.words.Cells.{Cells}
 use Rattle.bit_rows.specs.Rows.{SomePlace, BitRows, bit_in, in_cells, all_cells, other_cells}
 use Rattle.world_model.specs.Alive.{lies_by, avoids_by}
-use Rattle.point_frames.specs.Frames.{is_occupied, AreWithin, Satisfies, AreRegionsMet, left_at, IsNarrowed, cell_of, AreSeen, HasEmpty}
+use Rattle.point_frames.specs.Frames.{is_occupied, AreWithin, Satisfies, AreRegionsMet, left_at, cell_of, AreSeen, HasEmpty}
 
 -- a place of one row is one of another
 pub some_alike : (f g : ℕ → Bool) → ((k : ℕ) → f k ≡ true → g k ≡ true) → SomePlace f → SomePlace g
 some_alike f g to some = record { place = some.place; passes = to some.place some.passes }
 
--- a place that three tests pass, by what the tests show
-pub shown_some : (a b f g h : ℕ → Bool) → ((k : ℕ) → a k ≡ f k) → ((k : ℕ) → b k ≡ g k) → SomePlace (λ k. a k && b k && h k) → SomePlace (λ k. f k && g k && h k)
-shown_some a b f g h one other some = record {
-  place = some.place;
-  passes = ap (λ x. x && g some.place && h some.place) (sym (one some.place)) ∙ ap (λ x. a some.place && x && h some.place) (sym (other some.place)) ∙ some.passes;
-}
+-- a place that passes a test of a row passes it by another that shows the row
+pub some_as : (g : Bool → ℕ → Bool) (a b : ℕ → Bool) → ((k : ℕ) → a k ≡ b k) → SomePlace (λ k. g (a k) k) ↔ SomePlace (λ k. g (b k) k)
+some_as g a b same = (
+  λ some. record { place = some.place; passes = ap (λ x. g x some.place) (sym (same some.place)) ∙ some.passes },
+  λ some. record { place = some.place; passes = ap (λ x. g x some.place) (same some.place) ∙ some.passes },
+)
 
 pub three_parts : (a b c : Bool) → (a && b && c) ≡ true → (a ≡ true) × (b ≡ true) × (c ≡ true)
 three_parts true true true h = (refl, refl, refl)
@@ -72,7 +72,7 @@ occupied_left words region a b occupied lies =
     out false b h = refl
 
 -- the other cells
-others_not : (cells : Cells) (a b : Bool) → in_cells (other_cells cells) a b ≡ not (in_cells cells a b)
+pub others_not : (cells : Cells) (a b : Bool) → in_cells (other_cells cells) a b ≡ not (in_cells cells a b)
 others_not cells true true = refl
 others_not cells true false = refl
 others_not cells false true = refl
@@ -158,21 +158,6 @@ left_open rows l r words kept are s q low small =
 pub must_left : (rows : BitRows) (l r : ℕ → Bool) (words : Regions) → Satisfies rows rows.count (left_at rows l r words) → LosesNone l r words (bit_in rows 1)
 must_left rows l r words s k h = (and_parts (bit_in rows 0 k) (avoids_by words (l k) (r k)) (s.must k h)).1
 
--- where no place is lost and the occupied regions have places that have to stay, the rows are as before
-pub same_narrowed : (rows : BitRows) (l r : ℕ → Bool) (words : Regions) → LosesNone l r words (bit_in rows 0) → AreRegionsMet words l r (bit_in rows 1) → IsNarrowed rows rows l r words
-same_narrowed rows l r words none met = record {
-  width = refl;
-  mask = λ k. kept (bit_in rows 0 k) (avoids_by words (l k) (r k)) (none k);
-  owes = λ some within. (
-    λ s. (s, met_mask words l r (bit_in rows 1) some s.must met),
-    λ h. h.0,
-  );
-}
-  where
-    kept : (a b : Bool) → (a ≡ true → b ≡ true) → a ≡ (a && b)
-    kept true b h = sym (h refl)
-    kept false b h = refl
-
 -- a row is met where it has a place that has to stay, or all of a row that is met
 pub needless_by_must : (rows : BitRows) (last : ℕ) (some : ℕ → Bool) → SomePlace (λ k. bit_in rows 1 k && bit_in rows last k) → Satisfies rows last some → SomePlace (λ k. bit_in rows last k && some k)
 needless_by_must rows last some common s =
@@ -188,9 +173,6 @@ needless_by_other rows last other some low small inside s =
 
 pub not_met : (met : Bool) → met ≡ false → IsTrue met → ⊥
 not_met met off on = true≢false (sym on ∙ off)
-
-pub met_shown : (words others : Regions) (l r f g : ℕ → Bool) → others ≡ words → AreWithin f g → AreRegionsMet others l r f → AreRegionsMet words l r g
-met_shown words others l r f g same within met = subst (λ ws. AreRegionsMet ws l r g) same (met_mask others l r f g within met)
 
 pub left_all : (rows : BitRows) (l r : ℕ → Bool) (words : Regions) → LosesNone l r words (bit_in rows 0) → AreWithin (bit_in rows 0) (left_at rows l r words)
 left_all rows l r words none k h = and_from (bit_in rows 0 k) (avoids_by words (l k) (r k)) h (none k h)

@@ -1,89 +1,31 @@
--- Groups of open rows, and which open rows stay.
-use Rattle.std.proofs.Common.{◌≡◌, ℕ, zero, suc, ◌+◌, ◌<◌, ◌≤◌, Bool, true, false, ◌&&◌, List, [], ◌∷◌, ◌++◌, ◌⊎◌, inl, inr, length, get_or, refl, sym, ap, ◌∙◌, subst, arith}
+-- Groups of open rows.
+use Rattle.std.proofs.Common.{◌≡◌, ℕ, zero, suc, ◌+◌, ◌<◌, ◌≤◌, Bool, true, false, List, [], ◌∷◌, ◌++◌, ◌⊎◌, inl, inr, length, get_or, refl, sym, ◌∙◌, subst, arith}
 use Rattle.std.specs.Prelude.{All, Contains}
 use Rattle.std.proofs.lemmas.List.{length_push}
 use Rattle.std.proofs.lemmas.List.Elements.{All-append, All-contains}
 use Rattle.std.proofs.lemmas.Bool.{false≢true, cases_lt}
-use Rattle.rcc5_core.specs.declared.Regions.{Regions}
 use Rattle.world_model.proofs.Members.{In, here, there, none_in, In-left, In-right, In-get_or, from_append, contains_from_in, in_from_contains}
-use Rattle.bit_rows.specs.Rows.{BitRows, SomePlace, bit_in, in_cells, IsPushed, IsPut, IsPopped}
+use Rattle.bit_rows.specs.Rows.{BitRows, bit_in}
 use Rattle.bit_rows.specs.declared.words.Cells.{Cells}
 use Rattle.point_frames.specs.declared.groups.Group.{Group}
-use Rattle.point_frames.specs.Frames.{AreRegionsMet, IsNarrowed, IsOwing, left_at}
-use Rattle.point_frames.proofs.Frames.{AreKept}
-use Rattle.point_frames.proofs.Needs.{mask_pushed}
-use Rattle.point_frames.specs.Groups.{AreOpen, HasOpen, AreSplit, IsGroup, IsListed, AreGrouped, IsOpenMet, AreMetBelow, KeepsOpen}
+use Rattle.point_frames.specs.Groups.{AreOpen, HasOpen, AreSplit, IsGroup, IsListed, AreGrouped, IsOpenMet, AreMetBelow}
 
 -- what holds of each element holds of them in another way
 pub all_as : {X : Type 0} (P Q : X → Type 0) (xs : List X) → ((x : X) → P x → Q x) → All P xs → All Q xs
 all_as P Q xs f h = λ k d small. f (get_or xs k d) (h k d small)
 
--- two facts of each element
-pub all_both : {X : Type 0} (P Q R : X → Type 0) (xs : List X) → ((x : X) → P x → Q x → R x) → All P xs → All Q xs → All R xs
-all_both P Q R xs f h g = λ k d small. f (get_or xs k d) (h k d small) (g k d small)
-
--- the last row goes
-pub keeps_popped : (old new : BitRows) (last : ℕ) → IsPopped old new → last + 1 ≡ old.count → KeepsOpen old new last
-keeps_popped old new last popped is = record {
-  enough = omega (arith, popped.count, is);
-  same = λ r k low small. popped.before r k (omega (arith, popped.count, is, small));
-}
-
--- the last row goes, and the second one changes
-pub keeps_put : (old mid new : BitRows) (last : ℕ) (test : ℕ → Bool) → IsPopped old mid → last + 1 ≡ old.count → IsPut mid new 1 test → KeepsOpen old new last
-keeps_put old mid new last test popped is put = record {
-  enough = omega (arith, popped.count, is, put.count);
-  same = λ r k low small. put.others r k (λ e. omega (arith, e, low)) ∙ popped.before r k (omega (arith, popped.count, is, small));
-}
-
--- the first row changes
-pub keeps_first : (old new : BitRows) (test : ℕ → Bool) → IsPut old new 0 test → KeepsOpen old new old.count
-keeps_first old new test put = record {
-  enough = omega (arith, put.count);
-  same = λ r k low small. put.others r k (λ e. omega (arith, e, low));
-}
-
--- one row more, and then what keeps all before it
-pub keeps_pushed : (old mid new : BitRows) (count : ℕ) (test : ℕ → Bool) → IsPushed old mid test → count + 1 ≡ mid.count → KeepsOpen mid new count → KeepsOpen old new old.count
-keeps_pushed old mid new count test pushed is kept = record {
-  enough = omega (arith, pushed.count, is, kept.enough);
-  same = λ r k low small. kept.same r k low (omega (arith, pushed.count, is, small)) ∙ pushed.before r k small;
-}
-
--- one step after another
-pub keeps_more : (one two three : BitRows) → KeepsOpen one two one.count → KeepsOpen two three two.count → KeepsOpen one three one.count
-keeps_more one two three first second = record {
-  enough = omega (arith, first.enough, second.enough);
-  same = λ r k low small. second.same r k low (omega (arith, first.enough, small)) ∙ first.same r k low small;
-}
-
--- a group stays one where its rows stay
-group_kept : (old new : BitRows) (groups : List Group) (count : ℕ) → KeepsOpen old new count → All (IsGroup old count) groups → All (IsGroup new count) groups
-group_kept old new groups count kept are = all_as (IsGroup old count) (IsGroup new count) groups
-    (λ group is. record {
-      are_open = is.are_open;
-      have = all_both (λ r. (2 ≤ r) × (r < count)) (λ r. bit_in old r group.place ≡ true) (λ r. bit_in new r group.place ≡ true) group.rows.items
-          (λ r small there. kept.same r group.place small.0 small.1 ∙ there) is.are_open is.have;
-    }) are
-
-pub grouped_kept : (old new : BitRows) (groups : List Group) (count : ℕ) → AreGrouped old groups count → KeepsOpen old new old.count → AreGrouped new groups count
-grouped_kept old new groups count is kept =
-    let few = is.within in
-    let fewer : KeepsOpen old new count = record { enough = omega (arith, kept.enough, few); same = λ r k low small. kept.same r k low (omega (arith, small, few)) } in
-    record { are = group_kept old new groups count fewer is.are; listed = is.listed; two = is.two; within = fewer.enough }
-
 -- groups whose rows are all met
-pub groups_are_met : (rows : BitRows) (left right : ℕ → Bool) (cells : Cells) (groups : List Group) (count : ℕ) → AreGrouped rows groups count →
-    All (λ group. All (IsOpenMet rows left right cells) group.rows.items) groups → AreMetBelow rows left right cells count
-groups_are_met rows left right cells groups count is met r low small =
+pub groups_are_met : (rows : BitRows) (places left right : ℕ → Bool) (cells : Cells) (groups : List Group) (count : ℕ) → AreGrouped rows groups count →
+    All (λ group. All (IsOpenMet rows places left right cells) group.rows.items) groups → AreMetBelow rows places left right cells count
+groups_are_met rows places left right cells groups count is met r low small =
     let listed = is.listed r low small in
-    All-contains (IsOpenMet rows left right cells) listed.group.rows.items r
-    (All-contains (λ group. All (IsOpenMet rows left right cells) group.rows.items) groups listed.group met listed.there) listed.has
+    All-contains (IsOpenMet rows places left right cells) listed.group.rows.items r
+    (All-contains (λ group. All (IsOpenMet rows places left right cells) group.rows.items) groups listed.group met listed.there) listed.has
 
 -- a group whose rows are not all met, where all open rows are
-pub group_is_met : (rows : BitRows) (left right : ℕ → Bool) (cells : Cells) (group : Group) (count : ℕ) → IsGroup rows count group → AreMetBelow rows left right cells count →
-    All (IsOpenMet rows left right cells) group.rows.items
-group_is_met rows left right cells group count is met = all_as (λ r. (2 ≤ r) × (r < count)) (IsOpenMet rows left right cells) group.rows.items (λ r small. met r small.0 small.1) is.are_open
+pub group_is_met : (rows : BitRows) (places left right : ℕ → Bool) (cells : Cells) (group : Group) (count : ℕ) → IsGroup rows count group → AreMetBelow rows places left right cells count →
+    All (IsOpenMet rows places left right cells) group.rows.items
+group_is_met rows places left right cells group count is met = all_as (λ r. (2 ≤ r) × (r < count)) (IsOpenMet rows places left right cells) group.rows.items (λ r small. met r small.0 small.1) is.are_open
 
 -- a list that one more was pushed to
 pub contains_old : {X : Type 0} (xs : List X) {x : X} (y : X) → Contains xs x → Contains (xs ++ y ∷ []) x
@@ -232,29 +174,3 @@ so_far_all rows groups rest two so none = record {
 -- a group among rows that are fewer
 pub group_wider : (rows : BitRows) (few more : ℕ) (group : Group) → few ≤ more → IsGroup rows few group → IsGroup rows more group
 group_wider rows few more group le is = record { are_open = all_as (λ r. (2 ≤ r) × (r < few)) (λ r. (2 ≤ r) × (r < more)) group.rows.items (λ r h. (h.0, omega (arith, h.1, le))) is.are_open; have = is.have }
-
--- words are said of two sets, and the rows stay
-pub narrowed_here : (old mid new : BitRows) (l r left : ℕ → Bool) (words : Regions) (kept : Cells) → AreKept kept words → ((k : ℕ) → left k ≡ bit_in old 0 k) → 2 ≤ old.count →
-    IsPut old mid 0 (λ k. left k && left k && in_cells kept (l k) (r k)) → IsOwing mid new (AreRegionsMet words l r) → IsNarrowed old new l r words
-narrowed_here old mid new l r left words kept are shows two put o = record {
-  width = o.width ∙ put.width;
-  mask = mask;
-  owes = λ some within.
-      let both = o.owes some (λ k h. put.there k ∙ mask_pushed old l r words left kept are shows k ∙ within k h) in (
-        λ s.
-            let m = both.0 s in (
-              record { must = λ k h. m.0.must k (put.others 1 k (λ e. omega (arith, e)) ∙ h); open_rows = λ q low small. alike mid old some q (λ k. put.others q k (λ e. omega (arith, e, low))) (m.0.open_rows q low (omega (arith, small, put.count))) },
-              m.1,
-            ),
-        λ s. both.1 (
-          record { must = λ k h. s.0.must k (sym (put.others 1 k (λ e. omega (arith, e))) ∙ h); open_rows = λ q low small. alike old mid some q (λ k. sym (put.others q k (λ e. omega (arith, e, low)))) (s.0.open_rows q low (omega (arith, small, put.count))) },
-          s.1,
-        ),
-      );
-}
-  where
-    mask : (k : ℕ) → bit_in new 0 k ≡ left_at old l r words k
-    mask k = o.mask k ∙ put.there k ∙ mask_pushed old l r words left kept are shows k
-
-    alike : (one other : BitRows) (some : ℕ → Bool) (q : ℕ) → ((k : ℕ) → bit_in one q k ≡ bit_in other q k) → SomePlace (λ k. bit_in one q k && some k) → SomePlace (λ k. bit_in other q k && some k)
-    alike one other some q same s = record { place = s.place; passes = ap (λ b. b && some s.place) (sym (same s.place)) ∙ s.passes }

@@ -1,3 +1,5 @@
 pub mod Frames
 pub mod Needs
 pub mod Grouped
+pub mod Joined
+pub mod Kept

@@ -217,17 +217,6 @@ each_more F n low = (
   λ each. (λ r two small. each r two (omega (arith, small)), each n low (omega arith)),
 )
 
--- an open row of another frame, by the rows that show it
-pub shown_open : (old : BitRows) (n : ℕ) (a b some cell : ℕ → Bool) → ((k : ℕ) → a k ≡ bit_in old n k) → ((k : ℕ) → b k ≡ bit_in old 0 k) →
-    SomePlace (λ k. (a k && b k && cell k) && some k) ↔ SomePlace (λ k. (bit_in old n k && bit_in old 0 k && cell k) && some k)
-shown_open old n a b some cell one other = (
-  some_alike (λ k. (a k && b k && cell k) && some k) (λ k. (bit_in old n k && bit_in old 0 k && cell k) && some k) (λ k h. sym (same k) ∙ h),
-  some_alike (λ k. (bit_in old n k && bit_in old 0 k && cell k) && some k) (λ k. (a k && b k && cell k) && some k) (λ k h. same k ∙ h),
-)
-  where
-    same : (k : ℕ) → ((a k && b k && cell k) && some k) ≡ ((bit_in old n k && bit_in old 0 k && cell k) && some k)
-    same k = ap (λ x. (x && b k && cell k) && some k) (one k) ∙ ap (λ x. (bit_in old n k && x && cell k) && some k) (other k)
-
 -- the row of what is left, as it is pushed
 pub mask_pushed : (old : BitRows) (l r : ℕ → Bool) (words : Regions) (mask : ℕ → Bool) (kept : Cells) → AreKept kept words → ((k : ℕ) → mask k ≡ bit_in old 0 k) →
     (k : ℕ) → (mask k && mask k && in_cells kept (l k) (r k)) ≡ left_at old l r words k

@@ -3,6 +3,7 @@ use Rattle.std.specs.Prelude.{◌≡◌, ℕ, ◌<◌, ◌≤◌, ◌↔◌, Boo
 use Rattle.rcc5_core.specs.declared.Region.{Region}
 use Rattle.rcc5_core.specs.declared.Region.TheVariants.{LeftOnly, Both, RightOnly}
 use Rattle.rcc5_core.specs.declared.Regions.{Regions}
+use Rattle.rcc5_core.specs.declared.Occupancy.{Occupancy}
 use Rattle.rcc5_core.specs.declared.Occupancy.TheVariants.{Empty, Occupied}
 use Rattle.rcc5_core.specs.Region.{word_at, same_word}
 use Rattle.world_model.specs.Alive.{lies_by, avoids_by}
@@ -39,13 +40,25 @@ pub record Satisfies (rows : BitRows) (count : ℕ) (some : ℕ → Bool) : Type
 abbrev pub IsAliveFrame : BitRows → Type 0
 IsAliveFrame rows = Satisfies rows rows.count (left_of rows)
 
--- one of some places is in a region of two sets, if words say that it is occupied
+-- one of some places is in a region of two sets
+abbrev pub IsInRegion : (ℕ → Bool) → (ℕ → Bool) → (ℕ → Bool) → Region → Type 0
+IsInRegion left right some region = SomePlace (λ k. some k && lies_by region (left k) (right k))
+
+-- one is, if a word says that the region is occupied
+abbrev pub IsMetBy : Occupancy → (ℕ → Bool) → (ℕ → Bool) → (ℕ → Bool) → Region → Type 0
+IsMetBy word left right some region = same_word word Occupied ≡ true → IsInRegion left right some region
+
+-- one is, if words say so
 abbrev pub IsRegionMet : Regions → (ℕ → Bool) → (ℕ → Bool) → (ℕ → Bool) → Region → Type 0
-IsRegionMet words left right some region = is_occupied words region ≡ true → SomePlace (λ k. some k && lies_by region (left k) (right k))
+IsRegionMet words left right some region = IsMetBy (word_at words region) left right some region
 
 -- some places are in each region of two sets that words say is occupied
 abbrev pub AreRegionsMet : Regions → (ℕ → Bool) → (ℕ → Bool) → (ℕ → Bool) → Type 0
 AreRegionsMet words left right some = (region : Region) → IsRegionMet words left right some region
+
+-- two triples of words say the same of regions, for those places that are left which satisfy the rows
+abbrev pub SayAlike : BitRows → (ℕ → Bool) → (ℕ → Bool) → Regions → Regions → Type 0
+SayAlike rows left right one other = (some : ℕ → Bool) → AreWithin some (left_of rows) → Satisfies rows rows.count some → AreRegionsMet one left right some ↔ AreRegionsMet other left right some
 
 -- a region's cell
 abbrev pub cell_of : Cells → Region → Bool

@@ -1,9 +1,8 @@
 -- Open rows in groups that have a place in common.
-use Rattle.std.specs.Prelude.{◌≡◌, ℕ, ◌+◌, ◌<◌, ◌≤◌, ◌⊎◌, Bool, true, false, List, length, All, Contains}
-use Rattle.bit_rows.specs.Rows.{BitRows, SomePlace, bit_in}
+use Rattle.std.specs.Prelude.{◌≡◌, ℕ, ◌+◌, ◌<◌, ◌≤◌, ◌⊎◌, ◌&&◌, Bool, true, false, List, length, All, Contains}
+use Rattle.bit_rows.specs.Rows.{BitRows, SomePlace, bit_in, in_cells}
 use Rattle.bit_rows.specs.declared.words.Cells.{Cells}
 use Rattle.point_frames.specs.declared.groups.Group.{Group}
-use Rattle.point_frames.specs.Frames.{open_at}
 
 -- each number is that of an open row below a number
 abbrev pub AreOpen : ℕ → List ℕ → Type 0
@@ -42,15 +41,10 @@ pub record AreGrouped (rows : BitRows) (groups : List Group) (count : ℕ) : Typ
   pub two : 2 ≤ count
   pub within : count ≤ rows.count
 
--- an open row has a place that is left in some cells of two sets
-abbrev pub IsOpenMet : BitRows → (ℕ → Bool) → (ℕ → Bool) → Cells → ℕ → Type 0
-IsOpenMet rows left right cells r = SomePlace (open_at rows left right cells r)
+-- an open row has one of some places, in some cells of two sets
+abbrev pub IsOpenMet : BitRows → (ℕ → Bool) → (ℕ → Bool) → (ℕ → Bool) → Cells → ℕ → Type 0
+IsOpenMet rows places left right cells r = SomePlace (λ k. bit_in rows r k && places k && in_cells cells (left k) (right k))
 
 -- each open row below a number has one
-abbrev pub AreMetBelow : BitRows → (ℕ → Bool) → (ℕ → Bool) → Cells → ℕ → Type 0
-AreMetBelow rows left right cells count = (r : ℕ) → 2 ≤ r → r < count → IsOpenMet rows left right cells r
-
--- the open rows below a number stay
-pub record KeepsOpen (old new : BitRows) (count : ℕ) : Type 0 where
-  pub enough : count ≤ new.count
-  pub same : (r k : ℕ) → 2 ≤ r → r < count → bit_in new r k ≡ bit_in old r k
+abbrev pub AreMetBelow : BitRows → (ℕ → Bool) → (ℕ → Bool) → (ℕ → Bool) → Cells → ℕ → Type 0
+AreMetBelow rows places left right cells count = (r : ℕ) → 2 ≤ r → r < count → IsOpenMet rows places left right cells r

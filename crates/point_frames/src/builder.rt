@@ -1,8 +1,8 @@
 //! The making of frames: needs are added one by one to the rows of what is left and what has to stay.
-ghost use Rattle.std.specs.Prelude.{◌≡◌, ◌-◌, ℕ, ◌<◌, ◌≤◌, ◌&&◌, Bool, true, length, IfOk, OnOk};
+ghost use Rattle.std.specs.Prelude.{◌≡◌, ℕ, ◌<◌, ◌≤◌, ◌&&◌, Bool, true, length, IfOk, OnOk};
 ghost use Rattle.bit_rows.specs.Rows.{has_bit, bit_in, meets_at, SomePlace};
-ghost use Rattle.point_frames.specs.Groups.{KeepsOpen};
-ghost use Rattle.point_frames.specs.Frames.{left_of, IsLaid, AreWithin, Satisfies, IsRegionMet, AreRegionsMet, open_at, IsOwing, IsNarrowed};
+ghost use Rattle.point_frames.specs.Joined.{HasFirst, HaveSomeIn};
+ghost use Rattle.point_frames.specs.Frames.{left_of, IsLaid, AreWithin, Satisfies, IsRegionMet, AreRegionsMet, IsOwing, IsNarrowed};
 
 use crate::frame::Frame;
 use crate::groups::FIRST_OPEN;
@@ -60,8 +60,7 @@ fn is_needless(rows: &Rows, sieve: &Sieve, last: usize) -> bool
 fn reduce_last(rows: &mut Rows, sieve: &Sieve)
     requires some { 0 < rows.old.width }
     requires three { 3 ≤ rows.old.count }
-    ensures owing { IsOwing rows.old rows.new (λ _. Unit {0}) }
-    ensures kept { KeepsOpen rows.old rows.new (rows.old.count - 1) }
+    ensures { IsOwing rows.old rows.new (λ _. Unit {0}) }
 {
     let last = rows.count() - 1;
     if is_needless(rows, sieve, last) {
@@ -105,31 +104,20 @@ impl Builder {
         Ok(Builder { rows, sieve })
     }
 
-    /// From the rows of a frame, whose first places are known.
-    pub(crate) fn again(rows: Rows, firsts: Vec<usize>, most: usize) -> Builder
-        ensures { result.rows ≡ rows }
+    /// The frame of the rows, which stay in a base that other frames may share.
+    pub fn finish(self, alloc: Global) -> Result<Frame, AllocError>
+        requires { IsLaid self.rows }
+        ensures { IfOk result (λ frame. HasFirst self.rows frame self.rows.count) }
     {
-        let sieve = Sieve { firsts, most };
-        Builder { rows, sieve }
+        Frame::new(alloc, self.into_rows())
     }
 
-    /// The frame of the rows.
-    pub fn finish(self, alloc: Global) -> Frame
-        requires { IsLaid self.rows }
+    /// The rows.
+    pub(crate) fn into_rows(self) -> Rows
         ensures { result ≡ self.rows }
     {
-        let Builder { rows, sieve } = self;
-        let Sieve { firsts, most: _ } = sieve;
-        Frame::new(alloc, rows, firsts)
-    }
-
-    /// The rows and their first places.
-    pub(crate) fn parts(self) -> (Rows, Vec<usize>)
-        ensures { result.0 ≡ self.rows }
-    {
-        let Builder { rows, sieve } = self;
-        let Sieve { firsts, most: _ } = sieve;
-        (rows, firsts)
+        let Builder { rows, sieve: _ } = self;
+        rows
     }
 
     /// Adds that one place has to stay of what two rows have in common in some cells of two sets.
@@ -142,7 +130,6 @@ impl Builder {
     ) -> Result<(), AllocError>
         requires laid { IsLaid self.old.rows }
         requires width { length one.now ≤ self.old.rows.width }
-        ensures kept { OnOk result (KeepsOpen self.old.rows self.new.rows self.old.rows.count) }
         ensures owing { OnOk result (IsOwing self.old.rows self.new.rows (λ some. SomePlace (λ k. meets_at one.now other.now sides.now.left.now sides.now.right.now cells k && some k))) }
     {
         self.rows.push(one, other, sides, cells)?;
@@ -162,7 +149,6 @@ impl Builder {
         requires laid { IsLaid self.old.rows }
         requires width { length places.now ≤ self.old.rows.width }
         requires places { AreWithin (left_of self.old.rows) (has_bit places.now) }
-        ensures kept { OnOk result (KeepsOpen self.old.rows self.new.rows self.old.rows.count) }
         ensures owing { OnOk result (IsOwing self.old.rows self.new.rows (λ some. IsRegionMet words (has_bit sides.now.left.now) (has_bit sides.now.right.now) some region)) }
     {
         if is_occupied(words, region) {
@@ -181,7 +167,6 @@ impl Builder {
         requires laid { IsLaid self.old.rows }
         requires width { length places.now ≤ self.old.rows.width }
         requires places { AreWithin (left_of self.old.rows) (has_bit places.now) }
-        ensures kept { OnOk result (KeepsOpen self.old.rows self.new.rows self.old.rows.count) }
         ensures owing { OnOk result (IsOwing self.old.rows self.new.rows (AreRegionsMet words (has_bit sides.now.left.now) (has_bit sides.now.right.now))) }
     {
         self.add_region(places, sides, words, Region::LeftOnly)?;
@@ -190,15 +175,21 @@ impl Builder {
         Ok(())
     }
 
-    // Adds the open rows of a frame, as far as they are left in some cells of two sets.
-    fn add_open(&mut self, frame: &Frame, sides: &Sides, cells: Cells) -> Result<(), AllocError>
+    /// Adds some open rows, as far as they are left in some cells of two sets.
+    pub(crate) fn add_open(
+        &mut self,
+        more: &Rows,
+        left: &[u64],
+        sides: &Sides,
+        cells: Cells,
+    ) -> Result<(), AllocError>
         requires laid { IsLaid self.old.rows }
-        requires width { frame.now.width ≡ self.old.rows.width }
-        ensures { OnOk result (IsOwing self.old.rows self.new.rows (λ some. (r : ℕ) → 2 ≤ r → r < frame.now.count → SomePlace (λ k. open_at frame.now (has_bit sides.now.left.now) (has_bit sides.now.right.now) cells r k && some k))) }
+        requires two { 2 ≤ more.now.count }
+        requires width { more.now.width ≡ self.old.rows.width }
+        ensures { OnOk result (IsOwing self.old.rows self.new.rows (HaveSomeIn more.now (has_bit left.now) (has_bit sides.now.left.now) (has_bit sides.now.right.now) cells)) }
     {
-        let left = frame.left();
-        for row in FIRST_OPEN..frame.count() {
-            self.add_need(frame.row(row), left, sides, cells)?;
+        for row in FIRST_OPEN..more.count() {
+            self.add_need(more.row(row), left, sides, cells)?;
         }
         Ok(())
     }
@@ -221,6 +212,6 @@ pub fn narrowed(
     rows.push_copy(frame.must())?;
     let mut next = Builder::new(alloc, rows, most)?;
     next.add_regions(left, sides, words)?;
-    next.add_open(frame, sides, kept)?;
-    Ok(next.finish(alloc))
+    frame.add_open_to(&mut next, sides, kept)?;
+    next.finish(alloc)
 }

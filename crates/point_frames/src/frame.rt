@@ -1,40 +1,39 @@
 //! Frames: the points that are left, those of them that have to stay, and rows of which one point each has to stay.
-ghost use Rattle.std.specs.Prelude.{◌≡◌, ℕ, ◌<◌, ◌≤◌, ◌↔◌, true, length, IfOk, IsTrue};
-ghost use Rattle.bit_rows.specs.Rows.{has_bit, bit_in, SomePlace};
-ghost use Rattle.point_frames.specs.Frames.{left_of, must_of, IsLaid, IsAliveFrame, open_at, LeadsOn, IsNarrowed, IsSeen};
+ghost use Rattle.std.specs.Prelude.{◌≡◌, ℕ, ◌<◌, ◌≤◌, ◌↔◌, Bool, true, length, IfOk, OnOk, IsTrue};
+ghost use Rattle.bit_rows.specs.Rows.{has_bit, SomePlace};
+ghost use Rattle.point_frames.specs.Frames.{left_of, must_of, IsLaid, AreWithin, Satisfies, IsInRegion, IsMetBy, IsRegionMet, SayAlike, IsAliveFrame, open_at, LeadsOn, IsOwing, IsNarrowed, IsSeen};
+ghost use Rattle.point_frames.specs.Joined.{HasFirst, HaveSomeIn};
 
+use crate::base::{Base, are_met_from, first_rows};
 use crate::builder::Builder;
-use crate::groups::{FIRST_OPEN, Group, groups_met, groups_of};
+use crate::groups::FIRST_OPEN;
 use crate::words::{
-    are_regions_met, cells_with, has_empty, has_occupied, is_region_met, kept_cells,
+    cells_with, has_empty, has_occupied, is_occupied, is_region_met, kept_cells, region_cell,
 };
 use bit_rows::{Cells, Rows, Sides, is_inside, meets};
-use rcc5_core::{Region, Regions};
+use rcc5_core::{Occupancy, Region, Regions};
 use std::alloc::{AllocError, Global};
 use std::marker::Model;
+use std::rc::Rc;
 
-/// The rows of a frame: the places that are left, those that have to stay, and from the third on those of which one each has to.
+/// The rows of a frame: the places that are left, those that have to stay, and from the third on those of which one place each has to.
 #[derive(Drop)]
 pub struct Frame {
-    rows: Rows,
-    // The first places of rows: a hint for what makes further rows.
-    firsts: Vec<usize>,
-    // The open rows below a number are in groups. How many places were left then is a hint.
-    groups: Vec<Group>,
-    grouped: usize,
-    left_then: usize,
+    // Most open rows are shared with the frames that this one came of: they do not change.
+    base: Rc<Base>,
+    // The places that are left, those that have to stay, and the open rows that were added since the base was made.
+    own: Rows,
 }
 
 impl Model for Frame {
     ghost use Rattle.bit_rows.specs.Rows.{BitRows};
-    ghost use Rattle.point_frames.specs.Frames.{IsLaid};
-    ghost use Rattle.point_frames.specs.Groups.{AreGrouped};
+    ghost use Rattle.point_frames.specs.Joined.{joined, StandsOn};
 
     ghost Value = { BitRows };
 
-    ghost view = { λ s. s.rows };
+    ghost view = { λ s. joined s.own s.base.value.rows };
 
-    ghost invariant = { λ s. IsLaid s.rows × AreGrouped s.rows s.groups.items s.grouped };
+    ghost invariant = { λ s. StandsOn s.own s.base.value };
 }
 
 /// The cells of two sets in which places of a frame lie: any that is left, and one that has to stay.
@@ -45,40 +44,28 @@ pub struct Seen {
 }
 
 impl Frame {
-    /// The frame that has some rows, with their first places as a hint.
-    pub(crate) fn new(alloc: Global, rows: Rows, firsts: Vec<usize>) -> Frame
+    /// The frame that has some rows.
+    pub(crate) fn new(alloc: Global, rows: Rows) -> Result<Frame, AllocError>
         requires { IsLaid rows }
-        ensures { result ≡ rows }
+        ensures { IfOk result (λ frame. HasFirst rows frame rows.count) }
     {
-        Frame {
-            rows,
-            firsts,
-            groups: Vec::new(alloc),
-            grouped: FIRST_OPEN,
-            left_then: 0,
-        }
+        let own = first_rows(alloc, &rows, FIRST_OPEN)?;
+        let base = Rc::new(alloc, Base::new(alloc, rows)?)?;
+        Ok(Frame { base, own })
     }
 
-    /// Puts the open rows into groups, so that further looks take less.
-    pub fn group(&mut self, alloc: Global) -> Result<(), AllocError>
-        ensures { self.new ≡ self.old }
-    {
-        if let Some(groups) = groups_of(alloc, &self.rows)? {
-            self.left_then = count_places(self.left());
-            self.grouped = self.rows.count();
-            self.groups = groups;
-        }
-        Ok(())
-    }
-
-    /// Whether so many rows were added since they were put into groups, or so many places went, that they should be made anew: a hint.
+    /// Whether so many rows were added since the base was made, or so many places went, that the frame should be made anew: a hint.
+    // A frame's own rows are copied for each that comes of it, so they are to stay few beside those of the base. Where many
+    // places went, many rows of the base have few left, and a frame that is made anew has fewer rows.
     pub fn is_stale(&self) -> bool {
-        let added = self.rows.count().saturating_sub(self.grouped);
-        let gone = self.left_then.saturating_sub(count_places(self.left()));
-        added > 16 + self.grouped / 4 || gone > 16 + self.left_then / 4
+        let added = self.own.count().saturating_sub(FIRST_OPEN);
+        let left_then = count_places(self.base.rows.row(0));
+        let gone = left_then.saturating_sub(count_places(self.own.row(0)));
+        added > 16 + self.base.rows.count() / 8 || gone > 16 + left_then / 8
     }
 
-    /// The frame after words were said of two sets: its rows stay as they are, and places that went are left in them.
+    /// The frame after words were said of two sets, made of this one: places that went are left in its open rows.
+    /// So many of its own rows are set beside each new one: a hint.
     pub fn narrow(
         self,
         alloc: Global,
@@ -88,34 +75,37 @@ impl Frame {
     ) -> Result<Frame, AllocError>
         ensures { IfOk result (λ next. IsNarrowed self next (has_bit sides.now.left.now) (has_bit sides.now.right.now) words) }
     {
-        let Frame {
-            rows: mut rows,
-            firsts,
-            groups,
-            grouped,
-            left_then,
-        } = self;
-        let left = Vec::from_slice(alloc, rows.row(0))?;
+        let needed = self.words_left(sides, words);
+        let Frame { base, mut own } = self;
+        let left = Vec::from_slice(alloc, own.row(0))?;
         let places = left.as_slice();
-        rows.write(0, places, places, sides, kept_cells(words));
-        let mut next = Builder::again(rows, firsts, most);
-        next.add_regions(places, sides, words)?;
-        let (rows, firsts) = next.parts();
-        Ok(Frame {
-            rows,
-            firsts,
-            groups,
-            grouped,
-            left_then,
-        })
+        own.write(0, places, places, sides, kept_cells(words));
+        let mut next = Builder::new(alloc, own, most)?;
+        next.add_regions(places, sides, needed)?;
+        let own = next.into_rows();
+        Ok(Frame { base, own })
     }
 
-    /// How many rows there are.
-    pub fn count(&self) -> usize
-        ensures count { result ≡ self.now.count }
-        ensures two { 2 ≤ result }
+    /// The frame after words were said of two sets, beside this one: both share the base.
+    pub fn after(
+        &self,
+        alloc: Global,
+        sides: &Sides,
+        words: Regions,
+        most: usize,
+    ) -> Result<Frame, AllocError>
+        ensures { IfOk result (λ next. IsNarrowed self.now next (has_bit sides.now.left.now) (has_bit sides.now.right.now) words) }
     {
-        self.rows.count()
+        let base = self.base.clone()?;
+        let own = first_rows(alloc, &self.own, self.own.count())?;
+        Frame { base, own }.narrow(alloc, sides, words, most)
+    }
+
+    /// How many words its rows have: a hint.
+    pub fn size(&self) -> usize {
+        let shared = self.base.rows.count().saturating_sub(FIRST_OPEN);
+        let rows = self.own.count().saturating_add(shared);
+        rows.saturating_mul(self.own.width())
     }
 
     /// How many words a row has.
@@ -123,16 +113,23 @@ impl Frame {
         ensures width { result ≡ self.now.width }
         ensures some { 0 < result }
     {
-        self.rows.width()
+        self.own.width()
     }
 
-    /// A row by its number, as the open ones are named.
-    pub(crate) fn row(&self, row: usize) -> &[u64]
-        requires { row < self.now.count }
-        ensures bits { (k : ℕ) → has_bit result.now k ≡ bit_in self.now row k }
-        ensures width { length result.now ≡ self.now.width }
+    /// Adds the open rows to those of a new frame, as far as they are left in some cells of two sets.
+    pub(crate) fn add_open_to(
+        &self,
+        next: &mut Builder,
+        sides: &Sides,
+        cells: Cells,
+    ) -> Result<(), AllocError>
+        requires laid { IsLaid next.old.rows }
+        requires width { self.now.width ≡ next.old.rows.width }
+        ensures { OnOk result (IsOwing next.old.rows next.new.rows (HaveSomeIn self.now (left_of self.now) (has_bit sides.now.left.now) (has_bit sides.now.right.now) cells)) }
     {
-        self.rows.row(row)
+        let left = self.own.row(0);
+        next.add_open(&self.own, left, sides, cells)?;
+        next.add_open(&self.base.rows, left, sides, cells)
     }
 
     /// The places that are left.
@@ -140,7 +137,7 @@ impl Frame {
         ensures bits { (k : ℕ) → has_bit result.now k ≡ left_of self.now k }
         ensures width { length result.now ≡ self.now.width }
     {
-        self.rows.row(0)
+        self.own.row(0)
     }
 
     /// The places that have to stay.
@@ -148,7 +145,7 @@ impl Frame {
         ensures bits { (k : ℕ) → has_bit result.now k ≡ must_of self.now k }
         ensures width { length result.now ≡ self.now.width }
     {
-        self.rows.row(1)
+        self.own.row(1)
     }
 
     /// The number of the first region that has to have a place that is left, and has none.
@@ -167,16 +164,9 @@ impl Frame {
     fn open_met(&self, sides: &Sides, cells: Cells) -> bool
         ensures { IsTrue result ↔ ((r : ℕ) → 2 ≤ r → r < self.now.count → SomePlace (open_at self.now (has_bit sides.now.left.now) (has_bit sides.now.right.now) cells r)) }
     {
-        if !groups_met(&self.rows, &self.groups, self.grouped, sides, cells) {
-            return false;
-        }
-        let left = self.left();
-        for row in self.grouped..self.count() {
-            if !meets(self.row(row), left, sides, cells) {
-                return false;
-            }
-        }
-        true
+        let left = self.own.row(0);
+        self.base.is_met(left, sides, cells)
+            && are_met_from(&self.own, FIRST_OPEN, left, sides, cells)
     }
 
     /// Whether the places that are left satisfy the other rows.
@@ -228,7 +218,37 @@ impl Frame {
         self.leads_by(sides, self.seen(sides), words)
     }
 
-    /// Whether words about two sets take no place away, and each region that is occupied has a place that has to stay.
+    // Whether one place has to stay in a region already: one of those that have to lies there, or all that are left of an open row do.
+    fn is_kept(&self, sides: &Sides, region: Region) -> bool
+        ensures { result ≡ true → (some : ℕ → Bool) → AreWithin some (left_of self.now) → Satisfies self.now self.now.count some → IsInRegion (has_bit sides.now.left.now) (has_bit sides.now.right.now) some region }
+    {
+        let must = self.must();
+        let cell = region_cell(region);
+        meets(must, must, sides, cell) || !self.open_met(sides, cell.others())
+    }
+
+    // The word for a region, unless one place has to stay there already.
+    fn word_left(&self, sides: &Sides, words: Regions, region: Region) -> Occupancy
+        ensures { (some : ℕ → Bool) → AreWithin some (left_of self.now) → Satisfies self.now self.now.count some → IsMetBy result (has_bit sides.now.left.now) (has_bit sides.now.right.now) some region ↔ IsRegionMet words (has_bit sides.now.left.now) (has_bit sides.now.right.now) some region }
+    {
+        if is_occupied(words, region) && self.is_kept(sides, region) {
+            return Occupancy::Free;
+        }
+        words.at(region)
+    }
+
+    // Words about two sets, without the regions in which one place has to stay already.
+    fn words_left(&self, sides: &Sides, words: Regions) -> Regions
+        ensures { SayAlike self.now (has_bit sides.now.left.now) (has_bit sides.now.right.now) result words }
+    {
+        Regions {
+            left_only: self.word_left(sides, words, Region::LeftOnly),
+            both: self.word_left(sides, words, Region::Both),
+            right_only: self.word_left(sides, words, Region::RightOnly),
+        }
+    }
+
+    /// Whether words about two sets take no place away, and one has to stay already in each region that is occupied.
     pub fn is_same(&self, sides: &Sides, words: Regions) -> bool
         ensures { result ≡ true → IsNarrowed self.now self.now (has_bit sides.now.left.now) (has_bit sides.now.right.now) words }
     {
@@ -236,7 +256,7 @@ impl Frame {
         if meets(left, left, sides, kept_cells(words).others()) {
             return false;
         }
-        are_regions_met(self.must(), sides, words)
+        has_occupied(self.words_left(sides, words), Cells::neither())
     }
 }
 

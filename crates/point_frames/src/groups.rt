@@ -116,13 +116,11 @@ pub(crate) fn groups_of(alloc: Global, rows: &Rows) -> Result<Option<Vec<Group>>
     Ok(Some(groups))
 }
 
-// Whether each of some open rows has a place that is left in some cells of two sets.
-fn are_met(rows: &Rows, list: &[usize], sides: &Sides, cells: Cells) -> bool
-    requires laid { 2 ≤ rows.now.count }
-    requires open { AreOpen rows.now.count list.now }
-    ensures { IsTrue result ↔ All (IsOpenMet rows.now (has_bit sides.now.left.now) (has_bit sides.now.right.now) cells) list.now }
+// Whether each of some open rows has one of the places that are left, in some cells of two sets.
+fn are_met(rows: &Rows, list: &[usize], left: &[u64], sides: &Sides, cells: Cells) -> bool
+    requires { AreOpen rows.now.count list.now }
+    ensures { IsTrue result ↔ All (IsOpenMet rows.now (has_bit left.now) (has_bit sides.now.left.now) (has_bit sides.now.right.now) cells) list.now }
 {
-    let left = rows.row(0);
     for row in list {
         if !meets(rows.row(*row), left, sides, cells) {
             return false;
@@ -131,32 +129,31 @@ fn are_met(rows: &Rows, list: &[usize], sides: &Sides, cells: Cells) -> bool
     true
 }
 
-// Whether each row of a group has a place that is left in some cells of two sets.
-fn group_met(rows: &Rows, group: &Group, sides: &Sides, cells: Cells) -> bool
-    requires laid { 2 ≤ rows.now.count }
-    requires group { IsGroup rows.now rows.now.count group.now }
-    ensures { IsTrue result ↔ All (IsOpenMet rows.now (has_bit sides.now.left.now) (has_bit sides.now.right.now) cells) group.now.rows.items }
+// Whether each row of a group has one of the places that are left, in some cells of two sets.
+fn group_met(rows: &Rows, group: &Group, left: &[u64], sides: &Sides, cells: Cells) -> bool
+    requires { IsGroup rows.now rows.now.count group.now }
+    ensures { IsTrue result ↔ All (IsOpenMet rows.now (has_bit left.now) (has_bit sides.now.left.now) (has_bit sides.now.right.now) cells) group.now.rows.items }
 {
-    if has_place(rows.row(0), sides, cells, group.place) {
+    if has_place(left, sides, cells, group.place) {
         return true;
     }
-    are_met(rows, &group.rows, sides, cells)
+    are_met(rows, &group.rows, left, sides, cells)
 }
 
-/// Whether each open row below a number has a place that is left in some cells of two sets, by their groups.
+/// Whether each open row below a number has one of the places that are left, in some cells of two sets, by their groups.
 pub(crate) fn groups_met(
     rows: &Rows,
     groups: &[Group],
     count: usize,
+    left: &[u64],
     sides: &Sides,
     cells: Cells,
 ) -> bool
-    requires laid { 2 ≤ rows.now.count }
-    requires grouped { AreGrouped rows.now groups.now count }
-    ensures { IsTrue result ↔ AreMetBelow rows.now (has_bit sides.now.left.now) (has_bit sides.now.right.now) cells count }
+    requires { AreGrouped rows.now groups.now count }
+    ensures { IsTrue result ↔ AreMetBelow rows.now (has_bit left.now) (has_bit sides.now.left.now) (has_bit sides.now.right.now) cells count }
 {
     for group in groups {
-        if !group_met(rows, group, sides, cells) {
+        if !group_met(rows, group, left, sides, cells) {
             return false;
         }
     }

@@ -2,6 +2,7 @@
 //! words about two sets leave of them, and whether that satisfies the rows.
 #![tactic(auto)]
 
+mod base;
 mod builder;
 mod frame;
 mod groups;

@@ -2,7 +2,7 @@
 ghost use Rattle.std.specs.Prelude.{◌≡◌, ◌↔◌, Bool, true, IsTrue};
 ghost use Rattle.bit_rows.specs.Rows.{has_bit, in_cells};
 ghost use Rattle.world_model.specs.Alive.{lies_by, avoids_by};
-ghost use Rattle.point_frames.specs.Frames.{is_occupied, IsRegionMet, AreRegionsMet, cell_of, AreSeen, HasEmpty};
+ghost use Rattle.point_frames.specs.Frames.{is_occupied, IsRegionMet, cell_of, AreSeen, HasEmpty};
 
 use bit_rows::{Cells, Sides, meets};
 use rcc5_core::{Occupancy, Region, Regions};
@@ -48,19 +48,6 @@ pub(crate) fn is_region_met(row: &[u64], sides: &Sides, words: Regions, region: 
     ensures { IsTrue result ↔ IsRegionMet words (has_bit sides.now.left.now) (has_bit sides.now.right.now) (has_bit row.now) region }
 {
     !is_occupied(words, region) || meets(row, row, sides, region_cell(region))
-}
-
-// Whether all regions have a place of a row that have to.
-pub(crate) fn are_regions_met(row: &[u64], sides: &Sides, words: Regions) -> bool
-    ensures { IsTrue result ↔ AreRegionsMet words (has_bit sides.now.left.now) (has_bit sides.now.right.now) (has_bit row.now) }
-{
-    if !is_region_met(row, sides, words, Region::LeftOnly) {
-        return false;
-    }
-    if !is_region_met(row, sides, words, Region::Both) {
-        return false;
-    }
-    is_region_met(row, sides, words, Region::RightOnly)
 }
 
 // The cells of two sets that have a place of a row, and the one outside both.

@@ -8,10 +8,11 @@ ghost use Rattle.point_frames.specs.Frames.{IsAliveFrame, LeadsOn};
 ghost use Rattle.point_ladder.specs.Barren.{IsFreeAt, LiesNone, LiesNoneBy, AreNoneBy};
 
 use crate::bounds::bound;
+use crate::next::next_frame;
 use crate::sides::sides_of;
 use bit_rows::{Rows, Sides};
 use constraint_set::Problem;
-use point_frames::{Frame, narrowed};
+use point_frames::Frame;
 use rcc5_core::{Rel, RelSet};
 use std::alloc::{AllocError, Global};
 
@@ -110,7 +111,7 @@ fn is_barren_by(
     if frame.is_same(sides, rel.row()) {
         return is_barren(ground, at, frame, effort);
     }
-    let next = narrowed(ground.alloc, frame, sides, rel.row(), FEW_COMPARED)?;
+    let next = next_frame(ground.alloc, frame, sides, rel.row(), FEW_COMPARED)?;
     is_barren(ground, at, &next, effort)
 }
 

@@ -98,9 +98,7 @@ fn narrow_frame(
     if !frame.is_stale() {
         return frame.narrow(alloc, sides, words, MOST_COMPARED);
     }
-    let mut next = narrowed(alloc, &frame, sides, words, MOST_COMPARED)?;
-    next.group(alloc)?;
-    Ok(next)
+    narrowed(alloc, &frame, sides, words, MOST_COMPARED)
 }
 
 // Narrows the next pair to the relations with which it is alive by itself.

@@ -12,12 +12,13 @@ ghost use Rattle.point_ladder.specs.Bounds.{bound_to, AreBounds};
 
 use crate::behind::{Effort, Ground, is_barren, move_all_to_front, move_to_front, new_effort};
 use crate::bounds::{Bounds, bound, narrow_all};
+use crate::next::next_frame;
 use crate::sides::sides_of;
 use crate::start::{begin, first_line, nexts_of, split_pairs};
 use crate::stretches::{Stretch, cut, in_force};
 use bit_rows::Rows;
 use constraint_set::Problem;
-use point_frames::{MOST_COMPARED, narrowed};
+use point_frames::MOST_COMPARED;
 use rcc5_core::{Rel, RelSet};
 use std::alloc::{AllocError, Global};
 use std::marker::Model;
@@ -195,7 +196,7 @@ impl Ladder {
         let last = self.stretches.len() - 1;
         let frame = &self.stretches[last].frame;
         if !frame.is_same(&sides, rel.row()) {
-            let frame = narrowed(self.alloc, frame, &sides, rel.row(), MOST_COMPARED)?;
+            let frame = next_frame(self.alloc, frame, &sides, rel.row(), MOST_COMPARED)?;
             self.stretches.push(Stretch {
                 from: pair + 1,
                 frame,
@@ -257,7 +258,7 @@ impl Ladder {
         let Some(first) = self.stretches.first() else {
             return false;
         };
-        let words = first.frame.count().saturating_mul(first.frame.width());
+        let words = first.frame.size();
         words.saturating_mul(self.order.len()) <= MOST_WORDS_A_PAIR.saturating_mul(self.sets.len())
     }
 

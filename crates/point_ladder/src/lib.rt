@@ -6,6 +6,7 @@ mod alone;
 mod behind;
 mod bounds;
 mod ladder;
+mod next;
 mod sides;
 mod start;
 mod stretches;

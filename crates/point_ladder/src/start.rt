@@ -111,9 +111,7 @@ pub(crate) fn first_frame(
     let mut frame = Builder::new(alloc, two, MOST_COMPARED)?;
     add_pairs(problem, sets, rows, &full, &mut frame)?;
     add_nonempty(problem, rows, &mut frame)?;
-    let mut frame = frame.finish(alloc);
-    frame.group(alloc)?;
-    Ok(frame)
+    frame.finish(alloc)
 }
 
 // Whether each pair allows a relation.

@@ -1,5 +1,6 @@
 -- The test of a point, part by part.
-use Rattle.std.proofs.Common.{◌≡◌, ℕ, zero, suc, ◌+◌, ◌<◌, Bool, true, false, ◌&&◌, List, [], ◌∷◌, length, get_or, refl, sym, ap, ◌∙◌, arith}
+use Rattle.std.proofs.Common.{◌≡◌, ℕ, zero, suc, ◌+◌, ◌<◌, Bool, true, false, not, ◌&&◌, ◌||◌, List, [], ◌∷◌, length, get_or, refl, sym, ap, subst, ◌∙◌, arith}
+use Rattle.std.specs.Prelude.{◌==◌}
 use Rattle.std.specs.List.{list_all, range_with_len}
 use Rattle.std.proofs.lemmas.Bool.{and_from, and_parts, true≢false, false_from_ne_true}
 use Rattle.std.proofs.lemmas.List.Folds.{list_all-append}
@@ -7,7 +8,7 @@ use Rattle.rcc5_core.specs.declared.RelSet.{RelSet}
 use Rattle.rcc5_core.specs.Region.{forced_regions}
 use Rattle.world_model.specs.Problem.{Problem, pairs, pair_count}
 use Rattle.world_model.specs.Node.{pair_at}
-use Rattle.world_model.specs.Alive.{allowed, forced_of, forced_pairs, avoids, is_point, meets_structure}
+use Rattle.world_model.specs.Alive.{bit_of, allowed, forced_of, forced_pairs, avoids, is_point, meets_structure}
 use Rattle.world_model.proofs.Members.{all_at, all_from, from_filter, In-range, from_range}
 use Rattle.constraint_set.proofs.Lists.{range_more}
 use Rattle.constraint_set.proofs.PointTests.{avoids_each, forced_avoids}
@@ -21,6 +22,16 @@ range_all_more test i before now =
 
 pub range_all_not : (test : ℕ → Bool) (n i : ℕ) → i < n → test i ≡ false → list_all test (range_with_len 0 n) ≡ false
 range_all_not test n i small fails = false_from_ne_true (list_all test (range_with_len 0 n)) (λ all. true≢false (sym (all_at test all (In-range 0 n i (omega arith) (omega arith))) ∙ fails))
+
+-- where the first has not the point, no two of some concepts have it with the first
+pub apart_of_none : (bits : List Bool) (child : ℕ) (others : List ℕ) → bit_of bits child ≡ false → list_all (λ other. (child == other) || not (bit_of bits child && bit_of bits other)) others ≡ true
+apart_of_none bits child others h =
+    all_from (λ other. (child == other) || not (bit_of bits child && bit_of bits other)) others
+    (λ other i. subst (λ b. ((child == other) || not (b && bit_of bits other)) ≡ true) (sym h) (passes (child == other)))
+  where
+    passes : (a : Bool) → (a || true) ≡ true
+    passes true = refl
+    passes false = refl
 
 -- what the pairs below a number allow
 pub record AreAllowedBelow (p : Problem) (sets : List RelSet) (n : ℕ) : Type 0 where

@@ -92,7 +92,8 @@ fn is_apart_from(bits: &[bool], child: u32, children: &[u32]) -> bool
     ensures { result ≡ list_all (λ other. (child == other) || not (bit_of bits.now child && bit_of bits.now other)) children.now }
 {
     let has = bit(bits, child);
-    children
+    // Most children don't have the point; of those nothing is to be looked at.
+    !has || children
         .iter()
         .all(|other| child == *other || !(has && bit(bits, *other)))
 }

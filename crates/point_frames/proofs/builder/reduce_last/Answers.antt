@@ -1,10 +1,9 @@
 use Rattle.std.proofs.Common.{◌-◌, ◌∙◌, sym, arith}
-use Rattle.point_frames.proofs.Grouped.{keeps_popped, keeps_put}
 use Rattle.point_frames.proofs.Needs.{owing_popped, owing_single, place_within}
 use Rattle.point_frames.proofs.builder.reduce_last.Goals as goal
 
-pub returns-then-is_needless-clause-owing : goal.returns-then-is_needless-clause-owing
-returns-then-is_needless-clause-owing c =
+pub returns-then-is_needless : goal.returns-then-is_needless
+returns-then-is_needless c =
     let rows = c.args.rows.now in
     let three = c.requires.three in
     let last = c.count-last.result - 1 in
@@ -13,8 +12,8 @@ returns-then-is_needless-clause-owing c =
 pub set-requires-clause-within : goal.set-requires-clause-within
 set-requires-clause-within c = place_within c.row-row.result.now c.in-Some.place c.pop-2.new.self.width c.in-Some.ensures.there (c.row-row.ensures.width ∙ sym c.pop-2.ensures.width)
 
-pub returns-clause-owing : goal.returns-clause-owing
-returns-clause-owing c =
+pub returns : goal.returns
+returns c =
     let rows = c.args.rows.now in
     let three = c.requires.three in
     let last = c.count-last.result - 1 in
@@ -22,15 +21,3 @@ returns-clause-owing c =
     (sym (c.row-row.ensures.bits c.in-Some.place) ∙ c.in-Some.ensures.there)
     (λ k l one other. c.has_single.ensures c.if-not-has_single.false k l (c.row-row.ensures.bits k ∙ one) (c.row-row.ensures.bits l ∙ other))
     c.set.ensures
-
-pub returns-then-is_needless-clause-kept : goal.returns-then-is_needless-clause-kept
-returns-then-is_needless-clause-kept c =
-    let rows = c.args.rows.now in
-    let three = c.requires.three in
-    keeps_popped rows c.pop.new.self (rows.count - 1) c.pop.ensures (omega (arith, three))
-
-pub returns-clause-kept : goal.returns-clause-kept
-returns-clause-kept c =
-    let rows = c.args.rows.now in
-    let three = c.requires.three in
-    keeps_put rows c.pop-2.new.self c.set.new.self (rows.count - 1) _ c.pop-2.ensures (omega (arith, three)) c.set.ensures

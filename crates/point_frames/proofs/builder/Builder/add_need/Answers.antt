@@ -1,15 +1,11 @@
-use Rattle.std.proofs.Common.{◌-◌, ◌&&◌, arith}
+use Rattle.std.proofs.Common.{◌&&◌}
 use Rattle.bit_rows.specs.Rows.{has_bit, in_cells}
-use Rattle.point_frames.proofs.Grouped.{keeps_pushed}
 use Rattle.point_frames.proofs.Needs.{owing_pushed}
 use Rattle.point_frames.proofs.builder.Builder.add_need.Goals as goal
 
-pub returns-clause-owing : goal.returns-clause-owing
-returns-clause-owing c =
-    owing_pushed c.args.self.now.rows c.push.new.self c.reduce_last.new.rows (λ k. has_bit c.args.one.now k && has_bit c.args.other.now k && in_cells c.args.cells (has_bit c.args.sides.now.left.now k) (has_bit c.args.sides.now.right.now k))
-    c.requires.laid.1 c.in_ok-push.ensures c.reduce_last.ensures.owing
-
-pub returns-clause-kept : goal.returns-clause-kept
-returns-clause-kept c =
-    let pushed = c.in_ok-push.ensures in
-    keeps_pushed c.args.self.now.rows c.push.new.self c.reduce_last.new.rows (c.push.new.self.count - 1) _ pushed (omega (arith, pushed.count)) c.reduce_last.ensures.kept
+pub returns : goal.returns
+returns c =
+    record {
+      owing = owing_pushed c.args.self.now.rows c.push.new.self c.reduce_last.new.rows (λ k. has_bit c.args.one.now k && has_bit c.args.other.now k && in_cells c.args.cells (has_bit c.args.sides.now.left.now k) (has_bit c.args.sides.now.right.now k))
+          c.requires.laid.1 c.in_ok-push.ensures c.reduce_last.ensures;
+    }

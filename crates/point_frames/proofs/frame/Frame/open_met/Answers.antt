@@ -1,33 +1,36 @@
-use Rattle.std.proofs.Common.{◌≡◌, ◌&&◌, inl, inr, refl, sym, subst, arith}
-use Rattle.std.proofs.lemmas.Bool.{false≢true, cases_lt}
-use Rattle.bit_rows.specs.Rows.{BitRows, has_bit, bit_in, in_cells, SomePlace}
+use Rattle.std.proofs.Common.{◌<◌, ◌≤◌, ◌↔◌, ◌&&◌, ℕ, sym, subst, arith}
+use Rattle.std.specs.Prelude.{IsTrue}
+use Rattle.bit_rows.specs.Rows.{BitRows, SomePlace, has_bit, in_cells}
+use Rattle.point_frames.specs.declared.base.Base.{Base}
+use Rattle.point_frames.specs.Frames.{open_at}
 use Rattle.point_frames.specs.Groups.{AreMetBelow}
-use Rattle.point_frames.proofs.Frames.{shown_some, not_met}
+use Rattle.point_frames.proofs.Frames.{not_met}
+use Rattle.point_frames.proofs.Joined.{joined_left}
 use Rattle.point_frames.proofs.frame.Frame.open_met.Goals as goal
 
-pub returns-then-not-meets : goal.returns-then-not-meets
-returns-then-not-meets c = (
-  λ h. absurd (false≢true h),
-  λ all.
-      let rows = c.args.self.now in
-      absurd (not_met c.meets.result c.if-not-meets.true (c.meets.ensures.1
-      (shown_some (bit_in rows c.loop-row.row) (bit_in rows 0) (has_bit c.row.result.now) (has_bit c.left-left.result.now) (λ k. in_cells c.args.cells (has_bit c.args.sides.now.left.now k) (has_bit c.args.sides.now.right.now k))
-      (λ k. sym (c.row.ensures.bits k)) (λ k. sym (c.left-left.ensures.bits k)) (all c.loop-row.row (omega (arith, c.loop-row.auto.row, c.self.invariant.1.two)) (omega (arith, c.loop-row-test.true, c.count-row-end.ensures)))))),
-)
+pub returns-then-is_met : goal.returns-then-is_met
+returns-then-is_met c =
+    let own = c.self.inside.own in
+    let base = c.self.inside.base.value.rows in
+    let is = c.self.invariant in
+    let l = has_bit c.args.sides.now.left.now in
+    let r = has_bit c.args.sides.now.right.now in
+    let left = has_bit c.row-left.result.now in
+    let low : 2 ≤ base.count = omega (arith, is.grouped.two, is.grouped.within) in
+    let both = joined_left own base left (λ x y k. x && y && in_cells c.args.cells (l k) (r k)) c.row-left.ensures.bits is.width is.laid.1 low in
+    let met : AreMetBelow base left l r c.args.cells base.count = subst (λ (b : Base). AreMetBelow b.rows left l r c.args.cells b.rows.count) c.deref.ensures (c.is_met.ensures.0 c.if-is_met.true) in
+    subst (λ (v : BitRows). IsTrue c.are_met_from.result ↔ ((q : ℕ) → 2 ≤ q → q < v.count → SomePlace (open_at v l r c.args.cells q))) c.self.view_is
+    (λ h. both.0 (c.are_met_from.ensures.0 h, met), λ all. c.are_met_from.ensures.1 (both.1 all).0)
 
-pub loop-row-preserved : goal.loop-row-preserved
-loop-row-preserved c = λ r low small. elim (cases_lt r c.loop-row.row) [
-  | inl before ↦ c.loop-row.invariant r low before
-  | inr here ↦
-      let rows = c.args.self.now in
-      let same : c.loop-row.row ≡ r = omega (arith, small, here) in
-      subst (λ q. SomePlace (λ k. bit_in rows q k && bit_in rows 0 k && in_cells c.args.cells (has_bit c.args.sides.now.left.now k) (has_bit c.args.sides.now.right.now k))) same
-      (shown_some (has_bit c.row.result.now) (has_bit c.left-left.result.now) (bit_in rows c.loop-row.row) (bit_in rows 0) (λ k. in_cells c.args.cells (has_bit c.args.sides.now.left.now k) (has_bit c.args.sides.now.right.now k))
-      c.row.ensures.bits c.left-left.ensures.bits (c.meets.ensures.0 c.if-not-meets.false))
-]
-
-pub returns : goal.returns
-returns c = (λ h r low small. c.loop-row.invariant r low (omega (arith, small, c.loop-row-test.false, c.count-row-end.ensures)), λ all. refl)
-
-pub loop-row-init : goal.loop-row-init
-loop-row-init c = subst (λ (rows : BitRows). AreMetBelow rows (has_bit c.args.sides.now.left.now) (has_bit c.args.sides.now.right.now) c.args.cells c.self.inside.grouped) c.self.view_is (c.groups_met.ensures.0 c.if-not-groups_met.false)
+pub returns-else-is_met : goal.returns-else-is_met
+returns-else-is_met c =
+    let own = c.self.inside.own in
+    let base = c.self.inside.base.value.rows in
+    let is = c.self.invariant in
+    let l = has_bit c.args.sides.now.left.now in
+    let r = has_bit c.args.sides.now.right.now in
+    let left = has_bit c.row-left.result.now in
+    let low : 2 ≤ base.count = omega (arith, is.grouped.two, is.grouped.within) in
+    let both = joined_left own base left (λ x y k. x && y && in_cells c.args.cells (l k) (r k)) c.row-left.ensures.bits is.width is.laid.1 low in
+    subst (λ (v : BitRows). IsTrue c.is_met.result ↔ ((q : ℕ) → 2 ≤ q → q < v.count → SomePlace (open_at v l r c.args.cells q))) c.self.view_is
+    (λ h. absurd (not_met c.is_met.result c.if-is_met.false h), λ all. c.is_met.ensures.1 (subst (λ (b : Base). AreMetBelow b.rows left l r c.args.cells b.rows.count) (sym c.deref.ensures) (both.1 all).1))

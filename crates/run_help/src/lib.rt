@@ -1,0 +1,20 @@
+//! What people are told on standard error of an ending that is not good, where one command or another had it.
+#![tactic(auto)]
+
+mod files;
+mod help;
+mod line;
+mod near;
+mod pairs;
+mod parts;
+mod unknown;
+mod words;
+
+pub use files::{explain_read, explain_write};
+pub use help::{certificate_help, rejection_help, token_help};
+pub use line::{line_of, read_again, show_line};
+pub use near::nearest;
+pub use pairs::{explain_many, explain_open, explain_pair};
+pub use parts::{explain_empty, explain_gap, explain_part, refused_token};
+pub use unknown::unknown_names;
+pub use words::{command_of, key_of, kind_of, switch_words, value_of};
