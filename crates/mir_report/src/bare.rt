@@ -154,6 +154,7 @@ fn ask_among(
     alloc: Global,
     problem: &Problem,
     among: &[RelSet],
+    few_points: bool,
     asker: &mut Asker,
 ) -> Result<MirSets, AllocError>
     requires shape { asker.old.shape ≡ shape_of problem.now }
@@ -161,7 +162,7 @@ fn ask_among(
     ensures shape { asker.new.shape ≡ asker.old.shape }
     ensures sets { IfOk result (λ mir. ArePossibleSets problem.now mir.sets.items) }
 {
-    let mut help = new_help(alloc, problem, among)?;
+    let mut help = new_help(alloc, problem, among, few_points)?;
     let choice = choose_any(alloc, problem, &mut help, asker)?;
     match choice {
         Choice::Refuted => {
@@ -193,10 +194,10 @@ pub(crate) fn bare_sets(
     )?
     else {
         let among = allowed_sets(alloc, problem)?;
-        return ask_among(alloc, problem, &among, asker);
+        return ask_among(alloc, problem, &among, false, asker);
     };
     if are_whole(problem) {
         return Ok(MirSets { sets: alive });
     }
-    ask_among(alloc, problem, &alive, asker)
+    ask_among(alloc, problem, &alive, true, asker)
 }

@@ -2,6 +2,7 @@
 #![tactic(auto)]
 
 mod bare;
+mod drafted;
 mod found;
 mod gather;
 mod possible;

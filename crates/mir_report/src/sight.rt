@@ -8,6 +8,7 @@ ghost use Rattle.split_search.specs.Choosing.{IsChoice};
 ghost use Rattle.family_solver.specs.Showing.{IsFound, IsGranted, IsGround};
 ghost use Rattle.mir_report.specs.Steps.{IsGranter, IsHelp};
 
+use crate::drafted::drafted;
 use constraint_set::Problem;
 use family_solver::{FamilySolver, Grant, Ground, ground_of};
 use pick_search::{Known, choose_part};
@@ -33,6 +34,8 @@ pub(crate) struct Granter {
 pub(crate) struct Help {
     pub(crate) clashes: Known,
     pub(crate) granter: Option<Granter>,
+    // Some points, where there is no such solver.
+    pub(crate) drafted: Option<Table>,
     // What is left of each pair: a hint, by which pairs are chosen that the solver can be asked about.
     pub(crate) left: Vec<RelSet>,
 }
@@ -65,20 +68,40 @@ fn new_granter(alloc: Global, problem: &Problem) -> Result<Option<Granter>, Allo
     }))
 }
 
-/// Nothing is known to clash yet. Of each pair just these relations may be left.
+// Drafted points, where there is no solver.
+fn drafted_for(
+    alloc: Global,
+    problem: &Problem,
+    granter: &Option<Granter>,
+) -> Result<Option<Table>, AllocError> {
+    if granter.is_some() {
+        return Ok(None);
+    }
+    Ok(Some(drafted(alloc, problem)?))
+}
+
+/// Nothing is known to clash yet. Of each pair just these relations may be left. Points are not searched for where they are known to be
+/// too many for a table.
 pub(crate) fn new_help(
     alloc: Global,
     problem: &Problem,
     left: &[RelSet],
+    few_points: bool,
 ) -> Result<Help, AllocError>
     ensures { IfOk result (IsHelp problem.now) }
 {
     let left = Vec::from_slice(alloc, left)?;
     let clashes = Known::new(alloc, problem)?;
-    let granter = new_granter(alloc, problem)?;
+    let granter = if few_points {
+        new_granter(alloc, problem)?
+    } else {
+        None
+    };
+    let drafted = drafted_for(alloc, problem, &granter)?;
     Ok(Help {
         clashes,
         granter,
+        drafted,
         left,
     })
 }

@@ -1,4 +1,4 @@
-//! All points of a problem by rows of bits, and what it needs.
+//! Points of a problem by rows of bits, and what it needs.
 use crate::sites::{REGIONS, Site};
 use bit_rows::{Rows, with_bit};
 use constraint_set::Problem;
@@ -34,6 +34,15 @@ fn word_of(points: &[Bits], from: usize, concept: usize) -> u64 {
     word
 }
 
+// Adds a row, if it is as wide as the others.
+fn push_row(rows: &mut Rows, row: &[u64]) -> Result<(), AllocError> {
+    let width = rows.width();
+    if 0 < width && row.len() == width {
+        rows.push_copy(row)?;
+    }
+    Ok(())
+}
+
 // Adds the row of a concept.
 fn add_row(
     alloc: Global,
@@ -46,10 +55,7 @@ fn add_row(
     for i in 0..width {
         row.push(word_of(points, i.saturating_mul(64), concept))?;
     }
-    if 0 < width && row.len() == width {
-        rows.push_copy(&row)?;
-    }
-    Ok(())
+    push_row(rows, &row)
 }
 
 // Adds the need of a concept, where each has one.
@@ -83,7 +89,7 @@ fn add_pair(problem: &Problem, needs: &mut Vec<Site>, pair: u32) -> Result<(), A
 }
 
 impl Table {
-    /// By all points of a problem, and the pairs whose sets are not whole.
+    /// By points of a problem, all or some, and the pairs whose sets are not whole.
     pub fn new(
         alloc: Global,
         problem: &Problem,
@@ -104,6 +110,26 @@ impl Table {
             count: points.len(),
             needs,
             splits: Vec::from_slice(alloc, splits)?,
+        })
+    }
+
+    /// The same with more points behind its own.
+    pub fn with(&self, alloc: Global, points: &[Bits]) -> Result<Table, AllocError> {
+        let own = self.rows.width();
+        let more = points.len() / 64 + 1;
+        let mut rows = Rows::new(alloc, own.saturating_add(more));
+        for concept in 0..self.rows.count() {
+            let mut row = Vec::from_slice(alloc, self.rows.row(concept))?;
+            for i in 0..more {
+                row.push(word_of(points, i.saturating_mul(64), concept))?;
+            }
+            push_row(&mut rows, &row)?;
+        }
+        Ok(Table {
+            rows,
+            count: own.saturating_mul(64).saturating_add(points.len()),
+            needs: Vec::from_slice(alloc, &self.needs)?,
+            splits: Vec::from_slice(alloc, &self.splits)?,
         })
     }
 }
