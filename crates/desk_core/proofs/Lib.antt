@@ -1,0 +1,4 @@
+pub mod AloneLemmas
+pub mod DeskLemmas
+pub mod SlotLemmas
+pub mod ApartLemmas

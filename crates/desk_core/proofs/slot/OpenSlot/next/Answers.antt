@@ -1,0 +1,17 @@
+use Rattle.std.proofs.Common.{◌∙◌, sym, subst}
+use Rattle.std.specs.Prelude.{Some}
+use Rattle.world_walk.specs.Walks.{IsNext}
+use Rattle.desk_core.specs.Slots.{OpenSlot}
+use Rattle.desk_core.specs.Keeping.{IsWalkBehind, IsKept}
+use Rattle.desk_core.proofs.SlotLemmas.{steps_kept}
+use Rattle.desk_core.proofs.slot.OpenSlot.next.Goals as goal
+
+pub invariant_of-self : goal.invariant_of-self
+invariant_of-self c =
+    let p = c.self.inside.problem in
+    let last = c.self.inside.last in
+    let walk = c.in_ok-walk.walk in
+    let new = c.next.new.self in
+    let behind : IsWalkBehind p last walk = subst (λ (s : OpenSlot). IsWalkBehind s.problem s.last walk) (sym (c.self.view_is ∙ c.take_walk.ensures.same)) c.in_ok-walk.ensures.walk in
+    let next : IsNext p walk new (Some c.in-Some.table) = subst (IsNext p walk new) c.in-Some.is c.in_ok-table.ensures.next in
+    subst (λ t. IsKept p (Some t) (Some new)) (sym c.in_ok-last-in-Some.ensures) (steps_kept p last walk new behind c.next.ensures.walk c.in-Some.table next)
