@@ -21,7 +21,7 @@ abbrev pub is_starved : Reply → Bool
 is_starved NoMemory = true
 is_starved reply = false
 
--- what was talked with one slot, up to requests for which memory was wanting
+-- what was talked with one slot, without the requests for which memory was wanting
 abbrev pub of_slot : ℕ → Talk → Talk
 of_slot k talk = filter (λ e. (e.request.slot == k) && not (is_starved e.reply)) talk
 
