@@ -26,7 +26,7 @@ use Rattle.desk_run.specs.Steps.{IsEarlyDeskEnd, IsProblemOf, AreRequestsOf, IsA
 pub problem_found : (args : DeskArgs) (held : Contents) (name : List ℕ) (p : Problem) → name ≡ args.input → ComesOf held name (problem_in args.switches) (Ok p) → IsProblemOf args held p
 problem_found args held name p is comes =
     let said = says_problem held args.input args.switches p (subst (λ (n : List ℕ). ComesOf held n (problem_in args.switches) (Ok p)) is comes) in
-    (said.bytes, said.told_are, said.is)
+    (said.bytes, (said.told_are, said.is))
 
 -- a text that is refused, with the line that says so
 record IsRefusedAs (args : DeskArgs) (held : Contents) (s : Status) : Type 0 where
@@ -81,8 +81,8 @@ script_cut p told = by (nat_lt 1048576 (length told)) refl
 -- what a name holds asks for what its front does
 pub script_of : (p : Problem) (told : Option (List ℕ)) (front : List ℕ) (outcome : Outcome) → IfSome told (λ all. front ≡ take 1048577 all) → script_result p front ≡ outcome
     → ForSome (MayHold told) (λ bytes. script_result p bytes ≡ outcome)
-script_of p None front outcome is result = (front, tt, result)
-script_of p (Some all) front outcome is result = (all, refl, sym (script_cut p all) ∙ ap (script_result p) (sym is) ∙ result)
+script_of p None front outcome is result = (front, (tt, result))
+script_of p (Some all) front outcome is result = (all, (refl, sym (script_cut p all) ∙ ap (script_result p) (sym is) ∙ result))
 
 -- a script that is refused
 pub without_script : (p : Problem) (name front bytes : List ℕ) (s : DeskStatus) (one other : StoreState) → AreFront one.held name front → bytes ≡ front → IsQuiet one other
@@ -91,11 +91,11 @@ without_script p name front bytes s one other is same quiet end = ⊎_elim
     (λ starved. inr (inr (starved, quiet)))
     (λ refused.
     let said = script_of p (one.held name) front (Err refused.0) is (ap (script_result p) (sym same) ∙ refused.1) in
-    inl ((said.0, said.1.0, (refused.0, said.1.1, refused.2)), quiet))
+    inl ((said.0, (said.1.0, (refused.0, said.1.1, refused.2))), quiet))
     end
 
 -- a run that has a problem and no requests
-early_script : (args : DeskArgs) (name : List ℕ) (p : Problem) (s : DeskStatus) (one mid other : StoreState) → name ≡ args.script → mid ≡ one → IsProblemOf args one.held p
+pub early_script : (args : DeskArgs) (name : List ℕ) (p : Problem) (s : DeskStatus) (one mid other : StoreState) → name ≡ args.script → mid ≡ one → IsProblemOf args one.held p
     → IsWithoutScript p name s mid other → IsEarlyDeskEnd args s one other
 early_script args name p s one mid other is same problem end =
     by (subst (λ (state : StoreState). IsWithoutScript p args.script s state other) same (subst (λ (n : List ℕ). IsWithoutScript p n s mid other) is end))
@@ -122,14 +122,3 @@ early_script args name p s one mid other is same problem end =
         (λ starved. inr (inr starved))
         unread)
         end
-
-pub ended_err : {X : Type 0} (r : Result X DeskStatus) (args : DeskArgs) (name : List ℕ) (p : Problem) (one mid other : StoreState) → name ≡ args.script → mid ≡ one → IsProblemOf args one.held p
-    → IfErr r (λ s. IsWithoutScript p name s mid other) → IfErr r (λ s. IsEarlyDeskEnd args s one other)
-ended_err (Ok x) args name p one mid other is same problem end = tt
-ended_err (Err s) args name p one mid other is same problem end = early_script args name p s one mid other is same problem end
-
--- one that has both
-pub asked_found : (args : DeskArgs) (name : List ℕ) (p : Problem) (requests : List DeskRequest) (one mid : Contents) → name ≡ args.script → mid ≡ one → IsProblemOf args one p
-    → AreRequestsOf p (mid name) requests → IsAsked args one p requests
-asked_found args name p requests one mid is same problem found =
-    (problem, subst (λ (held : Contents). AreRequestsOf p (held args.script) requests) same (subst (λ (n : List ℕ). AreRequestsOf p (mid n) requests) is found))

@@ -1,5 +1,5 @@
 -- Replies that are put one after another, and what is put where a put is refused.
-use Rattle.std.proofs.Common.{◌≡◌, ℕ, suc, ◌+◌, ◌<◌, ◌≤◌, Bool, true, false, List, [], ◌∷◌, ◌++◌, take, drop, length, map, flat_map, get_or, filter, Option, Result, Ok, Err, refl, sym, ap, subst, ◌∙◌, append-nil, arith}
+use Rattle.std.proofs.Common.{◌≡◌, ℕ, suc, ◌+◌, ◌<◌, ◌≤◌, Bool, true, false, List, [], ◌∷◌, ◌++◌, take, drop, length, map, flat_map, get_or, filter, Option, Some, OnErr, Result, Ok, Err, refl, sym, ap, subst, ◌∙◌, append-nil, arith}
 use Rattle.std.specs.Prelude.{◌==◌, ◌&&◌, not, None}
 use Rattle.std.proofs.Math.Seq.{take-suc}
 use Rattle.std.proofs.lemmas.Grind.{flat_map-append}
@@ -8,8 +8,7 @@ use Rattle.std.proofs.lemmas.List.Elements.{filter-append}
 use Rattle.outer_store.specs.Bytes.{GrownInPart, added}
 use Rattle.outer_store.specs.States.{SinkState}
 use Rattle.outer_store.specs.declared.fault.StoreFault.{StoreFault}
-use Rattle.outer_store.specs.declared.fault.StoreFault.TheVariants as fault
-use Rattle.outer_store.proofs.BytesLemmas.{added-added, GrownInPart-kept, GrownInPart-longer, GrownInPart-after}
+use Rattle.outer_store.proofs.BytesLemmas.{added-added, GrownInPart-longer, GrownInPart-after}
 use Rattle.world_model.specs.Problem.{Problem}
 use Rattle.desk_script.specs.declared.requests.DeskRequest.{DeskRequest}
 use Rattle.desk_core.specs.declared.reply.Reply.{Reply}
@@ -21,7 +20,7 @@ use Rattle.desk_core.proofs.ApartLemmas.{apart_law}
 use Rattle.run_ends.specs.Runs.{LeavesPiece}
 use Rattle.run_ends.proofs.PieceLemmas.{piece_after}
 use Rattle.desk_run.specs.Answering.{reply_line, served_line, IsTalkOf, IsServed}
-use Rattle.desk_run.specs.Steps.{ArePut, IsServedOut}
+use Rattle.desk_run.specs.Steps.{IsServedOut}
 
 -- what was asked in a talk
 abbrev asked : Talk → List DeskRequest
@@ -31,7 +30,7 @@ abbrev exchanged : DeskRequest → Reply → Exchange
 exchanged request reply = record { request = request; reply = reply }
 
 -- requests for each of which memory was wanting
-starved : List DeskRequest → Talk
+abbrev pub starved : List DeskRequest → Talk
 starved [] = []
 starved (request ∷ requests) = exchanged request NoMemory ∷ starved requests
 
@@ -141,39 +140,19 @@ module _ (p : Problem) (requests : List DeskRequest) (i : ℕ) (desk desk' : Des
 pub all_served : (p : Problem) (requests : List DeskRequest) (i : ℕ) (desk : DeskState) (old new : Option (List ℕ)) → length requests ≤ i → (so_far : AreServedTo p requests i desk old new) → IsTalkOf p requests so_far.talk
 all_served p requests i desk old new end so_far = talk_after p requests so_far.talk desk (so_far.are ∙ take_all i requests end) so_far.after
 
--- the last line behind the replies
-pub count_behind : {T : Type 0} (r : Result T StoreFault) (p : Problem) (requests : List DeskRequest) (old mid new : SinkState) → ArePut {T = Unit {0}} p requests (Ok tt) old mid
-    → LeavesPiece r (served_line (length requests)) mid new → IsServedOut p requests r old new
-count_behind r p requests old mid new talk put = (
-  flat_map reply_line talk.0 ++ served_line (length requests),
-  record { talk = talk.0; is = talk.1.0; put = refl },
-  piece_after r (flat_map reply_line talk.0) (served_line (length requests)) old mid new talk.1.1.ok talk.1.1.cause put,
-)
+-- a fact of a refusal
+pub on_err : {T E : Type 0} (r : Result T E) (Fact : Type 0) → Fact → OnErr r Fact
+on_err (Ok value) Fact fact = tt
+on_err (Err e) Fact fact = fact
 
--- or a first part of the replies alone
-pub cut_before : {T : Type 0} (r : Result T StoreFault) (e : StoreFault) (p : Problem) (requests : List DeskRequest) (old new : SinkState) → r ≡ Err e → ArePut {T = T} p requests (Err e) old new → IsServedOut p requests r old new
-cut_before r e p requests old new is talk =
-    subst (λ r. IsServedOut p requests r old new) (sym is) (
-      flat_map reply_line talk.0 ++ served_line (length requests),
-      record { talk = talk.0; is = talk.1.0; put = refl },
-      record {
-        ok = tt;
-        err = GrownInPart-longer old.bytes new.bytes (flat_map reply_line talk.0) (served_line (length requests)) talk.1.1.err;
-        cause = talk.1.1.cause;
-        later = talk.1.1.later;
-      },
-    )
+-- the replies of a talk, and the last line behind them
+abbrev pub text_of : Talk → List DeskRequest → List ℕ
+text_of talk requests = flat_map reply_line talk ++ served_line (length requests)
 
--- or nothing, where there was no memory for a desk
-pub none_put : {T : Type 0} (r : Result T StoreFault) (p : Problem) (requests : List DeskRequest) (sink : SinkState) → r ≡ Err fault.NoMemory → IsServedOut p requests r sink sink
-none_put r p requests sink is =
-    subst (λ r. IsServedOut p requests r sink sink) (sym is) (
-      flat_map reply_line (starved requests) ++ served_line (length requests),
-      record { talk = starved requests; is = none_reached p requests; put = refl },
-      record {
-        ok = tt;
-        err = GrownInPart-kept sink.bytes sink.bytes (flat_map reply_line (starved requests) ++ served_line (length requests)) refl;
-        cause = refl;
-        later = omega arith;
-      },
-    )
+pub served_by : (p : Problem) (requests : List DeskRequest) (talk : Talk) → IsTalkOf p requests talk → IsServed p requests (text_of talk requests)
+served_by p requests talk is = record { talk = talk; is = is; put = refl }
+
+pub count_behind : {T : Type 0} (r : Result T StoreFault) (p : Problem) (requests : List DeskRequest) (talk : Talk) (old mid new : SinkState) → IsTalkOf p requests talk
+    → mid.bytes ≡ added old.bytes (flat_map reply_line talk) → mid.faults ≡ old.faults → LeavesPiece r (served_line (length requests)) mid new → IsServedOut p requests r old new
+count_behind r p requests talk old mid new is put same count =
+    (text_of talk requests, (served_by p requests talk is, piece_after r (flat_map reply_line talk) (served_line (length requests)) old mid new put same count))

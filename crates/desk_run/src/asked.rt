@@ -15,19 +15,10 @@ use run_ends::{Status, TEXT_LIMIT, problem_under, read_front};
 use std::alloc::Global;
 
 /// A problem, and the requests to its desk.
+#[derive(Drop)]
 pub(crate) struct Asked {
     pub(crate) problem: Problem,
     pub(crate) requests: Vec<DeskRequest>,
-}
-
-// Written out, so that letting one go is a call.
-impl Drop for Asked {
-    fn drop(self) {
-        let Asked {
-            problem: _,
-            requests: _,
-        } = self;
-    }
 }
 
 // How a run ends that has no problem.
