@@ -1,5 +1,5 @@
 -- What is asked, or why a run ends without it.
-use Rattle.std.proofs.Common.{◌≡◌, ℕ, ◌<◌, ◌≤◌, Bool, true, false, List, [], Option, None, Some, Result, Ok, Err, IfOk, IfErr, length, take, refl, sym, ap, subst, ◌∙◌, inl, inr, ⊎_elim, arith, length-take, take_all}
+use Rattle.std.proofs.Common.{◌≡◌, ℕ, ◌<◌, ◌≤◌, Bool, true, false, List, [], Option, None, Some, Ok, Err, length, take, refl, sym, ap, subst, ◌∙◌, inl, inr, ⊎_elim, arith, length-take, take_all}
 use Rattle.std.specs.Prelude.{nat_lt, IfSome}
 use Rattle.std.proofs.lemmas.Bool.{ltb-true, lt-ltb, ltb-false}
 use Rattle.outer_store.specs.Contents.{Contents}
@@ -7,20 +7,18 @@ use Rattle.outer_store.specs.States.{StoreState, IsQuiet}
 use Rattle.world_model.specs.Problem.{Problem}
 use Rattle.cleantax_text.specs.declared.TextKind.{TextKind}
 use Rattle.cert_reader.specs.Bytes.{MayHold, ForSome}
-use Rattle.desk_script.specs.declared.requests.DeskRequest.{DeskRequest}
-use Rattle.desk_script.specs.declared.ScriptKind.{ScriptKind}
 use Rattle.desk_script.specs.Script.{Outcome, script_result}
 use Rattle.run_ends.specs.declared.Status.{Status}
 use Rattle.run_ends.specs.declared.Status.TheVariants as status
 use Rattle.run_ends.specs.Reads.{AreFront, problem_in, ComesOf, IsWithout}
 use Rattle.run_ends.specs.Runs.{Answers, IsEarlyEnd}
-use Rattle.run_ends.proofs.TextLemmas.{SaysText, says_problem, without_text}
+use Rattle.run_ends.proofs.TextLemmas.{says_problem, without_text}
 use Rattle.desk_run.specs.declared.DeskArgs.{DeskArgs}
 use Rattle.desk_run.specs.declared.DeskStatus.{DeskStatus}
-use Rattle.desk_run.specs.declared.DeskStatus.TheVariants.{RefusedText, ReadFault, RefusedScript, NoMemory}
+use Rattle.desk_run.specs.declared.DeskStatus.TheVariants.{RefusedText, RefusedScript}
 use Rattle.desk_run.specs.Ends.{desk_status_of, desk_end_line}
 use Rattle.desk_run.specs.Answering.{IsOutcome, IsAnswerBy, IsDeskAnswer, desk_names}
-use Rattle.desk_run.specs.Steps.{IsEarlyDeskEnd, IsProblemOf, AreRequestsOf, IsAsked, IsUnread, IsRefusedScript, IsScriptEnd, IsWithoutScript}
+use Rattle.desk_run.specs.Steps.{IsEarlyDeskEnd, IsProblemOf, IsScriptEnd, IsWithoutScript}
 
 -- a problem that comes of its name is one that there may be
 pub problem_found : (args : DeskArgs) (held : Contents) (name : List ℕ) (p : Problem) → name ≡ args.input → ComesOf held name (problem_in args.switches) (Ok p) → IsProblemOf args held p

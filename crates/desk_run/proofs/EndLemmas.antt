@@ -1,10 +1,9 @@
 -- How a run of the desk ends, by its parts.
-use Rattle.std.proofs.Common.{◌≡◌, ℕ, List, [], Option, Result, Ok, Err, refl, sym, subst, ◌∙◌, inl, inr, ⊎_elim}
+use Rattle.std.proofs.Common.{◌≡◌, ℕ, List, [], Option, Ok, Err, refl, sym, subst, ◌∙◌, inl, inr, ⊎_elim}
 use Rattle.outer_store.specs.Bytes.{GrownInPart, added}
 use Rattle.outer_store.specs.Contents.{Contents}
 use Rattle.outer_store.specs.Faults.{Rose}
 use Rattle.outer_store.specs.States.{StoreState, SinkState, IsQuiet}
-use Rattle.outer_store.specs.declared.fault.StoreFault.{StoreFault}
 use Rattle.outer_store.specs.declared.fault.StoreFault.TheVariants as fault
 use Rattle.outer_store.proofs.BytesLemmas.{GrownInPart-kept}
 use Rattle.world_model.specs.Problem.{Problem}

@@ -50,11 +50,7 @@ fn problem_of<S: Store>(
 }
 
 // The bytes under a name: as many as a script may have, and one more.
-fn script_bytes<S: Store>(
-    alloc: Global,
-    store: &mut S,
-    name: &str,
-) -> Result<Vec<u8>, DeskStatus>
+fn script_bytes<S: Store>(alloc: Global, store: &mut S, name: &str) -> Result<Vec<u8>, DeskStatus>
     ensures front { IfOk result (λ bytes. AreFront (S.state store.old).held name.now bytes.items) }
     ensures quiet { OnOk result (IsQuiet (S.state store.old) (S.state store.new)) }
     ensures ended { IfErr result (λ status. IsUnread name.now status (S.state store.old) (S.state store.new)) }

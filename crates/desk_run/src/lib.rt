@@ -31,18 +31,12 @@ pub struct DeskArgs {
 pub enum DeskStatus {
     /// Each request has its reply.
     Done,
-    RefusedText {
-        line: u32,
-        kind: TextKind,
-    },
+    RefusedText { line: u32, kind: TextKind },
     Usage(UsageKind),
     ReadFault,
     WriteFault,
     /// The script asks for nothing, from this line on.
-    RefusedScript {
-        line: u32,
-        kind: ScriptKind,
-    },
+    RefusedScript { line: u32, kind: ScriptKind },
     NoMemory,
 }
 

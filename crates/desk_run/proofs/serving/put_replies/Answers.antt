@@ -29,17 +29,19 @@ returns-in_err-put_reply g c =
     let request = c.request-item.result in
     let reply = c.handle-reply.result in
     let so_far = c.requests.invariant.served in
-    let talk = rest_talk p requests i desk desk' old mid so_far request reply (omega arith) c.request-item.is c.handle-reply.ensures in
-    (talk, (
-      rest_talk_is p requests i desk desk' old mid so_far request reply (omega arith) c.request-item.is c.handle-reply.ensures,
-      record {
-        ok = search rules;
-        err = on_err c.from_residual.result (GrownInPart old new (flat_map reply_line talk))
-            (part_put p requests i desk desk' old mid so_far request reply (omega arith) c.request-item.is c.handle-reply.ensures new c.in_err-put_reply.ensures.err);
-        cause = search rules;
-        later = search rules;
-      },
-    ))
+    let talk = rest_talk p requests i desk desk' old mid so_far request reply (omega arith) c.request-item.is c.handle-reply.ensures in (
+      talk,
+      (
+        rest_talk_is p requests i desk desk' old mid so_far request reply (omega arith) c.request-item.is c.handle-reply.ensures,
+        record {
+          ok = search rules;
+          err = on_err c.from_residual.result (GrownInPart old new (flat_map reply_line talk))
+              (part_put p requests i desk desk' old mid so_far request reply (omega arith) c.request-item.is c.handle-reply.ensures new c.in_err-put_reply.ensures.err);
+          cause = search rules;
+          later = search rules;
+        },
+      ),
+    )
 
 pub requests-preserved : goal.requests-preserved
 requests-preserved g c = record {
@@ -50,12 +52,15 @@ requests-preserved g c = record {
 }
 
 pub returns : goal.returns
-returns g c = (c.requests.invariant.served.talk, (
-  all_served c.args.desk.now.problem c.args.requests.now c.requests.request-index c.requests.desk (g.W.Sink.state c.args.out.now).bytes (g.W.Sink.state c.requests.out).bytes (omega arith) c.requests.invariant.served,
-  record {
-    ok = c.requests.invariant.served.put;
-    err = search rules;
-    cause = search rules;
-    later = search rules;
-  },
-))
+returns g c = (
+  c.requests.invariant.served.talk,
+  (
+    all_served c.args.desk.now.problem c.args.requests.now c.requests.request-index c.requests.desk (g.W.Sink.state c.args.out.now).bytes (g.W.Sink.state c.requests.out).bytes (omega arith) c.requests.invariant.served,
+    record {
+      ok = c.requests.invariant.served.put;
+      err = search rules;
+      cause = search rules;
+      later = search rules;
+    },
+  ),
+)
