@@ -1,0 +1,3 @@
+pub mod TalkLemmas
+pub mod EndLemmas
+pub mod AskLemmas

@@ -1,0 +1,58 @@
+//! A script is served: a problem and a script for its desk are read, and the replies are put.
+#![tactic(auto)]
+
+ghost use Rattle.std.specs.Prelude.{◌≡◌};
+ghost use Rattle.desk_run.specs.Ends.{desk_code_of};
+
+mod asked;
+mod ends;
+mod replies;
+mod running;
+mod serving;
+
+use cleantax_text::TextKind;
+use command_line::{UsageKind, Word};
+use desk_script::ScriptKind;
+pub use ends::put_desk_end;
+pub use running::run_desk;
+use world_model::Switches;
+
+/// What the desk is given: the requests in one file are asked of the desk of the problem in another.
+#[derive(Drop)]
+pub struct DeskArgs {
+    pub input: Word,
+    /// The file of the script.
+    pub script: Word,
+    pub switches: Switches,
+}
+
+/// How a run of the desk ended.
+#[derive(Clone, Copy)]
+pub enum DeskStatus {
+    /// Each request has its reply.
+    Done,
+    RefusedText { line: u32, kind: TextKind },
+    Usage(UsageKind),
+    ReadFault,
+    WriteFault,
+    /// The script asks for nothing, from this line on.
+    RefusedScript { line: u32, kind: ScriptKind },
+    NoMemory,
+}
+
+impl DeskStatus {
+    /// The exit code.
+    pub fn code(&self) -> u8
+        ensures { result ≡ desk_code_of self.now }
+    {
+        match self {
+            DeskStatus::Done => 0,
+            DeskStatus::RefusedText { .. } => 1,
+            DeskStatus::Usage(_) => 2,
+            DeskStatus::ReadFault => 3,
+            DeskStatus::WriteFault => 4,
+            DeskStatus::RefusedScript { .. } => 7,
+            DeskStatus::NoMemory => 9,
+        }
+    }
+}
