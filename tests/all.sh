@@ -59,9 +59,11 @@ part "refused, each 9th allocation" python3 refused.py "$program" --every 9
 part "certificate_bytes" python3 certificate_bytes.py "$program"
 part "hostile, small" python3 hostile.py "$program" --quick
 part "revisions" python3 revisions.py "$program"
+part "killed" python3 killed.py "$program" --count 24
 part "cluster" python3 cluster.py "$program"
 part "differential, 500 cases" python3 differential.py --program "$program"
 if [ -z "$quick" ]; then
+  part "killed at 200 moments" python3 killed.py "$program" --count 200 --seed 2
   part "refused" python3 refused.py "$program"
   part "hostile" python3 hostile.py "$program"
   part "differential, 5,000 other cases" python3 differential.py --count 5000 --seed 2 --program "$program"
