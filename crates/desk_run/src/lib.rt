@@ -35,7 +35,7 @@ pub enum DeskStatus {
     Usage(UsageKind),
     ReadFault,
     WriteFault,
-    /// The script asks for nothing, from this line on.
+    /// The first fault of the script, with its line.
     RefusedScript { line: u32, kind: ScriptKind },
     NoMemory,
 }
