@@ -20,11 +20,6 @@ use Rattle.desk_core.proofs.AloneLemmas.{by_reply}
 pub same_pairs : (q p : Problem) → SameShape q p → pair_count q ≡ pair_count p
 same_pairs q p same = ap pair_count same
 
--- and one asker fits them
-pub fits_other : (q p : Problem) (asker : Option AskerState) → SameShape q p → FitsAsker p asker → FitsAsker q asker
-fits_other q p None same fits = tt
-fits_other q p (Some asker) same fits = fits ∙ sym same
-
 starved_cases : (reply : Reply) → (reply ≡ NoMemory) ⊎ (reply ≢ NoMemory)
 starved_cases NoMemory = inl refl
 starved_cases Opened = inr (λ e. cc)

@@ -58,13 +58,6 @@ table_next p old new t same passed at told = comes_same (IsLeftAt p old.at old.t
     first : Comes (IsLeftAt p new.at []) (IsLeftAt p new.at new.told) t
     first = subst (λ o. Comes (IsLeftAt p o []) (IsLeftAt p o new.told) t) (sym stands) (subst (λ ts. Comes (IsLeftAt p (Some t) []) (IsLeftAt p (Some t) ts) t) (sym told) (told_comes p t world))
 
--- or has passed all worlds
-pub table_over : (p : Problem) (old new : TablesState) → old.problem ≡ p → PassedTold old new → new.at ≡ None → IsNext p (ByTable old) (ByTable new) None
-table_over p old new same passed end = (
-  none_left p old.at old.told (subst (λ o. Lists p old.at o old.told) end (passed_for p old new same passed)),
-  λ t left. subst (λ o. IsFrom o t) end left.from,
-)
-
 -- a search that passed a world gives it
 pub search_next : (p : Problem) (old new : SearchState) (left : Option ℕ) (t : List Rel) → old.problem ≡ p → Came old new None left (t ∷ []) → IsNext p (BySearch old) (BySearch new) (Some t)
 search_next p old new left t same came = passed_comes p old.at new.at t (came_lists p old new None left (t ∷ []) same came)
