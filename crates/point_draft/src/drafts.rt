@@ -270,6 +270,13 @@ impl Drafts {
         }
     }
 
+    /// Forgets the problem and its path. The points that were noted stay, and none of them is struck out.
+    pub fn forget_problem(&mut self) {
+        self.desk = None;
+        self.asked = 0;
+        self.places.free_all();
+    }
+
     /// Notes a point by its place.
     pub fn note(&mut self, place: usize, bits: &Bits) -> Result<(), AllocError> {
         self.places.add(place, bits)

@@ -74,6 +74,14 @@ impl Places {
         }
     }
 
+    // Takes back all that was struck out.
+    pub(crate) fn free_all(&mut self) {
+        for struck in &self.struck {
+            self.live.set(struck.place);
+        }
+        self.struck.clear();
+    }
+
     // The first place of a point that a concept has, and of another one as is said.
     pub(crate) fn find(&self, concept: u32, other: Option<(u32, bool)>) -> Option<usize> {
         let row = self.with.get(concept as usize)?;
