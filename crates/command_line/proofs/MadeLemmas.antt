@@ -1,16 +1,17 @@
--- What holds of each request that words make.
+-- What holds of each request that words make, and of what they ask of the desk.
 use Rattle.std.proofs.Common.{◌≡◌, ℕ, Bool, true, false, cond, ◌||◌, List, [], ◌∷◌, Option, None, Some, IfNone, IfOk, Result, Ok, Err, refl, ap, subst}
-use Rattle.std.specs.Prelude.{not, ◌&&◌, find, option_map, option_and_then, unwrap_or}
+use Rattle.std.specs.Prelude.{◌≢◌, not, ◌&&◌, find, option_map, option_and_then, unwrap_or}
 use Rattle.std.specs.List.{list_any}
 use Rattle.command_line.specs.declared.table.Command.{Command}
 use Rattle.command_line.specs.declared.table.Command.TheVariants as command
 use Rattle.command_line.specs.declared.table.Key.{Key}
-use Rattle.command_line.specs.declared.table.Key.TheVariants.{In, Cert, Token, Resume, Nodes, Worlds, Kinds, Seed, Size, Count, Until}
+use Rattle.command_line.specs.declared.table.Key.TheVariants.{In, Cert, Token, Resume, Nodes, Worlds, Kinds, Seed, Size, Count, Until, Script}
 use Rattle.command_line.specs.declared.Operand.{Operand}
 use Rattle.command_line.specs.declared.UsageKind.{UsageKind}
+use Rattle.command_line.specs.declared.request.DeskArgs.{DeskArgs}
 use Rattle.command_line.specs.declared.request.Request.{Request}
-use Rattle.command_line.specs.Table.{row_of, command_named, same_key}
-use Rattle.command_line.specs.Words.{number_of, operands_of, is_given, value_of, limit_of, is_lacking, lacks_token, has_same_name, gives_numbered, request_for, request_of}
+use Rattle.command_line.specs.Table.{row_of, desk_row, command_named, same_key}
+use Rattle.command_line.specs.Words.{number_of, operands_of, is_given, value_of, limit_of, is_lacking, lacks_token, has_same_name, gives_numbered, request_for, request_of, desk_args, desk_request_of}
 use Rattle.command_line.specs.Requests.{AreApart, IsMade}
 use Rattle.command_line.proofs.NameLemmas.{or_false, keys_apart}
 use Rattle.command_line.proofs.PartsLemmas.{parts_apart}
@@ -113,7 +114,7 @@ made_for known command.Trial operands valued lacking lacks same apart =
     let sized = size_valued known operands valued (needs_second operands Seed Size [] lacking) in
     record { even = sized.0; least = sized.1; most = sized.2 }
 
-ok_same : (a b : Request) (x y : Result Request UsageKind) → x ≡ Ok a → y ≡ Ok b → x ≡ y → a ≡ b
+ok_same : {X : Type 0} (a b : X) (x y : Result X UsageKind) → x ≡ Ok a → y ≡ Ok b → x ≡ y → a ≡ b
 ok_same a b x y p q e = cc
 
 -- the names that words give are apart, a limit has a token, kinds are names of watchers, and a size is one
@@ -133,3 +134,24 @@ made known (word ∷ words) r e =
 pub made_if : {E : Type 0} (known : List (List ℕ)) (words : List (List ℕ)) (answer : Result Request E) → IfOk answer (λ r. request_of known words ≡ Ok r) → IfOk answer (IsMade known)
 made_if known words (Ok r) e = made known words r e
 made_if known words (Err fault) e = tt
+
+-- two names that are given, and are not one
+both_given : (one other : Option (List ℕ)) → (one ≡ None → ⊥) → (other ≡ None → ⊥) → AreApart one other → unwrap_or one [] ≢ unwrap_or other []
+both_given None other there there' apart = absurd (there refl)
+both_given (Some name) None there there' apart = absurd (there' refl)
+both_given (Some name) (Some other) there there' apart = apart
+
+-- so are the problem and the script that the desk is given
+desk_made : (words : List (List ℕ)) (args : DeskArgs) → desk_request_of words ≡ Ok args → args.input ≢ args.script
+desk_made words args e =
+    let operands = and_ok (operands_of [] desk_row [] words) _ args e in
+    let lacking = fail_ok (is_lacking desk_row operands.0) _ _ args operands.2 in
+    let same = fail_ok (has_same_name operands.0) _ _ args lacking.1 in
+    let apart = both_given (value_of operands.0 In) (value_of operands.0 Script) (needs_first operands.0 In (Script ∷ []) lacking.0) (needs_second operands.0 In Script [] lacking.0)
+    (keys_apart operands.0 In Script refl refl refl same.0) in
+    subst (λ (a : DeskArgs). a.input ≢ a.script) (ok_same (desk_args operands.0) args (Ok (desk_args operands.0)) (Ok args) refl refl same.1) apart
+
+-- so of what is answered
+pub desk_made_if : {E : Type 0} (words : List (List ℕ)) (answer : Result DeskArgs E) → IfOk answer (λ args. desk_request_of words ≡ Ok args) → IfOk answer (λ args. args.input ≢ args.script)
+desk_made_if words (Ok args) e = desk_made words args e
+desk_made_if words (Err fault) e = tt

@@ -7,7 +7,7 @@ use Rattle.std.proofs.lemmas.List.{drop_more}
 use Rattle.std.proofs.lemmas.List.Folds.{list_any-append}
 use Rattle.std.proofs.lemmas.Slice.Eq.{bytes_eq-Decides}
 use Rattle.command_line.specs.declared.table.Key.{Key}
-use Rattle.command_line.specs.declared.table.Key.TheVariants.{In, Cert, Nonempty, Sibling, Coverage, Nodes, Worlds, Token, Resume, Kinds, Seed, Size, Left, Right, Set, Count, Until, Certs}
+use Rattle.command_line.specs.declared.table.Key.TheVariants.{In, Cert, Nonempty, Sibling, Coverage, Nodes, Worlds, Token, Resume, Kinds, Seed, Size, Left, Right, Set, Count, Until, Certs, Script}
 use Rattle.command_line.specs.declared.table.KeyKind.TheVariants.{FileName}
 use Rattle.command_line.specs.declared.Operand.{Operand}
 use Rattle.command_line.specs.Table.{key_name, kind_of, same_key}
@@ -21,7 +21,7 @@ names_at operands i operand h at = ap has_same_name (drop_more operands i operan
 
 -- all keys
 abbrev all_keys : List Key
-all_keys = In ∷ Cert ∷ Nonempty ∷ Sibling ∷ Coverage ∷ Nodes ∷ Worlds ∷ Token ∷ Resume ∷ Kinds ∷ Seed ∷ Size ∷ Left ∷ Right ∷ Set ∷ Count ∷ Until ∷ Certs ∷ []
+all_keys = In ∷ Cert ∷ Nonempty ∷ Sibling ∷ Coverage ∷ Nodes ∷ Worlds ∷ Token ∷ Resume ∷ Kinds ∷ Seed ∷ Size ∷ Left ∷ Right ∷ Set ∷ Count ∷ Until ∷ Certs ∷ Script ∷ []
 
 -- each is found by how it is written
 key_again : (key : Key) → find (λ other. bytes_eq (key_name key) (key_name other)) all_keys ≡ Some key
@@ -43,6 +43,7 @@ key_again Set = refl
 key_again Count = refl
 key_again Until = refl
 key_again Certs = refl
+key_again Script = refl
 
 some_key : (a b : Key) → Some a ≡ Some b → a ≡ b
 some_key a b e = cc

@@ -1,15 +1,17 @@
 -- The files of a request are those of its command's row.
 use Rattle.std.proofs.Common.{◌≡◌, ℕ, List, [], ◌∷◌, ◌++◌, Option, None, Some, false, refl, sym, ap, ◌∙◌}
-use Rattle.std.specs.Prelude.{unwrap_or}
+use Rattle.std.specs.Prelude.{not, unwrap_or}
+use Rattle.std.specs.List.{list_any}
 use Rattle.std.specs.Option.{option_to_list}
 use Rattle.std.proofs.lemmas.List.{append-nil}
 use Rattle.command_line.specs.declared.table.Command.TheVariants as command
-use Rattle.command_line.specs.declared.table.Key.TheVariants.{In, Cert, Token, Resume, Kinds, Left, Right, Set, Count, Until, Certs}
+use Rattle.command_line.specs.declared.table.Key.{Key}
+use Rattle.command_line.specs.declared.table.Key.TheVariants.{In, Cert, Token, Resume, Kinds, Left, Right, Set, Count, Until, Certs, Script}
 use Rattle.command_line.specs.declared.table.KeyKind.TheVariants.{FileName, FileNames}
 use Rattle.command_line.specs.declared.Operand.{Operand}
 use Rattle.command_line.specs.Table.{row_of}
-use Rattle.command_line.specs.Words.{names_in, value_of, is_lacking, request_for}
-use Rattle.command_line.specs.Requests.{Names, names_of, names_given, names_under, RowsNameFiles}
+use Rattle.command_line.specs.Words.{names_in, value_of, is_given, is_lacking, request_for}
+use Rattle.command_line.specs.Requests.{Names, names_of, names_given, names_under, RowsNameFiles, DeskRowNamesFiles}
 use Rattle.command_line.proofs.MadeLemmas.{needs_first, needs_second}
 
 -- what one key gives, and what two give
@@ -44,6 +46,14 @@ needed_names (Some value) given = refl
 both : (a b : Names) → a.read ≡ b.read → a.written ≡ b.written → a ≡ b
 both a b e f = λ i. record { read = e i; written = f i }
 
+-- the problem's file and another's, where both have to be given
+two_needed : (operands : List Operand) (key : Key) → list_any (λ k. not (is_given operands k)) (In ∷ key ∷ []) ≡ false
+    → unwrap_or (value_of operands In) [] ∷ unwrap_or (value_of operands key) [] ∷ [] ≡ names_given FileName (value_of operands In) ++ (names_given FileName (value_of operands key) ++ [])
+two_needed operands key lacking =
+    ap (λ (names : List (List ℕ)). names ++ unwrap_or (value_of operands key) [] ∷ []) (needed (value_of operands In) (needs_first operands In (key ∷ []) lacking))
+    ∙ ap (λ (names : List (List ℕ)). option_to_list (value_of operands In) ++ names) (needed (value_of operands key) (needs_second operands In key [] lacking))
+    ∙ two_given (value_of operands In) (value_of operands key)
+
 -- the files of a question that is answered by claims
 claims : (operands : List Operand) → is_lacking (row_of command.Mir) operands ≡ false →
     names_of (request_for command.Mir operands) ≡ record { read = names_under operands (In ∷ []); written = names_under operands (Cert ∷ []) }
@@ -53,11 +63,7 @@ pub rows : RowsNameFiles
 rows command.Align operands lacking = both _ _
     (ap (λ (names : List (List ℕ)). names ++ option_to_list (value_of operands Resume)) (needed (value_of operands In) (needs_first operands In [] lacking)) ∙ two_given (value_of operands In) (value_of operands Resume))
     (two_given (value_of operands Cert) (value_of operands Token))
-rows command.Check operands lacking = both _ _
-    (ap (λ (names : List (List ℕ)). names ++ unwrap_or (value_of operands Cert) [] ∷ []) (needed (value_of operands In) (needs_first operands In (Cert ∷ []) lacking))
-    ∙ ap (λ (names : List (List ℕ)). option_to_list (value_of operands In) ++ names) (needed (value_of operands Cert) (needs_second operands In Cert [] lacking))
-    ∙ two_given (value_of operands In) (value_of operands Cert))
-    refl
+rows command.Check operands lacking = both _ _ (two_needed operands Cert lacking) refl
 rows command.Mir operands lacking = claims operands lacking
 rows command.Conflict operands lacking = claims operands lacking
 rows command.Lattice operands lacking = claims operands lacking
@@ -74,3 +80,7 @@ rows command.Join operands lacking = both _ _
     ∙ several_given (value_of operands In) (value_of operands Certs))
     refl
 rows command.Trial operands lacking = refl
+
+-- and those of the desk
+pub desk_rows : DeskRowNamesFiles
+desk_rows operands lacking = both _ _ (two_needed operands Script lacking) refl

@@ -5,14 +5,15 @@ use Rattle.command_line.specs.declared.request.AlignArgs.{AlignArgs}
 use Rattle.command_line.specs.declared.request.PartsArgs.{PartsArgs}
 use Rattle.command_line.specs.declared.request.PartArgs.{PartArgs}
 use Rattle.command_line.specs.declared.request.TrialArgs.{TrialArgs}
+use Rattle.command_line.specs.declared.request.DeskArgs.{DeskArgs}
 use Rattle.command_line.specs.declared.request.Request.{Request}
 use Rattle.command_line.specs.declared.request.Request.TheVariants.{Align, Check, Mir, Conflict, Lattice, Explain, Report, Parts, Part, Join, Trial}
 use Rattle.command_line.specs.declared.table.Key.{Key}
 use Rattle.command_line.specs.declared.table.KeyKind.{KeyKind}
 use Rattle.command_line.specs.declared.table.Command.{Command}
 use Rattle.command_line.specs.declared.Operand.{Operand}
-use Rattle.command_line.specs.Table.{row_of, kind_of}
-use Rattle.command_line.specs.Words.{names_fault, names_by, value_of, is_lacking, request_for}
+use Rattle.command_line.specs.Table.{row_of, desk_row, kind_of}
+use Rattle.command_line.specs.Words.{names_fault, names_by, value_of, is_lacking, request_for, desk_args}
 
 -- two names, where both are given, are not one
 abbrev pub AreApart : Option (List ℕ) → Option (List ℕ) → Type 0
@@ -78,6 +79,10 @@ names_of (Part args) = record { read = args.input ∷ option_to_list args.resume
 names_of (Join args) = record { read = args.input ∷ args.certs; written = [] }
 names_of (Trial args) = record { read = []; written = [] }
 
+-- and those of the desk, which writes none
+abbrev pub desk_names : DeskArgs → Names
+desk_names args = record { read = args.input ∷ args.script ∷ []; written = [] }
+
 -- the file names that operands give under some keys
 abbrev pub names_given : KeyKind → Option (List ℕ) → List (List ℕ)
 names_given kind None = []
@@ -90,3 +95,8 @@ names_under operands keys = flat_map (λ key. names_given (kind_of key) (value_o
 abbrev pub RowsNameFiles : Type 0
 RowsNameFiles = (c : Command) (operands : List Operand) → is_lacking (row_of c) operands ≡ false →
     names_of (request_for c operands) ≡ record { read = names_under operands (row_of c).reads; written = names_under operands (row_of c).writes }
+
+-- and so does what is asked of the desk, by its row
+abbrev pub DeskRowNamesFiles : Type 0
+DeskRowNamesFiles = (operands : List Operand) → is_lacking desk_row operands ≡ false →
+    desk_names (desk_args operands) ≡ record { read = names_under operands desk_row.reads; written = names_under operands desk_row.writes }

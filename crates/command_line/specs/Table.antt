@@ -1,7 +1,7 @@
 -- The table of commands: a row for each, with its keys and which of them name files; and what each key's value is.
 use Rattle.std.specs.Prelude.{ℕ, ◌-◌, ◌^◌, Bool, List, [], ◌∷◌, find, Option, bytes_eq, codes}
 use Rattle.command_line.specs.declared.table.Key.{Key}
-use Rattle.command_line.specs.declared.table.Key.TheVariants.{In, Cert, Nonempty, Sibling, Coverage, Nodes, Worlds, Token, Resume, Kinds, Seed, Size, Left, Right, Set, Count, Until, Certs}
+use Rattle.command_line.specs.declared.table.Key.TheVariants.{In, Cert, Nonempty, Sibling, Coverage, Nodes, Worlds, Token, Resume, Kinds, Seed, Size, Left, Right, Set, Count, Until, Certs, Script}
 use Rattle.command_line.specs.declared.table.KeyKind.{KeyKind}
 use Rattle.command_line.specs.declared.table.KeyKind.TheVariants.{Switch, FileName, FileNames, ReportNames, Text, Letters, Limit, Number, EvenNumber}
 use Rattle.command_line.specs.declared.table.Command.{Command}
@@ -27,6 +27,7 @@ key_name Set = codes "set"
 key_name Count = codes "count"
 key_name Until = codes "until"
 key_name Certs = codes "certs"
+key_name Script = codes "script"
 
 -- what a key's value is
 abbrev pub kind_of : Key → KeyKind
@@ -48,6 +49,7 @@ kind_of Set = Letters
 kind_of Count = Number 1 1000
 kind_of Until = FileName
 kind_of Certs = FileNames
+kind_of Script = FileName
 
 -- whether two keys are one
 abbrev pub same_key : Key → Key → Bool
@@ -139,6 +141,16 @@ row_of command.Trial = record {
   required = Seed ∷ Size ∷ [];
   optional = [];
   reads = [];
+  writes = [];
+}
+
+-- the row of the desk, whose program has no commands: its name is the program's
+abbrev pub desk_row : Row
+desk_row = record {
+  name = codes "euler_desk";
+  required = In ∷ Script ∷ [];
+  optional = Nonempty ∷ Sibling ∷ Coverage ∷ [];
+  reads = In ∷ Script ∷ [];
   writes = [];
 }
 

@@ -8,7 +8,7 @@ use Rattle.proof_text.specs.Words.{words_of}
 use Rattle.text_words.specs.Words.{set_of_letters}
 use Rattle.world_model.specs.declared.Switches.{Switches}
 use Rattle.command_line.specs.declared.table.Key.{Key}
-use Rattle.command_line.specs.declared.table.Key.TheVariants.{In, Cert, Nonempty, Sibling, Coverage, Nodes, Worlds, Token, Resume, Kinds, Seed, Size, Left, Right, Set, Count, Until, Certs}
+use Rattle.command_line.specs.declared.table.Key.TheVariants.{In, Cert, Nonempty, Sibling, Coverage, Nodes, Worlds, Token, Resume, Kinds, Seed, Size, Left, Right, Set, Count, Until, Certs, Script}
 use Rattle.command_line.specs.declared.table.KeyKind.{KeyKind}
 use Rattle.command_line.specs.declared.table.KeyKind.TheVariants.{Switch, FileName, FileNames, ReportNames, Text, Letters, Limit, Number, EvenNumber}
 use Rattle.command_line.specs.declared.table.Command.{Command}
@@ -20,9 +20,10 @@ use Rattle.command_line.specs.declared.request.Request.{Request}
 use Rattle.command_line.specs.declared.request.Request.TheVariants.{Align, Check, Mir, Conflict, Lattice, Explain, Report, Parts, Part, Join, Trial}
 use Rattle.command_line.specs.declared.request.ClaimsArgs.{ClaimsArgs}
 use Rattle.command_line.specs.declared.request.ExplainArgs.{ExplainArgs}
+use Rattle.command_line.specs.declared.request.DeskArgs.{DeskArgs}
 use Rattle.command_line.specs.declared.WordsFault.{WordsFault}
 use Rattle.command_line.specs.declared.WordsFault.TheVariants.{Usage, NoMemory}
-use Rattle.command_line.specs.Table.{Row, row_of, command_named, key_name, kind_of, same_key}
+use Rattle.command_line.specs.Table.{Row, row_of, desk_row, command_named, key_name, kind_of, same_key}
 
 -- whether a byte is =
 abbrev pub is_equals : ℕ → Bool
@@ -298,6 +299,25 @@ request_of known (word ∷ words) =
     need (command_named word) UnknownCommand (λ c.
     and_then (operands_of known (row_of c) [] words) (λ operands.
     request_from c operands))
+
+-- what operands give the desk, whose required keys are given
+abbrev pub desk_args : List Operand → DeskArgs
+desk_args operands = record {
+  input = unwrap_or (value_of operands In) [];
+  script = unwrap_or (value_of operands Script) [];
+  switches = switches_of operands;
+}
+
+-- what operands ask of the desk, or what is wrong with them together
+abbrev pub desk_request_from : List Operand → Result DeskArgs UsageKind
+desk_request_from operands =
+    fail_if (is_lacking desk_row operands) MissingKey (
+    fail_if (has_same_name operands) SameName (
+    Ok (desk_args operands)))
+
+-- what words ask of the desk, or their first fault; it knows no reports
+abbrev pub desk_request_of : List (List ℕ) → Result DeskArgs UsageKind
+desk_request_of words = and_then (operands_of [] desk_row [] words) desk_request_from
 
 -- a fact of the fault of the words that is answered
 abbrev pub IfUsage : {X : Type 0} → Result X WordsFault → (UsageKind → Type 0) → Type 0

@@ -1,10 +1,11 @@
-//! What the words of the command line ask for.
+//! What the words of a command line ask for: those of `euler_align`, and those of `euler_desk`.
 #![tactic(auto)]
 
 ghost use Rattle.std.specs.Prelude.{◌≡◌, string_bytes};
 ghost use Rattle.command_line.specs.declared.WordsFault.TheVariants.{NoMemory};
 ghost use Rattle.command_line.specs.Words.{usage_name};
 
+mod desk_words;
 mod help;
 mod kinds;
 mod laws;
@@ -14,17 +15,18 @@ mod table;
 mod values;
 mod words;
 
-pub use help::{command_help, fault_place, key_help, usage_help};
+pub use desk_words::read_desk_words;
+pub use help::{command_help, fault_place, key_help, row_help, usage_help};
 pub use kinds::KnownNames;
 pub use laws::rows_name_files;
 pub use request::{
-    AlignArgs, CheckArgs, ClaimsArgs, ExplainArgs, JoinArgs, PartArgs, PartsArgs, ReportArgs,
-    Request, TrialArgs,
+    AlignArgs, CheckArgs, ClaimsArgs, DeskArgs, ExplainArgs, JoinArgs, PartArgs, PartsArgs,
+    ReportArgs, Request, TrialArgs,
 };
 use std::alloc::{AllocError, AllocFailed};
 use std::fmt;
 use std::marker::Model;
-pub use table::{Command, Key, KeyKind};
+pub use table::{Command, Key, KeyKind, Row, desk_row};
 use thiserror::Error;
 pub use words::read_words;
 

@@ -1,13 +1,13 @@
-//! The request of a command, by the values of its keys.
+//! The request of a command, by the values of its keys; and what they give the desk.
 ghost use Rattle.std.specs.Prelude.{◌≡◌, ◌≤◌, [], IfOk, unwrap_or};
-ghost use Rattle.command_line.specs.Words.{value_of, is_on, switches_of, names_in, seed_in, size_in, set_in, count_in, claims_args, explain_args, request_for};
+ghost use Rattle.command_line.specs.Words.{value_of, is_on, switches_of, names_in, seed_in, size_in, set_in, count_in, claims_args, explain_args, request_for, desk_args};
 ghost use Rattle.command_line.specs.declared.table.Command.TheVariants as commands;
 
 use crate::kinds::{split_names, word_of};
 use crate::words::{limit_of, value_of};
 use crate::{
-    AlignArgs, CheckArgs, ClaimsArgs, Command, ExplainArgs, JoinArgs, Key, Operand, PartArgs,
-    PartsArgs, ReportArgs, Request, TrialArgs, Word, WordList,
+    AlignArgs, CheckArgs, ClaimsArgs, Command, DeskArgs, ExplainArgs, JoinArgs, Key, Operand,
+    PartArgs, PartsArgs, ReportArgs, Request, TrialArgs, Word, WordList,
 };
 use proof_text::read_number;
 use rcc5_core::RelSet;
@@ -212,4 +212,15 @@ pub(crate) fn make_request(
             size: size_in(operands),
         })),
     }
+}
+
+/// What operands give the desk, whose required keys are given.
+pub(crate) fn desk_args(alloc: Global, operands: &[Operand]) -> Result<DeskArgs, AllocError>
+    ensures { IfOk result (λ args. args ≡ desk_args operands.now) }
+{
+    Ok(DeskArgs {
+        input: required_name(alloc, operands, Key::In)?,
+        script: required_name(alloc, operands, Key::Script)?,
+        switches: switches_of(operands),
+    })
 }

@@ -1,4 +1,4 @@
-//! What the words ask for: a command with its arguments, each by its name.
+//! What the words ask for: a command with its arguments, each by its name; and what the desk is given.
 
 use crate::{Word, WordList};
 use rcc5_core::RelSet;
@@ -98,6 +98,15 @@ pub struct JoinArgs {
 pub struct TrialArgs {
     pub seed: u64,
     pub size: u32,
+}
+
+/// What the desk is given: the requests in one file are asked of the desk of the problem in another.
+#[derive(Drop)]
+pub struct DeskArgs {
+    pub input: Word,
+    /// The file of the script.
+    pub script: Word,
+    pub switches: Switches,
 }
 
 /// A command with its arguments.

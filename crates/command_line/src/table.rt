@@ -1,6 +1,9 @@
-//! The table of commands: a row for each, with its keys and which of them name files that it reads or writes; and a row for each key.
+//! The table of commands: a row for each, with its keys and which of them name files that it reads or writes; the desk's row; and a row for
+//! each key.
 ghost use Rattle.std.specs.Prelude.{◌≡◌};
-ghost use Rattle.command_line.specs.Table.{row_of, all_commands, key_name, kind_of};
+ghost use Rattle.command_line.specs.Table.{row_of, desk_row, all_commands, key_name, kind_of};
+
+use std::marker::Model;
 
 /// A command of the command line.
 #[derive(Clone, Copy)]
@@ -39,6 +42,7 @@ pub enum Key {
     Count,
     Until,
     Certs,
+    Script,
 }
 
 /// What a key's value is.
@@ -62,6 +66,28 @@ pub enum KeyKind {
     Number { least: u64, most: u64 },
     /// An even number in a range.
     EvenNumber { least: u64, most: u64 },
+}
+
+/// A row of the table, with the keys that words may give.
+#[derive(Drop)]
+pub struct Row {
+    pub name: &'static str,
+    /// The keys that have to be given.
+    pub required: &'static [Key],
+    /// The keys that may be given besides.
+    pub optional: &'static [Key],
+    /// The keys of files that are read.
+    pub reads: &'static [Key],
+    /// The keys of files that are written.
+    pub writes: &'static [Key],
+}
+
+impl Model for Row {
+    ghost use Rattle.command_line.specs.Table.{Row};
+
+    ghost Value = { Row };
+
+    ghost view = { λ row. record { name = row.name.now; required = row.required.now; optional = row.optional.now; reads = row.reads.now; writes = row.writes.now } };
 }
 
 static COMMANDS: [Command; 11] = [
@@ -91,6 +117,8 @@ static IN_KINDS: [Key; 2] = [Key::In, Key::Kinds];
 static IN_COUNT_TOKEN: [Key; 3] = [Key::In, Key::Count, Key::Token];
 
 static IN_CERTS: [Key; 2] = [Key::In, Key::Certs];
+
+static IN_SCRIPT: [Key; 2] = [Key::In, Key::Script];
 
 static IN_RESUME: [Key; 2] = [Key::In, Key::Resume];
 
@@ -215,6 +243,32 @@ impl Command {
             | Command::Trial => &NONE,
         }
     }
+
+    /// Its row.
+    pub fn row(self) -> Row
+        ensures { result ≡ row_of self }
+    {
+        Row {
+            name: self.name(),
+            required: self.required(),
+            optional: self.optional(),
+            reads: self.reads(),
+            writes: self.writes(),
+        }
+    }
+}
+
+/// The row of the desk, whose program has no commands.
+pub fn desk_row() -> Row
+    ensures { result ≡ desk_row }
+{
+    Row {
+        name: "euler_desk",
+        required: &IN_SCRIPT,
+        optional: &SWITCHES,
+        reads: &IN_SCRIPT,
+        writes: &NONE,
+    }
 }
 
 impl Key {
@@ -241,6 +295,7 @@ impl Key {
             Key::Count => "count",
             Key::Until => "until",
             Key::Certs => "certs",
+            Key::Script => "script",
         }
     }
 
@@ -249,7 +304,8 @@ impl Key {
         ensures { result ≡ kind_of self }
     {
         match self {
-            Key::In | Key::Cert | Key::Token | Key::Resume | Key::Until => KeyKind::FileName,
+            Key::In | Key::Cert | Key::Token | Key::Resume | Key::Until | Key::Script =>
+                KeyKind::FileName,
             Key::Certs => KeyKind::FileNames,
             Key::Nonempty | Key::Sibling | Key::Coverage => KeyKind::Switch,
             Key::Nodes | Key::Worlds => KeyKind::Limit,

@@ -9,7 +9,7 @@ ghost use Rattle.command_line.specs.Requests.{IsMade};
 use crate::kinds::{KnownNames, is_among};
 use crate::make::make_request;
 use crate::values::{is_numbered, names_by, number_of, value_fault};
-use crate::{Command, Key, Operand, Request, UsageKind, Word, WordsFault};
+use crate::{Command, Key, Operand, Request, Row, UsageKind, Word, WordsFault};
 use std::alloc::{AllocError, Global};
 
 impl Command {
@@ -24,21 +24,30 @@ impl Command {
     }
 
     /// Its key of this name.
-    #[tactic(auto, using(crate::proofs::WordsLemmas::key_rules))]
     pub fn key_named(self, name: &str) -> Option<Key>
         ensures { result ≡ key_in (row_of self) name.now }
     {
-        match key_among(self.required(), name) {
+        self.row().key_named(name)
+    }
+}
+
+impl Row {
+    /// Its key of this name.
+    #[tactic(auto, using(crate::proofs::WordsLemmas::key_rules))]
+    pub fn key_named(&self, name: &str) -> Option<Key>
+        ensures { result ≡ key_in self.now name.now }
+    {
+        match key_among(self.required, name) {
             Some(key) => Some(key),
-            None => key_among(self.optional(), name),
+            None => key_among(self.optional, name),
         }
     }
 
-    // Whether a required key is missing.
-    fn is_lacking(self, operands: &[Operand]) -> bool
-        ensures { result ≡ is_lacking (row_of self) operands.now }
+    /// Whether a required key is missing.
+    pub(crate) fn is_lacking(&self, operands: &[Operand]) -> bool
+        ensures { result ≡ is_lacking self.now operands.now }
     {
-        self.required().iter().any(|key| !is_given(operands, *key))
+        self.required.iter().any(|key| !is_given(operands, *key))
     }
 }
 
@@ -130,8 +139,8 @@ fn all_file_names(alloc: Global, operands: &[Operand]) -> Result<Vec<Word>, Allo
     Ok(all)
 }
 
-// Whether two operands give one file name.
-fn has_same_name(alloc: Global, operands: &[Operand]) -> Result<bool, AllocError>
+/// Whether two operands give one file name.
+pub(crate) fn has_same_name(alloc: Global, operands: &[Operand]) -> Result<bool, AllocError>
     ensures { IfOk result (λ same. same ≡ has_same_name operands.now) }
 {
     for place in 0..operands.len() {
@@ -157,17 +166,17 @@ fn gives_numbered(operands: &[Operand]) -> bool
 fn read_operand<K: KnownNames>(
     alloc: Global,
     known: &K,
-    command: Command,
+    row: &Row,
     earlier: &[Operand],
     word: &str,
 ) -> Result<Operand, WordsFault>
-    ensures ok { IfOk result (λ operand. operand_of (K.names known.now) (row_of command) earlier.now word.now ≡ Ok operand) }
-    ensures usage { IfUsage result (λ kind. operand_of (K.names known.now) (row_of command) earlier.now word.now ≡ Err kind) }
+    ensures ok { IfOk result (λ operand. operand_of (K.names known.now) row.now earlier.now word.now ≡ Ok operand) }
+    ensures usage { IfUsage result (λ kind. operand_of (K.names known.now) row.now earlier.now word.now ≡ Err kind) }
 {
     let Some((name, value)) = cut_word(word) else {
         return Err(WordsFault::Usage(UsageKind::NotOperand));
     };
-    let Some(key) = command.key_named(name) else {
+    let Some(key) = row.key_named(name) else {
         return Err(WordsFault::Usage(UsageKind::UnknownKey));
     };
     if is_given(earlier, key) {
@@ -183,20 +192,20 @@ fn read_operand<K: KnownNames>(
     })
 }
 
-// The further words, from the left.
+/// The words that give a row's keys, from the left.
 #[tactic(auto, using(crate::proofs::WordsLemmas::operands_rules))]
-fn read_operands<K: KnownNames>(
+pub(crate) fn read_operands<K: KnownNames>(
     alloc: Global,
     known: &K,
-    command: Command,
+    row: &Row,
     words: &[String],
 ) -> Result<Vec<Operand>, WordsFault>
-    ensures ok { IfOk result (λ operands. operands_of (K.names known.now) (row_of command) [] (map string_bytes words.now) ≡ Ok operands.items) }
-    ensures usage { IfUsage result (λ kind. operands_of (K.names known.now) (row_of command) [] (map string_bytes words.now) ≡ Err kind) }
+    ensures ok { IfOk result (λ operands. operands_of (K.names known.now) row.now [] (map string_bytes words.now) ≡ Ok operands.items) }
+    ensures usage { IfUsage result (λ kind. operands_of (K.names known.now) row.now [] (map string_bytes words.now) ≡ Err kind) }
 {
     let mut operands = Vec::new(alloc);
     'further: for word in words {
-        let operand = read_operand(alloc, known, command, &operands, word.as_str())?;
+        let operand = read_operand(alloc, known, row, &operands, word.as_str())?;
         operands.push(operand)?;
     }
     Ok(operands)
@@ -211,7 +220,7 @@ fn request_from(
     ensures request { IfOk result (λ request. request_from command operands.now ≡ Ok request) }
     ensures usage { IfUsage result (λ kind. request_from command operands.now ≡ Err kind) }
 {
-    if command.is_lacking(operands) {
+    if command.row().is_lacking(operands) {
         return Err(WordsFault::Usage(UsageKind::MissingKey));
     }
     if lacks_token(operands) {
@@ -238,7 +247,7 @@ fn request_of<K: KnownNames>(
     let Some(command) = Command::named(first.as_str()) else {
         return Err(WordsFault::Usage(UsageKind::UnknownCommand));
     };
-    let operands = read_operands(alloc, known, command, further)?;
+    let operands = read_operands(alloc, known, &command.row(), further)?;
     request_from(alloc, command, &operands)
 }
 
