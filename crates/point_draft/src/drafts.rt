@@ -287,6 +287,16 @@ impl Drafts {
         self.places.strike(place, length)
     }
 
+    /// All points that two concepts have or have not, as is said, are struck out where the path is empty.
+    pub fn strike_all(&mut self, one: (u32, bool), other: (u32, bool)) -> Result<(), AllocError> {
+        self.places.strike_all(one, other, 0)
+    }
+
+    /// Whether the point at a place is not struck out.
+    pub fn is_live(&self, place: usize) -> bool {
+        self.places.is_live(place)
+    }
+
     /// The first place of a point, not struck out, that a concept has, and that the other one has or has not, as is said.
     pub fn find(&self, concept: u32, other: Option<(u32, bool)>) -> Option<usize> {
         self.places.find(concept, other)

@@ -85,8 +85,9 @@ impl Pool {
     {
         positions_narrow();
         let cursor = Cursor::new(alloc, problem)?;
-        let depths = depths_at_start(alloc, &cursor, &points)?;
-        let drafts = struck(drafts, &depths)?;
+        let mut drafts = drafts;
+        let depths = depths_at_start(alloc, &cursor, &points, &mut drafts)?;
+        strike_others(&mut drafts, &depths)?;
         let serves = no_numbers(alloc, points.len())?;
         let count = count_needs(cursor.problem());
         let waiting = all_needed(alloc, &cursor, count)?;
@@ -227,15 +228,16 @@ fn noted(alloc: Global, points: &[Bits]) -> Result<Drafts, AllocError> {
     Ok(drafts)
 }
 
-// Hints that know which points are struck out from the start.
-fn struck(drafts: Drafts, depths: &[Option<usize>]) -> Result<Drafts, AllocError> {
-    let mut drafts = drafts;
+// Strikes out what is drafted of the points that are struck out from the start.
+fn strike_others(drafts: &mut Drafts, depths: &[Option<usize>]) -> Result<(), AllocError> {
     for (place, depth) in depths.iter().enumerate() {
         if let Some(depth) = depth {
-            drafts.strike(place, *depth)?;
+            if drafts.is_live(place) {
+                drafts.strike(place, *depth)?;
+            }
         }
     }
-    Ok(drafts)
+    Ok(())
 }
 
 // So many empty lists.
