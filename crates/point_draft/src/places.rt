@@ -60,9 +60,11 @@ impl Places {
         other: (u32, bool),
         depth: usize,
     ) -> Result<(), AllocError> {
-        for at in 0..self.live.words().len() {
-            let out = self.word_of(Some(one), at) & self.word_of(Some(other), at);
-            self.strike_word(at, out & self.live.word(at), depth)?;
+        let count = self.live.words().len();
+        for at in 0..count {
+            let open = self.live.word(at);
+            let out = open & self.word_of(Some(one), at) & self.word_of(Some(other), at);
+            self.strike_word(at, out, depth)?;
         }
         Ok(())
     }
