@@ -7,7 +7,7 @@ use Rattle.point_pool.proofs.start.depths_at_start.Goals as goal
 
 pub strike_drafted-requires : goal.strike_drafted-requires
 strike_drafted-requires c =
-    subst (λ ps. All (λ pair. pair < pair_count c.args.cursor.now.problem) ps) (sym c.deref.ensures.value) 
+    subst (λ ps. All (λ pair. pair < pair_count c.args.cursor.now.problem) ps) (sym c.deref.ensures.value)
     (subst (λ ps. All (λ pair. pair < pair_count c.args.cursor.now.problem) ps) (sym c.in_ok-pairs.ensures) (empty_in_range c.args.cursor.now.problem))
 
 pub loop-bits-preserved : goal.loop-bits-preserved
