@@ -15,6 +15,7 @@ fi
 program=$(realpath -m "${1:-../crates/euler_align/out/euler_align}")
 scenes=$(realpath -m "${2:-../crates/run_scenes/out/run_scenes}")
 desk=$(realpath -m "${3:-../crates/euler_desk/out/euler_desk}")
+[ ! -x "$desk" ] || export EULER_DESK="$desk"
 for built in "$program" "$scenes"; do
   if [ ! -x "$built" ]; then
     echo "all: there is no program at $built"
@@ -48,6 +49,7 @@ part "tools/from_skos" env EULER_ALIGN="$program" python3 ../tools/test_from_sko
 part "tools: damaged tables" python3 ../tools/test_damaged.py
 part "tools/to_table" env EULER_ALIGN="$program" python3 ../tools/test_to_table.py
 part "tools/list, tools/watch" env EULER_ALIGN="$program" python3 ../tools/test_long_work.py
+part "tools/desk" python3 ../tools/test_desk.py
 part "completions" python3 completions.py "$program"
 part "messages" python3 messages.py "$program"
 part "figures" python3 figures.py
