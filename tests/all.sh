@@ -53,7 +53,7 @@ part "tools/desk" python3 ../tools/test_desk.py
 part "completions" python3 completions.py "$program"
 part "messages" python3 messages.py "$program"
 part "figures" python3 figures.py
-part "package" ./package.sh "$program"
+part "package" ./package.sh "$program" "$desk"
 part "rows" python3 rows.py "$program"
 part "faults" python3 faults.py "$scenes"
 part "json_names" python3 json_names.py --program "$program"

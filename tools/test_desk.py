@@ -274,6 +274,15 @@ class WithoutTerminal(unittest.TestCase):
         code, out, _ = self.run_desk(b"narrow new.Single < old.Wooden\nnext", "nonempty=off", "coverage=off")
         self.assertTrue(out.partition("\n")[2].startswith("narrowed: new.Single is included in old.Wooden\nworld 1\n"), out)
 
+    def test_a_reader_that_wants_no_more(self):
+        words = [sys.executable, os.path.join(HERE, "desk"), "several.txt", "--program", PROGRAM]
+        child = subprocess.Popen(words, cwd=self.folder.path, stdin=subprocess.PIPE, stdout=subprocess.PIPE, stderr=subprocess.PIPE)
+        child.stdout.close()
+        child.stdin.write(b"next\n")
+        child.stdin.close()
+        self.assertEqual((child.wait(timeout=60), child.stderr.read()), (0, b""))
+        child.stderr.close()
+
     def test_many_lines(self):
         names = " ".join(f"c{k}" for k in range(45))
         self.folder.write({"several.txt": f"taxonomy a\n(r {names})\ntaxonomy b\n(s)\n", "letters": ">" * 46 + "!" * 1035})
