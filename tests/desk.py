@@ -291,6 +291,9 @@ def main():
     parser.add_argument("--tally", action="store_true", help="tell how often each reply and last line was compared")
     parser.add_argument("program", nargs="?", default=os.path.join(HERE, "../crates/euler_desk/out/euler_desk"))
     given = parser.parse_args()
+    if not os.access(given.program, os.X_OK):
+        print(f"desk: there is no program at {given.program}")
+        return 2
     with tempfile.TemporaryDirectory() as folder:
         runner, skipped, number = DeskRunner(given.program, folder), 0, "of hostile scripts"
         try:
