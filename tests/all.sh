@@ -58,7 +58,7 @@ part "rows" python3 rows.py "$program"
 part "faults" python3 faults.py "$scenes"
 part "json_names" python3 json_names.py --program "$program"
 part "devices" python3 devices.py "$program"
-part "refused, each 9th allocation" python3 refused.py "$program" --every 9
+part "refused, each 9th allocation" python3 refused.py "$program" --every 9 --desk "$desk"
 part "certificate_bytes" python3 certificate_bytes.py "$program"
 part "hostile, small" python3 hostile.py "$program" --quick
 part "revisions" python3 revisions.py "$program"
@@ -72,7 +72,7 @@ else
 fi
 if [ -z "$quick" ]; then
   part "killed at 200 moments" python3 killed.py "$program" --count 200 --seed 2
-  part "refused" python3 refused.py "$program"
+  part "refused" python3 refused.py "$program" --desk "$desk"
   part "hostile" python3 hostile.py "$program"
   part "differential, 5,000 other cases" python3 differential.py --count 5000 --seed 2 --program "$program"
   [ ! -x "$desk" ] || part "desk, 2,000 other cases" python3 desk.py --cases 2000 --seed 2 "$desk"
