@@ -57,7 +57,7 @@ part "package" ./package.sh "$program" "$desk"
 part "rows" python3 rows.py "$program"
 part "faults" python3 faults.py "$scenes"
 part "json_names" python3 json_names.py --program "$program"
-part "devices" python3 devices.py "$program"
+part "devices" python3 devices.py "$program" --desk "$desk"
 part "refused, each 9th allocation" python3 refused.py "$program" --every 9 --desk "$desk"
 part "certificate_bytes" python3 certificate_bytes.py "$program"
 part "hostile, small" python3 hostile.py "$program" --quick
