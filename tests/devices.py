@@ -3,15 +3,16 @@
 
     tests/devices.py [PROGRAM] [--memory-only | --no-memory] [--verbose] [--desk DESK]
 
-For each command, and for the desk, each file that it reads or writes, and standard output: an endless device, a full one, a folder, a file or a folder
-without permission, an absent name, a name in an absent folder, a closed standard output, a pipe whose reader left, a file that grows; and
-for each file that it writes another name of one that it reads (`./`, a path, a link, a hard link): that file keeps its bytes, and both
-words are told. Tokens of parts, which have a number behind the word that is given, are links to such devices and files.
+For each command, and for the desk, each file that it reads or writes, and standard output: an endless device, a full one, a folder, a file
+or a folder without permission, an absent name, a name in an absent folder, a closed standard output, a pipe whose reader left, a file that
+grows; and for each file that it writes another name of one that it reads (`./`, a path, a link, a hard link): that file keeps its bytes,
+and both words are told. Tokens of parts, which have a number behind the word that is given, are links to such devices and files.
 Each try looks at the exit code; at standard output, which is the right one, or a first part of it and then the last line of the fault; at
-what is in the folder, where nothing may change but the files that the command writes, and these hold a first part of what is right, or
-what they held; and at standard error, which says something where the fault is one of the words or of a text. Then each command runs under
-`ulimit -v` from small to ample: it answers rightly, or ends with 9 and `no memory`; the desk may also tell so of a request, and go on. A run counts as the program's where the system's
-loader handed it control (glibc's LD_DEBUG says so); what fails before that is not the program's. It ends with status 1 if a try failed.
+what is in the folder, where nothing may change but the files that the command writes, and these hold a first part of what is right, or what
+they held; and at standard error, which says something where the fault is one of the words or of a text. Then each command runs under
+`ulimit -v` from small to ample: it answers rightly, or ends with 9 and `no memory`; the desk may also tell so of a request, and go on. A
+run counts as the program's where the system's loader handed it control (glibc's LD_DEBUG says so); what fails before that is not the
+program's. It ends with status 1 if a try failed.
 The desk's script comes from pipes too. Where the desk isn't built, it is left out.
 """
 
