@@ -51,7 +51,7 @@ part "tools/to_table" env EULER_ALIGN="$program" python3 ../tools/test_to_table.
 part "tools/list, tools/watch" env EULER_ALIGN="$program" python3 ../tools/test_long_work.py
 part "tools/desk" python3 ../tools/test_desk.py
 part "completions" python3 completions.py "$program"
-part "messages" python3 messages.py "$program"
+part "messages" python3 messages.py "$program" "$desk"
 part "figures" python3 figures.py
 part "package" ./package.sh "$program" "$desk"
 part "rows" python3 rows.py "$program"
