@@ -151,6 +151,17 @@ FAILING_CALLS = [
     (ALONE, {}, "align in=p nodes=3"),
 ]
 
+# the same at the desk
+DESK_CALLS = [
+    (PARTINGS, {"s": "1 open\n2 open\n1 next\n2 keep 0\n2 narrow 2.D 1.A =\n1 next\n2 next\n1 open\n3 next\n1 close\n"}, "in=p script=s"),
+    (SPLIT, {"s": "16 open\n\n16 next\n16 narrow 1.A 3.C x\n16 next\n16 next\n1 keep 000\n16 keep 110\n16 next\n"}, "coverage=off script=s in=p"),
+    (ALONE, {"s": ""}, "in=p script=s"),
+    (ALONE, {"s": "1 open\n" + "\n" * 4096 + "1 next\n"}, "in=p script=s"),
+    (ALONE, {"s": "1 open\n17 open\n"}, "in=p script=s"),
+    (ALONE + "articulation\n[1.A equals 2.C]\n", {"s": "1 open\n"}, "in=p script=s"),
+    (ALONE, {}, "in=p"),
+]
+
 # runs whose allocations are refused, each in its turn
 REFUSED_MEMORY = [
     (PARTINGS, {}, "align in=p"),
