@@ -194,14 +194,17 @@ REFUSED_MEMORY = [
     (ALONE, {}, "align in=p nodes=0"),
 ]
 
-# at the desk: problems with their scripts. The second has too many points for a table, so its worlds are found by questions
+# at the desk: problems with their scripts, in which nearly each request shows in later replies. The last problem has too many points for a
+# table, so its worlds are found by questions
+CROSSING = "taxonomy 1\n(A)\n(B)\ntaxonomy 2\n(C)\narticulation\n[1.A {equals includes} 2.C]\n[1.B overlaps 2.C]\n"
 MANY_POINTS = "".join(f"taxonomy {t}\n" + "".join(f"({c}{k})\n" for k in range(9)) for t, c in ((1, "A"), (2, "B"))) + "articulation\n[1.A0 overlaps 2.B0]\n"
 DESK_REFUSED = [
     (
-        PARTINGS,
-        "1 open\n2 open\n1 next\n2 keep 0\n2 narrow 1.A 2.D =\n1 next\n2 next\n1 open\n3 next\n1 narrow 2.E 1.B >x\n1 next\n2 next\n1 keep 0\n"
-        "1 next\n1 close\n1 open\n1 next\n1 narrow 1.B 2.E !\n1 next\n1 narrow 1.B 2.E =\n1 next\n",
+        CROSSING,
+        "1 open\n2 open\n1 next\n2 next\n1 next\n2 keep 01\n2 next\n1 next\n2 next\n2 narrow 2.C 1.A <!\n2 next\n1 open\n3 next\n2 next\n"
+        "1 narrow 1.A 1.B <x\n1 next\n1 next\n2 keep 10\n2 next\n2 next\n1 close\n1 next\n1 open\n1 next\n1 next\n2 narrow 1.A 2.C <\n2 next\n",
     ),
+    (PARTINGS, "1 open\n1 next\n1 next\n2 open\n2 narrow 1.B 2.E <!\n2 next\n1 next\n2 next\n1 narrow 2.E 1.B >x\n1 next\n2 close\n"),
     (MANY_POINTS, "1 open\n1 next\n1 next\n"),
     (MANY_POINTS, "1 open\n2 open\n2 keep 0\n1 next\n2 next\n1 next\n2 next\n1 narrow 2.B0 1.A0 x\n2 close\n"),
 ]
