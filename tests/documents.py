@@ -28,7 +28,7 @@ from commands import NONE, ROWS
 
 ROOT = os.path.join(os.path.dirname(os.path.abspath(__file__)), "..")
 SHOWN = ["README.md", "docs/GUIDE.md", "examples/README.md"]
-NAMING = ["docs/PROOF.md", "docs/DEFINITIONS.md", "docs/CONTRACTS.md"]
+NAMING = ["docs/PROOF.md", "docs/DEFINITIONS.md"]
 MARK = "\x01"
 
 
@@ -189,7 +189,7 @@ def layers():
     for line in lines_of("docs/CODE.md"):
         if line.startswith("## "):
             current = line[3:].replace("The ", "").split()[0].lower()
-        elif line.startswith("| `") and current:
+        elif line.startswith("| [`") and current:
             out.setdefault(current, []).extend(re.findall(r"`(\w+)`", line.split("|")[1]))
     return out
 
