@@ -9,7 +9,7 @@ use Rattle.command_line.specs.declared.table.Key.{Key}
 use Rattle.command_line.specs.declared.table.Key.TheVariants.{In, Cert, Token, Resume, Kinds, Left, Right, Set, Count, Until, Certs, Script}
 use Rattle.command_line.specs.declared.table.KeyKind.TheVariants.{FileName, FileNames}
 use Rattle.command_line.specs.declared.Operand.{Operand}
-use Rattle.command_line.specs.Table.{row_of, desk_row}
+use Rattle.command_line.specs.Table.{row_of}
 use Rattle.command_line.specs.Words.{names_in, value_of, is_given, is_lacking, request_for}
 use Rattle.command_line.specs.Requests.{Names, names_of, names_given, names_under, RowsNameFiles, DeskRowNamesFiles}
 use Rattle.command_line.proofs.MadeLemmas.{needs_first, needs_second}

@@ -1,8 +1,8 @@
 //! What people are told of the words that there are, and of the place of a fault.
 ghost use Rattle.std.specs.Prelude.{◌≡◌, ◌++◌, flat_map, string_bytes, IfOk, OnOk};
-ghost use Rattle.command_line.specs.Help.{value_form, key_form, required_form, optional_form, command_form, usage_help, line_form, fault_place};
+ghost use Rattle.command_line.specs.Help.{value_form, key_form, required_form, optional_form, row_form, command_form, usage_help, line_form, fault_place};
 
-use crate::{Command, Key, KeyKind};
+use crate::{Command, Key, KeyKind, Row};
 use std::alloc::{AllocError, Global};
 
 impl KeyKind {
@@ -52,13 +52,13 @@ fn put_optional(out: &mut String, keys: &[Key]) -> Result<(), AllocError>
     Ok(())
 }
 
-fn put_command(out: &mut String, command: Command) -> Result<(), AllocError>
-    ensures { OnOk result (string_bytes out.new ≡ string_bytes out.old ++ command_form command) }
+fn put_row(out: &mut String, row: &Row) -> Result<(), AllocError>
+    ensures { OnOk result (string_bytes out.new ≡ string_bytes out.old ++ row_form row.now) }
 {
     out.push_str("  ")?;
-    out.push_str(command.name())?;
-    put_required(out, command.required())?;
-    put_optional(out, command.optional())?;
+    out.push_str(row.name)?;
+    put_required(out, row.required)?;
+    put_optional(out, row.optional)?;
     out.push_str("\n")
 }
 
@@ -66,7 +66,7 @@ fn put_commands(out: &mut String, commands: &[Command]) -> Result<(), AllocError
     ensures { OnOk result (string_bytes out.new ≡ string_bytes out.old ++ flat_map command_form commands.now) }
 {
     'commands: for command in commands {
-        put_command(out, *command)?;
+        put_row(out, &command.row())?;
     }
     Ok(())
 }
@@ -80,13 +80,20 @@ pub fn key_help(alloc: Global, key: Key) -> Result<String, AllocError>
     Ok(help)
 }
 
+/// The line of a row with its keys.
+pub fn row_help(alloc: Global, row: &Row) -> Result<String, AllocError>
+    ensures { IfOk result (λ help. string_bytes help ≡ row_form row.now) }
+{
+    let mut help = String::new(alloc);
+    put_row(&mut help, row)?;
+    Ok(help)
+}
+
 /// The line of a command with its keys, by the table that `read_words` goes by.
 pub fn command_help(alloc: Global, command: Command) -> Result<String, AllocError>
     ensures { IfOk result (λ help. string_bytes help ≡ command_form command) }
 {
-    let mut help = String::new(alloc);
-    put_command(&mut help, command)?;
-    Ok(help)
+    row_help(alloc, &command.row())
 }
 
 /// The commands with their keys, a line each.

@@ -16,7 +16,7 @@ mod values;
 mod words;
 
 pub use desk_words::read_desk_words;
-pub use help::{command_help, fault_place, key_help, usage_help};
+pub use help::{command_help, fault_place, key_help, row_help, usage_help};
 pub use kinds::KnownNames;
 pub use laws::rows_name_files;
 pub use request::{

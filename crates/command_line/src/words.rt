@@ -32,9 +32,9 @@ impl Command {
 }
 
 impl Row {
-    // Its key of this name.
+    /// Its key of this name.
     #[tactic(auto, using(crate::proofs::WordsLemmas::key_rules))]
-    fn key_named(&self, name: &str) -> Option<Key>
+    pub fn key_named(&self, name: &str) -> Option<Key>
         ensures { result ≡ key_in self.now name.now }
     {
         match key_among(self.required, name) {

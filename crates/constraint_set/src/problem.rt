@@ -1,5 +1,5 @@
 //! Problems, which share what stays the same.
-ghost use Rattle.std.specs.Prelude.{◌≡◌, ◌<◌, ◌≤◌, ℕ, true, [], length, map, IfOk, IsTrue, slice_get, slice_index, sum_by};
+ghost use Rattle.std.specs.Prelude.{◌≡◌, ◌<◌, ◌≤◌, ℕ, true, [], length, map, IfOk, OnOk, OnErr, IsTrue, slice_get, slice_index, sum_by};
 ghost use Rattle.std.specs.List.{list_all};
 ghost use Rattle.rcc5_core.specs.declared.RelSet.{RelSet};
 ghost use Rattle.world_model.specs.Problem.{concept_count, owner_of, parent_of, children_of, pair_count, cross_pairs, restricted, narrowed, is_articulation};
@@ -310,6 +310,23 @@ impl Problem {
             kept: self.kept.clone()?,
             narrowed: Rc::new(alloc, narrowed)?,
         })
+    }
+
+    /// Narrows a pair besides: its relation is in the set. What no other problem shares is not made anew.
+    pub fn narrow(&mut self, alloc: Global, pair: u32, set: RelSet) -> Result<(), AllocError>
+        requires { pair < pair_count self.old }
+        ensures value { OnOk result (self.new ≡ narrowed self.old (pair_at self.old pair) set) }
+        ensures same { OnErr result (self.new ≡ self.old) }
+        ensures shape { SameShape self.new self.old }
+    {
+        let (left, right) = self.shape.pair_at(pair);
+        let more = Narrowing { left, right, set };
+        if let Some(narrowed) = Rc::get_mut(&mut self.narrowed) {
+            return narrowed.add(&self.shape, more);
+        }
+        let narrowed = self.narrowed.with(alloc, &self.shape, more)?;
+        self.narrowed = Rc::new(alloc, narrowed)?;
+        Ok(())
     }
 }
 

@@ -1,5 +1,5 @@
 //! What is said of pairs, by their numbers.
-ghost use Rattle.std.specs.Prelude.{ℕ, ◌≡◌, ◌<◌, [], ◌∷◌, ◌++◌, length, map, replicate, true, IfOk, OnOk, IsTrue};
+ghost use Rattle.std.specs.Prelude.{ℕ, ◌≡◌, ◌<◌, [], ◌∷◌, ◌++◌, length, map, replicate, true, IfOk, OnOk, OnErr, IsTrue};
 ghost use Rattle.std.specs.List.{list_all};
 ghost use Rattle.world_model.specs.Problem.{concept_count, is_articulation, is_about_pair};
 ghost use Rattle.constraint_set.specs.Sets.{mark_of, set_at, Narrows, AreSets, Says, said_by, said_if, kept_statements};
@@ -165,14 +165,16 @@ impl Sets {
     fn say(&mut self, shape: &Shape, left: u32, right: u32, set: RelSet) -> Result<(), AllocError>
         requires order { left < right }
         requires within { right < concept_count shape.now }
-        ensures { OnOk result (Says shape.now self.old self.new (record { left = left; right = right; set = set } ∷ [])) }
+        ensures says { OnOk result (Says shape.now self.old self.new (record { left = left; right = right; set = set } ∷ [])) }
+        ensures same { OnErr result (self.new ≡ self.old) }
     {
         self.meet(shape.pair_index(left, right), set)?;
         Ok(())
     }
 
     fn meet(&mut self, pair: u32, set: RelSet) -> Result<(), AllocError>
-        ensures { OnOk result (Narrows self.old self.new pair set) }
+        ensures narrows { OnOk result (Narrows self.old self.new pair set) }
+        ensures same { OnErr result (self.new ≡ self.old) }
     {
         let set = self.at(pair).meet(set);
         mark(&mut self.marks, pair)?;
@@ -251,6 +253,22 @@ impl Narrowed {
         let list = pushed(alloc, &self.list, more)?;
         let sets = Sets::of_narrowings(alloc, shape, &list)?;
         Ok(Narrowed { list, sets })
+    }
+
+    // One more narrowing.
+    pub(crate) fn add(&mut self, shape: &Shape, more: Narrowing) -> Result<(), AllocError>
+        requires { IsTrue (is_about_pair shape.now more) }
+        ensures list { OnOk result (self.new.list.items ≡ self.old.list.items ++ more ∷ []) }
+        ensures sets { OnOk result (Says shape.now self.old.sets self.new.sets (more ∷ [])) }
+        ensures same_list { OnErr result (self.new.list.items ≡ self.old.list.items) }
+        ensures same_sets { OnErr result (self.new.sets ≡ self.old.sets) }
+    {
+        self.list.push(more)?;
+        if let Err(refused) = self.sets.say(shape, more.left, more.right, more.set) {
+            let _ = self.list.pop();
+            return Err(refused);
+        }
+        Ok(())
     }
 }
 

@@ -4,8 +4,8 @@ use Rattle.constraint_set.specs.Sets.{set_at, Narrows}
 use Rattle.constraint_set.proofs.Saying.{put_narrows, more_marks}
 use Rattle.constraint_set.proofs.statements.Sets.meet.Goals as goal
 
-pub returns : goal.returns
-returns c =
+pub returns-clause-narrows : goal.returns-clause-narrows
+returns-clause-narrows c =
     let old = c.self.inside.by_pair.entries in
     let new = c.insert.new.self.entries in
     let met : c.meet-set.result ≡ both_of (set_at old c.args.pair) c.args.set = c.meet-set.ensures ∙ ap (λ set. both_of set c.args.set) (c.at.ensures ∙ ap (λ sets. set_at sets c.args.pair) (sym c.self.view_is)) in

@@ -11,4 +11,4 @@ loop-narrowing-preserved c =
     let here = c.narrowing-item.result in
     let more : take (i + 1) list ≡ take i list ++ here ∷ [] = take_more list i here c.loop-narrowing-test.true ∙ ap (λ n. take i list ++ n ∷ []) (sym c.narrowing-item.is) in
     subst (λ statements. AreSets shape statements c.say.new.self) (sym more)
-    (subst (λ n. AreSets shape (take i list ++ n ∷ []) c.say.new.self) c.narrowing.view_is (c.in_ok-say.ensures.after (take i list) c.loop-narrowing.invariant))
+    (subst (λ n. AreSets shape (take i list ++ n ∷ []) c.say.new.self) c.narrowing.view_is (c.in_ok-say.ensures.says.after (take i list) c.loop-narrowing.invariant))
