@@ -19,37 +19,38 @@ skip_part block from upto count within =
     let whole : count + m ≡ upto - from = omega (arith, within, length-take (upto - from) (drop from block)) in
     ap (λ xs. take m xs) (sym (drop-drop count from block)) ∙ sym (drop-take count m (drop from block)) ∙ ap (λ k. drop count (take k (drop from block))) whole
 
--- the bytes before the first LF have none
-before_lf : (text : List ℕ) (place : ℕ) → position (λ b. eqb b 10) text ≡ Some place → has_byte 10 (take place text) ≡ false
-before_lf text place found =
-    let first = position-Some (λ b. eqb b 10) text place 0 found in
-    list_any_none (λ b. eqb b 10) (take place text) (λ k d within.
+-- the bytes before the first of a kind are others
+pub before_first : (byte : ℕ) (text : List ℕ) (place : ℕ) → position (λ b. eqb b byte) text ≡ Some place → has_byte byte (take place text) ≡ false
+before_first byte text place found =
+    let first = position-Some (λ b. eqb b byte) text place 0 found in
+    list_any_none (λ b. eqb b byte) (take place text) (λ k d within.
     let small : k < place = omega (arith, within, length-take place text) in
-    ap (λ b. eqb b 10) (get_or_default (take place text) k d 0 within ∙ get_or-take place text k 0 small) ∙ first.2 k small)
+    ap (λ b. eqb b byte) (get_or_default (take place text) k d 0 within ∙ get_or-take place text k 0 small) ∙ first.2 k small)
 
--- and behind them stands the LF
-at_lf : (text : List ℕ) (place : ℕ) → position (λ b. eqb b 10) text ≡ Some place → text ≡ take place text ++ 10 ∷ drop (place + 1) text
-at_lf text place found =
-    let first = position-Some (λ b. eqb b 10) text place 0 found in
-    sym (take-append-drop place text) ∙ ap (λ xs. take place text ++ xs) (drop_more text place 0 first.0 ∙ ap (λ b. b ∷ drop (place + 1) text) (eqb-true (get_or text place 0) 10 first.1))
+-- and behind them it stands
+pub at_first : (byte : ℕ) (text : List ℕ) (place : ℕ) → position (λ b. eqb b byte) text ≡ Some place → text ≡ take place text ++ byte ∷ drop (place + 1) text
+at_first byte text place found =
+    let first = position-Some (λ b. eqb b byte) text place 0 found in
+    sym (take-append-drop place text)
+    ∙ ap (λ xs. take place text ++ xs) (drop_more text place 0 first.0 ∙ ap (λ b. b ∷ drop (place + 1) text) (eqb-true (get_or text place 0) byte first.1))
 
 pub moved_some : (text line new_line new : List ℕ) (place : ℕ) → position (λ b. eqb b 10) text ≡ Some place → new_line ≡ line ++ take place text → new ≡ drop (place + 1) text →
     IsMoved true text new line new_line
 moved_some text line new_line new place found is_line is_new = record {
   moved = take place text;
   grown = is_line;
-  no_lf = before_lf text place found;
-  parted = at_lf text place found ∙ ap (λ xs. take place text ++ 10 ∷ xs) (sym is_new);
+  no_lf = before_first 10 text place found;
+  parted = at_first 10 text place found ∙ ap (λ xs. take place text ++ 10 ∷ xs) (sym is_new);
   all = λ e. absurd (cc);
 }
 
 at_least : (n m : ℕ) → cond (ltb n m) (Some n) None ≡ None → m ≤ n
 at_least n m h = grind (arith, nat_tests)
 
--- bytes without an LF
-none_lf : (text : List ℕ) → position (λ b. eqb b 10) text ≡ None → has_byte 10 text ≡ false
-none_lf text found =
-    let p : ℕ → Bool = λ b. eqb b 10 in
+-- bytes of which none is found
+pub none_such : (byte : ℕ) (text : List ℕ) → position (λ b. eqb b byte) text ≡ None → has_byte byte text ≡ false
+none_such byte text found =
+    let p : ℕ → Bool = λ b. eqb b byte in
     let whole = at_least (position_or_len p text) (length text) found in
     list_any_none p text (λ k d within. fails_before_first p text k d (omega (arith, whole, within)))
 
@@ -57,7 +58,7 @@ pub moved_all : (text line new_line new : List ℕ) → position (λ b. eqb b 10
 moved_all text line new_line new found is_line is_new = record {
   moved = text;
   grown = is_line;
-  no_lf = none_lf text found;
+  no_lf = none_such 10 text found;
   parted = sym (append-nil text);
   all = λ e. is_new ∙ drop-length text;
 }
@@ -73,7 +74,7 @@ pub none_of : (bytes : List ℕ) → length bytes ≡ 0 → bytes ≡ []
 none_of [] is = refl
 none_of (byte ∷ bytes) is = absurd (omega (arith, is))
 
-clean_on : (line moved : List ℕ) → has_byte 10 line ≡ false → has_byte 10 moved ≡ false → has_byte 10 (line ++ moved) ≡ false
+pub clean_on : (line moved : List ℕ) → has_byte 10 line ≡ false → has_byte 10 moved ≡ false → has_byte 10 (line ++ moved) ≡ false
 clean_on line moved before after = grind (arith, common_steps)
 
 -- no LF is in the line that was moved on

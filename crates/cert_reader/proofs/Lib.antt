@@ -1,5 +1,8 @@
 pub mod BlockLemmas
-pub mod GatherLemmas
 pub mod GoesOnLemmas
+pub mod ReadingLemmas
+pub mod GatherLemmas
+pub mod FrontLemmas
+pub mod PassLemmas
 pub mod ReaderLemmas
 pub mod WholeLemmas

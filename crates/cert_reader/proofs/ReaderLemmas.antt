@@ -1,68 +1,20 @@
 -- What a line, or a rest with no LF, leaves to be read.
-use Rattle.std.proofs.Common.{◌≡◌, ◌≢◌, ℕ, ◌+◌, ◌-◌, ◌^◌, ◌<◌, ◌≤◌, false, cond, eqb, List, [], ◌∷◌, ◌++◌, length, length-append, Option, Some, None, IfNone, IfOk, OnOk, Result, Ok, Err, IsErrAnd, refl, sym, ap, subst, ◌∙◌, arith}
+use Rattle.std.proofs.Common.{◌≡◌, ℕ, ◌≤◌, false, List, [], ◌∷◌, ◌++◌, length, Option, Some, None, IfNone, IfOk, OnOk, Result, Ok, Err, IsErrAnd, refl, sym, ap, subst, ◌∙◌, arith}
 use Rattle.std.specs.Prelude.{⊤}
-use Rattle.std.specs.List.{onto_first, join_with_byte}
-use Rattle.std.proofs.lemmas.Bool.{lt-ltb, or_parts}
-use Rattle.std.proofs.lemmas.List.Splits.{slice_split-cons_no, join_with_byte-slice_split}
-use Rattle.proof_text.specs.Words.{words_of}
 use Rattle.proof_text.specs.Laws.{has_byte}
-use Rattle.proof_text.proofs.WordLemmas.{words_of-next, words_of-last}
 use Rattle.cert_text.specs.declared.line.CertLine.{CertLine}
 use Rattle.cert_reader.specs.declared.spot.Spot.{Spot}
 use Rattle.cert_reader.specs.declared.fault.CertTextKind.{CertTextKind}
-use Rattle.cert_reader.specs.declared.fault.CertTextKind.TheVariants.{EndsEarly, BadLine, TooLong}
 use Rattle.cert_reader.specs.declared.fault.CertTextFault.{CertTextFault}
 use Rattle.cert_reader.specs.declared.fault.CertTextFault.TheVariants.{Text, ReadFault, NoMemory}
 use Rattle.cert_text.specs.Ends.{Faulty}
-use Rattle.cert_reader.specs.Reading.{Reading, faulty, with_first, is_over, rest_fault, line_read, line_in, line_at, ending, going_on, reading_of, reading_from}
+use Rattle.cert_reader.specs.Reading.{Reading, with_first, rest_fault, line_at, ending, going_on, reading_from}
 use Rattle.cert_reader.specs.declared.gather.Gathered.{Gathered}
 use Rattle.cert_reader.specs.declared.gather.Gathered.TheVariants as gathered
 use Rattle.cert_reader.specs.Bytes.{MayHold, MayCome, ForSome, GoesOn}
 use Rattle.cert_reader.proofs.BlockLemmas.{none_of}
+use Rattle.cert_reader.proofs.ReadingLemmas.{reading_line, reading_rest}
 use Rattle.cert_reader.specs.Reader.{Reader, IsGathered, MayRead, IsToldAt, IsAnswer, ended_by}
-
--- a text has words, be it empty
-words_some : (text : List ℕ) → words_of 10 text ≢ []
-words_some text = λ e.
-    let empty : text ≡ [] = sym (join_with_byte-slice_split 10 text) ∙ ap (join_with_byte 10) e in
-    let one : words_of 10 text ≡ [] ∷ [] = ap (words_of 10) empty in
-    absurd (cc)
-
-reading-step : (spot : Spot) (bytes : List ℕ) (pieces : List (List ℕ)) → pieces ≢ [] → reading_of spot (bytes ∷ pieces) ≡ going_on spot (line_at spot bytes) (λ after. reading_of after pieces)
-reading-step spot bytes [] some = absurd (some refl)
-reading-step spot bytes (next ∷ pieces) some = refl
-
--- a line up to its LF, and what follows
-reading_line : (spot : Spot) (line rest : List ℕ) → has_byte 10 line ≡ false → reading_from spot (line ++ 10 ∷ rest) ≡ going_on spot (line_at spot line) (λ after. reading_from after rest)
-reading_line spot line rest clean = ap (reading_of spot) (words_of-next 10 line rest clean) ∙ reading-step spot line (words_of 10 rest) (words_some rest)
-
--- a rest with no LF
-reading_rest : (spot : Spot) (rest : List ℕ) → has_byte 10 rest ≡ false → reading_from spot rest ≡ ending spot (rest_fault spot rest)
-reading_rest spot rest clean = ap (reading_of spot) (words_of-last 10 rest clean)
-
--- bytes with no LF stand at the front of the first line
-glued : (front rest word : List ℕ) (words : List (List ℕ)) → has_byte 10 front ≡ false → words_of 10 rest ≡ word ∷ words → words_of 10 (front ++ rest) ≡ (front ++ word) ∷ words
-glued [] rest word words clean e = e
-glued (x ∷ front) rest word words clean e =
-    let parts = or_parts (eqb x 10) (has_byte 10 front) clean in
-    slice_split-cons_no (λ b. eqb b 10) x (front ++ rest) parts.0 ∙ ap (onto_first x) (glued front rest word words parts.1 e)
-
-long_piece : (spot : Spot) (bytes : List ℕ) (pieces : List (List ℕ)) → 2 ^ 36 < spot.place + length bytes → reading_of spot (bytes ∷ pieces) ≡ faulty spot TooLong
-unfolding rest_fault line_at
-long_piece spot bytes [] long =
-    ap (λ b. ending spot (cond b (Some TooLong) (cond (is_over spot.mode) (cond (eqb (length bytes) 0) None (Some BadLine)) (Some EndsEarly)))) (lt-ltb (2 ^ 36) (spot.place + length bytes) long)
-long_piece spot bytes (next ∷ pieces) long =
-    ap (λ b. going_on spot (cond b (Err TooLong) (line_read spot bytes (line_in spot.mode (words_of 32 bytes)))) (λ after. reading_of after (next ∷ pieces)))
-    (lt-ltb (2 ^ 36) (spot.place + (length bytes + 1)) (omega (arith, long)))
-
-long_cases : (spot : Spot) (front rest : List ℕ) (words : List (List ℕ)) → has_byte 10 front ≡ false → 2 ^ 36 < spot.place + length front → words_of 10 rest ≡ words → reading_from spot (front ++ rest) ≡ faulty spot TooLong
-long_cases spot front rest [] clean long e = absurd (words_some rest e)
-long_cases spot front rest (word ∷ words) clean long e =
-    ap (reading_of spot) (glued front rest word words clean e) ∙ long_piece spot (front ++ word) words (omega (arith, long, length-append front word))
-
--- more bytes with no LF than there is room for
-reading_long : (spot : Spot) (front rest : List ℕ) → has_byte 10 front ≡ false → 2 ^ 36 < spot.place + length front → reading_from spot (front ++ rest) ≡ faulty spot TooLong
-reading_long spot front rest clean long = long_cases spot front rest (words_of 10 rest) clean long refl
 
 -- the reading where a line was read
 line_first : (spot after : Spot) (x : CertLine) (line old rest : List ℕ) → has_byte 10 line ≡ false → old ≡ line ++ 10 ∷ rest → line_at spot line ≡ Ok (x, after) →
@@ -127,15 +79,15 @@ refused_read self new spot pending refusal last left after r is goes =
     subst (λ (new : Reader). GoesOn (MayRead self left) (MayRead (record { spot = new.spot; pending = new.pending; refusal = last }) after) (IsAnswer r)) (sym is) goes
 
 -- the answers of a reader, by what its calls ensure
-module _ (self : Reader) (spot : Spot) (pending : List ℕ) (refusal : Option CertTextFault) (left : Option (List ℕ)) (next : List ℕ) (after : Option (List ℕ)) (how : Gathered) (room : ℕ) (line : List ℕ)
-    (is : record { spot = spot; pending = pending; refusal = refusal } ≡ self) (gathers : GoesOn (MayCome pending left) (MayCome next after) (λ old new. IsGathered how room old new line)) where
+module _ (self : Reader) (spot : Spot) (pending : List ℕ) (refusal : Option CertTextFault) (left : Option (List ℕ)) (next : List ℕ) (after : Option (List ℕ)) (how : Gathered) (line : List ℕ)
+    (is : record { spot = spot; pending = pending; refusal = refusal } ≡ self) (gathers : GoesOn (MayCome pending left) (MayCome next after) (λ old new. IsGathered how spot old new line)) where
   -- what is gathered before what may be to come now
-  gathered_as : (shape : Gathered) → how ≡ shape → (rest : List ℕ) → MayCome next after rest → ForSome (MayCome pending left) (λ old. IsGathered shape room old rest line)
-  gathered_as shape is_shape rest may = subst (λ how. ForSome (MayCome pending left) (λ old. IsGathered how room old rest line)) is_shape (gathers.before rest may)
+  gathered_as : (shape : Gathered) → how ≡ shape → (rest : List ℕ) → MayCome next after rest → ForSome (MayCome pending left) (λ old. IsGathered shape spot old rest line)
+  gathered_as shape is_shape rest may = subst (λ how. ForSome (MayCome pending left) (λ old. IsGathered how spot old rest line)) is_shape (gathers.before rest may)
 
   -- an answer from the bytes that were gathered
   from_gathered : (r : Result (Option CertLine) CertTextFault) (shape : Gathered) (on : Spot) (last : Option CertTextFault) → how ≡ shape →
-      ((old rest : List ℕ) → IsGathered shape room old rest line → IsAnswer r (reading_from spot old) (reading_from on rest)) →
+      ((old rest : List ℕ) → IsGathered shape spot old rest line → IsAnswer r (reading_from spot old) (reading_from on rest)) →
       GoesOn (MayRead self left) (MayRead (record { spot = on; pending = next; refusal = last }) after) (IsAnswer r)
   from_gathered r shape on last is_shape answers =
       subst (λ (self : Reader). GoesOn (MayRead self left) (MayRead (record { spot = on; pending = next; refusal = last }) after) (IsAnswer r)) is
@@ -170,9 +122,8 @@ module _ (self : Reader) (spot : Spot) (pending : List ℕ) (refusal : Option Ce
       subst (λ answer. IsAnswer answer (reading_from spot old) (reading_from spot rest)) (sym answer_is)
       (ended_answer spot (rest_fault spot line) (reading_from spot old) (reading_from spot rest) (ap (reading_from spot) got.2 ∙ reading_rest spot line got.0)))
 
-  pub told_long : (fault : CertTextFault) → how ≡ gathered.TooLong → room ≡ 2 ^ 36 - spot.place → fault ≡ Text spot.line TooLong →
+  pub told_faulty : (fault : CertTextFault) (kind : CertTextKind) → how ≡ gathered.Faulty kind → fault ≡ Text spot.line kind →
       GoesOn (MayRead self left) (MayRead (record { spot = spot; pending = next; refusal = refusal }) after) (IsAnswer (Err fault))
-  told_long fault is_long is_room is_fault =
-      from_gathered (Err fault) gathered.TooLong spot refusal is_long (λ old rest got.
-      subst (λ fault. IsAnswer (Err fault) (reading_from spot old) (reading_from spot rest)) (sym is_fault)
-      (ap (reading_from spot) got.2.1 ∙ reading_long spot line got.2.0 got.0 (omega (arith, got.1, is_room))))
+  told_faulty fault kind is_faulty is_fault =
+      from_gathered (Err fault) (gathered.Faulty kind) spot refusal is_faulty (λ old rest got.
+      subst (λ fault. IsAnswer (Err fault) (reading_from spot old) (reading_from spot rest)) (sym is_fault) got)

@@ -1,7 +1,10 @@
 -- What a reader of a certificate answers.
 use Rattle.std.specs.Prelude.{◌≡◌, ℕ, ◌+◌, ◌^◌, ◌<◌, ◌≤◌, true, false, List, [], ◌∷◌, ◌++◌, length, Option, Some, None, Result, Ok, Err, ⊤}
+use Rattle.proof_text.specs.declared.fault.LineTextFault.TheVariants as line_fault
+use Rattle.proof_text.specs.Words.{words_of}
 use Rattle.proof_text.specs.Laws.{has_byte}
 use Rattle.cert_text.specs.declared.line.CertLine.{CertLine}
+use Rattle.cert_reader.specs.declared.mode.Mode.{Mode}
 use Rattle.cert_reader.specs.declared.spot.Spot.{Spot}
 use Rattle.cert_reader.specs.declared.gather.Gathered.{Gathered}
 use Rattle.cert_reader.specs.declared.gather.Gathered.TheVariants as gathered
@@ -10,7 +13,7 @@ use Rattle.cert_reader.specs.declared.fault.CertTextFault.{CertTextFault}
 use Rattle.cert_reader.specs.declared.fault.CertTextFault.TheVariants.{Text, ReadFault, NoMemory}
 use Rattle.cert_reader.specs.Bytes.{MayCome, ForSome}
 use Rattle.cert_text.specs.Ends.{Faulty}
-use Rattle.cert_reader.specs.Reading.{Reading, whole, with_first, reading_from}
+use Rattle.cert_reader.specs.Reading.{Reading, whole, faulty, line_in, with_first, reading_from}
 
 -- a reader: the spot of the next line, the bytes that were taken and are still to come, and its refusal, if there was one
 pub record Reader : Type 0 where
@@ -22,11 +25,16 @@ pub record Reader : Type 0 where
 abbrev pub IsSpot : Spot → Type 0
 IsSpot spot = (spot.place ≤ 2 ^ 36) × (spot.line ≤ spot.place + 1)
 
--- what was gathered of some bytes: a line up to its LF, all the rest, or more than there is room for
-abbrev pub IsGathered : Gathered → ℕ → List ℕ → List ℕ → List ℕ → Type 0
-IsGathered gathered.Line room old new line = (has_byte 10 line ≡ false) × (old ≡ line ++ 10 ∷ new)
-IsGathered gathered.Rest room old new line = (has_byte 10 line ≡ false) × (length line ≤ room) × (old ≡ line)
-IsGathered gathered.TooLong room old new line = (has_byte 10 line ≡ false) × (room < length line) × ((rest : List ℕ) × (old ≡ line ++ rest))
+-- bytes that begin no line which may stand in a mode, whatever comes behind them
+pub record BeginsNone (mode : Mode) (front : List ℕ) : Type 0 where
+  pub some : 0 < length front
+  pub bad : (more : List ℕ) → line_in mode (words_of 32 (front ++ more)) ≡ Err line_fault.BadLine
+
+-- what was gathered of some bytes at a spot: a line up to its LF, all the rest where it has room, or the fault that they are read as
+abbrev pub IsGathered : Gathered → Spot → List ℕ → List ℕ → List ℕ → Type 0
+IsGathered gathered.Line spot old new line = (has_byte 10 line ≡ false) × (old ≡ line ++ 10 ∷ new)
+IsGathered gathered.Rest spot old new line = (has_byte 10 line ≡ false) × (spot.place + length line ≤ 2 ^ 36) × (old ≡ line)
+IsGathered (gathered.Faulty kind) spot old new line = reading_from spot old ≡ faulty spot kind
 
 -- what a call answered is what reading a spot gives, unless memory ran out
 abbrev pub IsToldAt : {A : Type 0} → Spot → Result A CertTextKind → Result A CertTextFault → Type 0

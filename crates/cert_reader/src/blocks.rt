@@ -1,6 +1,6 @@
 //! The bytes of a source, taken in blocks.
 
-ghost use Rattle.std.specs.Prelude.{◌≡◌, ◌≤◌, ◌+◌, ◌++◌, ◌==◌, [], not, length, drop, position, option_map, IfOk, IfSome, OnOk, OnErr, ⊤};
+ghost use Rattle.std.specs.Prelude.{◌≡◌, ℕ, ◌≤◌, ◌+◌, ◌++◌, ◌==◌, List, [], not, length, drop, position, option_map, IfOk, IfSome, OnOk, OnErr, ⊤};
 ghost use Rattle.outer_store.specs.Faults.{Rose, IfFailed};
 ghost use Rattle.cert_reader.specs.Bytes.{IsMoved};
 
@@ -90,6 +90,25 @@ impl Blocks {
                 line.extend_from_slice(self.pending())?;
                 self.skip(self.pending().len());
                 Ok(false)
+            }
+        }
+    }
+
+    /// Takes bytes off up to the next LF, that one too, and keeps none. It answers whether there was an LF, and how many
+    /// bytes were taken off.
+    pub(crate) fn pass_line(&mut self) -> (bool, usize)
+        ensures moved { (moved : List ℕ) × IsMoved result.0 self.old self.new [] moved }
+        ensures count { length self.old ≡ result.1 + length self.new }
+    {
+        match lf_in(self.pending()) {
+            Some(place) => {
+                self.skip(place + 1);
+                (true, place + 1)
+            }
+            None => {
+                let count = self.pending().len();
+                self.skip(count);
+                (false, count)
             }
         }
     }

@@ -1,13 +1,18 @@
 //! Where a line of a certificate stands, and which may stand there.
 
-ghost use Rattle.std.specs.Prelude.{◌≡◌};
+ghost use Rattle.std.specs.Prelude.{◌≡◌, ℕ, ◌==◌, true, false, List, ◌∷◌, position, Err};
+ghost use Rattle.proof_text.specs.declared.fault.LineTextFault.TheVariants as line_fault;
 ghost use Rattle.proof_text.specs.Lines.{Gives};
 ghost use Rattle.proof_text.specs.Words.{words_of};
 ghost use Rattle.cert_reader.specs.Reading.{may_stand, after_end, mode_after, fits_in, line_in, is_over};
+ghost use Rattle.cert_reader.specs.Reader.{BeginsNone};
 
 use cert_text::{CertLine, LineKind, kind_in, read_rest};
 use proof_text::{LineTextFault, Words};
 use std::alloc::Global;
+
+/// How long the longest first word of a line is, `certificate`.
+const LONGEST_WORD: usize = 11;
 
 /// Where a line stands.
 #[derive(Clone, Copy, PartialEq, Eq)]
@@ -83,6 +88,26 @@ impl Mode {
         }
     }
 
+    #[tactic(auto, unfolding(crate::specs::Reading::line_in))]
+    fn is_begun_by(self, word: &[u8]) -> bool
+        ensures { result ≡ false → (words : List (List ℕ)) → line_in self (word.now ∷ words) ≡ Err line_fault.BadLine }
+    {
+        match kind_in(word) {
+            Some(kind) => self.may_stand(kind),
+            None => false,
+        }
+    }
+
+    /// Whether bytes show by the first word of theirs that they begin no line which may stand there.
+    pub(crate) fn refuses(self, front: &[u8]) -> bool
+        ensures { result ≡ true → BeginsNone self front.now }
+    {
+        match space_in(front) {
+            Some(place) => !self.is_begun_by(&front[..place]),
+            None => front.len() > LONGEST_WORD,
+        }
+    }
+
     /// The line that bytes without an LF spell, where it may stand there.
     pub(crate) fn read_line(self, alloc: Global, bytes: &[u8]) -> Result<CertLine, LineTextFault>
         ensures { Gives (λ line. line) result (line_in self (words_of 32 bytes.now)) }
@@ -102,4 +127,10 @@ impl Mode {
         let line = read_rest(alloc, kind, words)?;
         self.fitting(line)
     }
+}
+
+fn space_in(bytes: &[u8]) -> Option<usize>
+    ensures { result ≡ position (λ b. b == 32) bytes.now }
+{
+    bytes.iter().position(|b| *b == b' ')
 }

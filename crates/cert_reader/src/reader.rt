@@ -7,7 +7,7 @@ ghost use Rattle.cert_reader.specs.Reading.{first_spot};
 ghost use Rattle.cert_reader.specs.Reader.{MayRead, IsAnswer, IfReadFault};
 
 use crate::blocks::Blocks;
-use crate::fault::{CertTextFault, CertTextKind};
+use crate::fault::CertTextFault;
 use crate::gather::{Gathered, gather};
 use crate::spot::Spot;
 use cert_text::CertLine;
@@ -15,7 +15,7 @@ use outer_store::{Source, StoreFault};
 use std::alloc::{AllocError, Global};
 use std::marker::Model;
 
-/// A reader of the lines of a certificate. Its memory follows the longest line.
+/// A reader of the lines of a certificate. Its memory follows the longest line of which the first word may stand there.
 #[derive(Drop)]
 pub struct CertReader {
     alloc: Global,
@@ -83,15 +83,14 @@ impl CertReader {
         ensures quiet { IfReadFault result ⊤ (R.quiet source.old source.new) }
     {
         self.line.clear();
-        let room = self.spot.room();
-        match gather(&mut self.blocks, &mut self.line, room, source) {
+        match gather(&mut self.blocks, &mut self.line, self.spot, source) {
             Ok(Gathered::Line) => {
                 let (line, after) = self.spot.line_at(self.alloc, &self.line)?;
                 self.spot = after;
                 Ok(Some(line))
             }
             Ok(Gathered::Rest) => self.spot.end(&self.line),
-            Ok(Gathered::TooLong) => Err(self.spot.fault(CertTextKind::TooLong)),
+            Ok(Gathered::Faulty(kind)) => Err(self.spot.fault(kind)),
             Err(StoreFault::Failed) => Err(CertTextFault::ReadFault),
             Err(StoreFault::NoMemory) => Err(CertTextFault::NoMemory),
         }

@@ -1,8 +1,9 @@
 //! Which line comes next, and what stands there.
 
-ghost use Rattle.std.specs.Prelude.{◌≡◌, ◌-◌, ◌^◌, length, IfOk, IfNone, OnOk};
+ghost use Rattle.std.specs.Prelude.{◌≡◌, ◌-◌, ◌^◌, if◌then◌else◌, length, IfOk, IfNone, OnOk};
 ghost use Rattle.cert_reader.specs.declared.fault.CertTextFault.TheVariants.{Text};
-ghost use Rattle.cert_reader.specs.Reading.{first_spot, rest_fault, line_at};
+ghost use Rattle.cert_reader.specs.declared.fault.CertTextKind.TheVariants.{BadLine, EndsEarly};
+ghost use Rattle.cert_reader.specs.Reading.{first_spot, is_over, rest_fault, line_at};
 ghost use Rattle.cert_reader.specs.Reader.{IsSpot, IsToldAt, ended_by};
 
 use crate::fault::{CertTextFault, CertTextKind};
@@ -79,6 +80,17 @@ impl Spot {
             None
         } else {
             Some(CertTextKind::BadLine)
+        }
+    }
+
+    /// The fault where the bytes end in a line that has some, and has room for these.
+    pub(crate) fn fault_at_end(self) -> CertTextKind
+        ensures { result ≡ (if is_over self.mode then BadLine else EndsEarly) }
+    {
+        if self.mode.is_over() {
+            CertTextKind::BadLine
+        } else {
+            CertTextKind::EndsEarly
         }
     }
 

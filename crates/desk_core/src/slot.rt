@@ -55,15 +55,6 @@ impl OpenSlot {
         }
     }
 
-    // Begins anew with a problem.
-    fn begin(&mut self, problem: Problem)
-        ensures { self.new ≡ record { problem = problem; last = None } }
-    {
-        self.problem = problem;
-        self.last = None;
-        self.walk = None;
-    }
-
     /// Keeps other statements, and begins anew.
     pub(crate) fn keep(&mut self, alloc: Global, flags: &[bool]) -> Result<(), AllocError>
         requires { length flags.now ≡ length self.old.problem.articulations }
@@ -71,7 +62,7 @@ impl OpenSlot {
         ensures starved { OnErr result (self.new ≡ self.old) }
     {
         let problem = self.problem.restricted(alloc, flags)?;
-        self.begin(problem);
+        *self = OpenSlot::new(problem);
         Ok(())
     }
 
@@ -81,8 +72,10 @@ impl OpenSlot {
         ensures narrowed { OnOk result (self.new ≡ record { problem = narrowed self.old.problem (pair_at self.old.problem pair) set; last = None }) }
         ensures starved { OnErr result (self.new ≡ self.old) }
     {
-        let problem = self.problem.narrowed(alloc, pair, set)?;
-        self.begin(problem);
+        // The walk goes first: it may share what is narrowed, which would be made anew then.
+        self.walk = None;
+        self.problem.narrow(alloc, pair, set)?;
+        self.last = None;
         Ok(())
     }
 

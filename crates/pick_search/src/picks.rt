@@ -1,6 +1,6 @@
 //! Picks, and the problem where pairs are narrowed to their relations.
 ghost use Rattle.pick_search.specs.Picking.{IsPicked, rel_number};
-ghost use Rattle.std.specs.Prelude.{All, IfOk, [], ◌<◌, ◌∷◌, ◌≡◌};
+ghost use Rattle.std.specs.Prelude.{All, IfOk, OnOk, [], ◌<◌, ◌∷◌, ◌≡◌};
 ghost use Rattle.world_model.specs.Problem.{pair_count};
 
 use constraint_set::Problem;
@@ -33,22 +33,15 @@ pub(crate) fn rel_number(rel: Rel) -> u32
     }
 }
 
-// The problem with the pair of a pick narrowed to its relation. A place behind all pairs narrows none.
-fn narrow_by(
-    alloc: Global,
-    problem: &Problem,
-    pairs: &[u32],
-    pick: Pick,
-) -> Result<Problem, AllocError>
-    requires { All (λ pair. pair < pair_count problem.now) pairs.now }
-    ensures { IfOk result (IsPicked problem.now pairs.now (pick ∷ [])) }
+// Narrows the pair of a pick to its relation. A place behind all pairs narrows none.
+fn narrow_by(alloc: Global, node: &mut Problem, pairs: &[u32], pick: Pick) -> Result<(), AllocError>
+    requires { All (λ pair. pair < pair_count node.old) pairs.now }
+    ensures { OnOk result (IsPicked node.old pairs.now (pick ∷ []) node.new) }
 {
-    let Some(pair) = pairs.get(pick.place) else {
-        let node = problem.copy()?;
-        return Ok(node);
-    };
-    let node = problem.narrowed(alloc, *pair, RelSet::one(pick.rel))?;
-    Ok(node)
+    match pairs.get(pick.place) {
+        Some(pair) => node.narrow(alloc, *pair, RelSet::one(pick.rel)),
+        None => Ok(()),
+    }
 }
 
 // The problem with the pairs of some picks narrowed to their relations.
@@ -63,7 +56,7 @@ pub(crate) fn picked(
 {
     let mut node = problem.copy()?;
     for pick in picks {
-        node = narrow_by(alloc, &node, pairs, *pick)?;
+        narrow_by(alloc, &mut node, pairs, *pick)?;
     }
     Ok(node)
 }

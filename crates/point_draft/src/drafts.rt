@@ -270,6 +270,13 @@ impl Drafts {
         }
     }
 
+    /// Forgets the problem and its path. The points that were noted stay, and none of them is struck out.
+    pub fn forget_problem(&mut self) {
+        self.desk = None;
+        self.asked = 0;
+        self.places.free_all();
+    }
+
     /// Notes a point by its place.
     pub fn note(&mut self, place: usize, bits: &Bits) -> Result<(), AllocError> {
         self.places.add(place, bits)
@@ -278,6 +285,16 @@ impl Drafts {
     /// The point at a place is struck out where the path has this length.
     pub fn strike(&mut self, place: usize, length: usize) -> Result<(), AllocError> {
         self.places.strike(place, length)
+    }
+
+    /// All points that two concepts have or have not, as is said, are struck out where the path is empty.
+    pub fn strike_all(&mut self, one: (u32, bool), other: (u32, bool)) -> Result<(), AllocError> {
+        self.places.strike_all(one, other, 0)
+    }
+
+    /// Whether the point at a place is not struck out.
+    pub fn is_live(&self, place: usize) -> bool {
+        self.places.is_live(place)
     }
 
     /// The first place of a point, not struck out, that a concept has, and that the other one has or has not, as is said.

@@ -1,5 +1,6 @@
 //! Points by their places, as a row of bits for each concept.
 use crate::row::Row;
+use bit_rows::has_bit;
 use lits_core::Bits;
 use std::alloc::{AllocError, Global};
 
@@ -52,6 +53,38 @@ impl Places {
         Ok(())
     }
 
+    // Strikes out, at a depth, all points that two concepts have or have not, as is said.
+    pub(crate) fn strike_all(
+        &mut self,
+        one: (u32, bool),
+        other: (u32, bool),
+        depth: usize,
+    ) -> Result<(), AllocError> {
+        let count = self.live.words().len();
+        for at in 0..count {
+            let open = self.live.word(at);
+            let out = open & self.word_of(Some(one), at) & self.word_of(Some(other), at);
+            self.strike_word(at, out, depth)?;
+        }
+        Ok(())
+    }
+
+    // Strikes out the points whose bits are set in the word at a place.
+    fn strike_word(&mut self, at: usize, word: u64, depth: usize) -> Result<(), AllocError> {
+        let mut left = word;
+        for _bit in 0..word.count_ones() {
+            let bit = left.trailing_zeros() as usize;
+            self.strike(at.saturating_mul(64).saturating_add(bit), depth)?;
+            left &= left.wrapping_sub(1);
+        }
+        Ok(())
+    }
+
+    // Whether the point at a place is not struck out.
+    pub(crate) fn is_live(&self, place: usize) -> bool {
+        has_bit(self.live.words(), place)
+    }
+
     // Takes back what was struck out last, if beyond a depth.
     fn free_last(&mut self, count: usize) -> bool {
         let Some(last) = self.struck.last().copied() else {
@@ -72,6 +105,14 @@ impl Places {
                 return;
             }
         }
+    }
+
+    // Takes back all that was struck out.
+    pub(crate) fn free_all(&mut self) {
+        for struck in &self.struck {
+            self.live.set(struck.place);
+        }
+        self.struck.clear();
     }
 
     // The first place of a point that a concept has, and of another one as is said.

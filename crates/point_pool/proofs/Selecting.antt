@@ -1,5 +1,5 @@
 -- The selectors of a prefix, in the order in which they are assumed.
-use Rattle.std.proofs.Common.{◌≡◌, ℕ, zero, suc, ◌+◌, ◌*◌, ◌<◌, Bool, true, false, cond, List, [], ◌∷◌, ◌++◌, length, get_or, append_assoc, inl, inr, sym, ap, ◌∙◌, subst, arith, Contains, refl}
+use Rattle.std.proofs.Common.{◌≡◌, ℕ, zero, suc, ◌+◌, ◌*◌, ◌<◌, Bool, true, false, cond, List, [], ◌∷◌, ◌++◌, length, get_or, append_assoc, inl, inr, sym, ap, ◌∙◌, subst, arith}
 use Rattle.std.specs.Prelude.{flat_map, filter}
 use Rattle.std.specs.List.{range_with_len}
 use Rattle.std.proofs.lemmas.Bool.{cases_lt}
@@ -7,7 +7,6 @@ use Rattle.std.proofs.lemmas.List.{append-nil}
 use Rattle.std.proofs.lemmas.Grind.{flat_map-append}
 use Rattle.rcc5_core.specs.declared.Rel.{Rel}
 use Rattle.rcc5_core.specs.declared.Region.{Region}
-use Rattle.rcc5_core.specs.declared.Region.TheVariants.{LeftOnly, Both, RightOnly}
 use Rattle.rcc5_core.specs.declared.Regions.{Regions}
 use Rattle.rcc5_core.specs.declared.Occupancy.TheVariants.{Empty}
 use Rattle.rcc5_core.specs.Region.{all_regions, word_at, same_word, forced_regions}
@@ -15,7 +14,7 @@ use Rattle.world_model.specs.Problem.{Problem, concept_count, pairs, pair_count}
 use Rattle.world_model.specs.Node.{pair_at}
 use Rattle.world_model.specs.Alive.{allowed, forced_of, forced_pairs, problem_at}
 use Rattle.world_model.specs.Laws.{PositionsNarrow}
-use Rattle.world_model.proofs.Members.{In, none_in, In-map, from_map, In-filter, from_filter, In-left, In-right, from_append, In-flat_map, from_flat_map, In-range, from_range, in_from_contains, contains_from_in, IsImage, IsOf, here, there}
+use Rattle.world_model.proofs.Members.{In, none_in, In-map, from_map, In-filter, from_filter, In-left, In-right, from_append, In-flat_map, from_flat_map, In-range, from_range, in_from_contains, contains_from_in, IsImage, IsOf}
 use Rattle.world_model.proofs.PointSets.{Forces}
 use Rattle.constraint_set.specs.Readers.{sum_places}
 use Rattle.constraint_set.proofs.Lists.{range_more}

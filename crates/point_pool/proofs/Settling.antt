@@ -1,15 +1,14 @@
 -- A pool whose needs are all served.
-use Rattle.std.proofs.Common.{◌≡◌, ℕ, ◌+◌, ◌*◌, ◌/◌, ◌%◌, ◌-◌, ◌<◌, Bool, true, false, cond, List, [], ◌∷◌, ◌++◌, get_or, ◌⊎◌, ◌≤◌, inl, inr, sym, ap, ◌∙◌, subst, arith}
-use Rattle.std.specs.Prelude.{IsTrue, Contains, Some, None, nat_lt}
+use Rattle.std.proofs.Common.{◌≡◌, ℕ, ◌+◌, ◌*◌, ◌/◌, ◌%◌, ◌-◌, ◌<◌, Bool, true, false, cond, List, [], ◌∷◌, ◌++◌, get_or, inl, inr, sym, ap, ◌∙◌, subst, arith}
+use Rattle.std.specs.Prelude.{IsTrue, Contains, Some, None}
 use Rattle.std.proofs.lemmas.List.{append-nil}
-use Rattle.std.proofs.lemmas.Bool.{cases_lt, lt-ltb, le-ltb}
+use Rattle.std.proofs.lemmas.Bool.{lt-ltb, le-ltb}
 use Rattle.rcc5_core.specs.declared.Rel.{Rel}
-use Rattle.world_model.specs.Problem.{Problem, concept_count, pair_count}
+use Rattle.world_model.specs.Problem.{Problem, pair_count}
 use Rattle.world_model.specs.Node.{pair_at}
-use Rattle.world_model.specs.Alive.{Need, InRegion, InConcept, all_allow, needs, problem_at, HasPoint, IsAlive, point_at}
+use Rattle.world_model.specs.Alive.{InRegion, InConcept, all_allow, needs, problem_at, HasPoint, IsAlive, point_at}
 use Rattle.world_model.proofs.Members.{In, none_in, in_from_contains}
-use Rattle.world_model.proofs.PointAlive as alive
-use Rattle.cert_model.specs.Forced.{region_with, need_with, IsNeed, need_at, need_count}
+use Rattle.cert_model.specs.Forced.{region_with, IsNeed, need_at, need_count}
 use Rattle.point_encode.specs.declared.need.Need as code
 use Rattle.point_encode.specs.declared.need.Need.TheVariants.{Region, Concept}
 use Rattle.point_encode.specs.Needs.{need_seen, IsInRange, need_number}

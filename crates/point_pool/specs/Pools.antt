@@ -4,7 +4,7 @@ use Rattle.cert_model.specs.Forced.{need_at, need_count}
 use Rattle.point_pool.specs.declared.pool.Pool.{Pool}
 use Rattle.rcc5_core.specs.declared.Regions.{Regions}
 use Rattle.rcc5_core.specs.declared.Rel.{Rel}
-use Rattle.std.specs.Prelude.{All, Bool, Contains, IsTrue, List, None, Option, Some, [], false, length, not, set, slice_index_or, take, ℕ, ◌++◌, ◌+◌, ◌<◌, ◌∷◌, ◌≡◌, ◌≢◌, ◌≤◌, ◌⊎◌}
+use Rattle.std.specs.Prelude.{All, Bool, Contains, IsTrue, List, None, Option, Some, [], false, length, set, slice_index_or, take, ℕ, ◌++◌, ◌+◌, ◌<◌, ◌∷◌, ◌≡◌, ◌≢◌, ◌≤◌, ◌⊎◌}
 use Rattle.world_model.specs.Alive.{Need, point_at, meets_trees, avoids, is_in_need, is_point, problem_at, serves}
 use Rattle.world_model.specs.Node.{pair_at}
 use Rattle.world_model.specs.Problem.{Problem}

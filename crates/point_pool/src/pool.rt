@@ -68,10 +68,26 @@ impl Pool {
         ensures pool { IfOk result IsPool }
         ensures cursor { IfOk result (λ w. w.cursor ≡ record { problem = problem; path = [] }) }
     {
+        let drafts = noted(alloc, &points)?;
+        Pool::with_drafts(alloc, problem, points, drafts)
+    }
+
+    // With hints that know the points, of which none is struck out yet.
+    fn with_drafts(
+        alloc: Global,
+        problem: Problem,
+        points: Vec<Bits>,
+        drafts: Drafts,
+    ) -> Result<Pool, AllocError>
+        requires { All (λ bits. IsTrue (meets_trees problem bits)) points.items }
+        ensures pool { IfOk result IsPool }
+        ensures cursor { IfOk result (λ w. w.cursor ≡ record { problem = problem; path = [] }) }
+    {
         positions_narrow();
         let cursor = Cursor::new(alloc, problem)?;
-        let depths = depths_at_start(alloc, &cursor, &points)?;
-        let drafts = noted(alloc, &points, &depths)?;
+        let mut drafts = drafts;
+        let depths = depths_at_start(alloc, &cursor, &points, &mut drafts)?;
+        strike_others(&mut drafts, &depths)?;
         let serves = no_numbers(alloc, points.len())?;
         let count = count_needs(cursor.problem());
         let waiting = all_needed(alloc, &cursor, count)?;
@@ -98,16 +114,20 @@ impl Pool {
         if is_same(self.cursor.problem(), problem) {
             return Ok(self);
         }
-        let points = self.into_points();
-        Pool::new(alloc, problem.copy()?, points)
+        // What is drafted knows the points by their places, which stay.
+        let (points, drafts) = self.into_parts();
+        Pool::with_drafts(alloc, problem.copy()?, points, drafts)
     }
 
-    // The points, which meet the rules of the problem's trees.
-    fn into_points(mut self) -> Vec<Bits>
+    // The points, which meet the rules of the problem's trees, and the hints that know them.
+    fn into_parts(mut self) -> (Vec<Bits>, Drafts)
         requires { IsPool self }
-        ensures { All (λ bits. IsTrue (meets_trees self.cursor.problem bits)) result.items }
+        ensures { All (λ bits. IsTrue (meets_trees self.cursor.problem bits)) result.0.items }
     {
-        mem::replace(&mut self.points, Vec::new(self.alloc))
+        let points = mem::replace(&mut self.points, Vec::new(self.alloc));
+        let mut drafts = mem::replace(&mut self.drafts, Drafts::new(self.alloc));
+        drafts.forget_problem();
+        (points, drafts)
     }
 
     /// What the problem allows the next pair.
@@ -199,16 +219,25 @@ fn push_if_needed(waiting: &mut Waiting, cursor: &Cursor, number: u32) -> Result
     Ok(())
 }
 
-// Hints that know some points, and which of them are struck out from the start.
-fn noted(alloc: Global, points: &[Bits], depths: &[Option<usize>]) -> Result<Drafts, AllocError> {
+// Hints that know some points.
+fn noted(alloc: Global, points: &[Bits]) -> Result<Drafts, AllocError> {
     let mut drafts = Drafts::new(alloc);
     for (place, bits) in points.iter().enumerate() {
         drafts.note(place, bits)?;
-        if let Some(Some(depth)) = depths.get(place) {
-            drafts.strike(place, *depth)?;
-        }
     }
     Ok(drafts)
+}
+
+// Strikes out what is drafted of the points that are struck out from the start.
+fn strike_others(drafts: &mut Drafts, depths: &[Option<usize>]) -> Result<(), AllocError> {
+    for (place, depth) in depths.iter().enumerate() {
+        if let Some(depth) = depth {
+            if drafts.is_live(place) {
+                drafts.strike(place, *depth)?;
+            }
+        }
+    }
+    Ok(())
 }
 
 // So many empty lists.

@@ -9,34 +9,64 @@ ghost use Rattle.world_model.specs.Problem.{concept_count, is_articulation, kept
 use crate::cursor::Cursor;
 use constraint_set::{Articulation, Problem};
 use lits_core::Bits;
+use point_draft::Drafts;
 use point_table::{add_if_empty, avoids_by};
 use std::alloc::{AllocError, Global};
 
-// For each point, whether it is a point of the problem: if not, it is struck out from the start.
+/// For each point, whether it is a point of the problem: if not, it is struck out from the start.
+///
+/// What is drafted strikes out most by rows of bits, and only the others are tested.
 pub(crate) fn depths_at_start(
     alloc: Global,
     cursor: &Cursor,
     points: &[Bits],
+    drafts: &mut Drafts,
 ) -> Result<Vec<Option<usize>>, AllocError>
     requires { All (λ bits. IsTrue (meets_trees cursor.now.problem bits)) points.now }
     ensures { IfOk result (λ depths. AreStarted cursor.now.problem points.now depths.items) }
 {
     let pairs = pairs_with_empty(alloc, cursor)?;
+    strike_drafted(cursor, &pairs, drafts)?;
     let mut depths = Vec::with_capacity(alloc, points.len())?;
     for bits in points {
-        depths.push(depth_at_start(cursor, &pairs, bits))?;
+        let is_live = drafts.is_live(depths.len());
+        depths.push(depth_at_start(cursor, &pairs, bits, is_live))?;
     }
     Ok(depths)
 }
 
-// No depth for a point of the problem, and else the start.
-fn depth_at_start(cursor: &Cursor, pairs: &[u32], bits: &Bits) -> Option<usize>
+// Strikes out what is drafted of the points in regions of some pairs that the problem alone forces empty.
+fn strike_drafted(cursor: &Cursor, pairs: &[u32], drafts: &mut Drafts) -> Result<(), AllocError>
+    requires { All (λ pair. pair < pair_count cursor.now.problem) pairs.now }
+{
+    for pair in pairs {
+        strike_pair(cursor, *pair, drafts)?;
+    }
+    Ok(())
+}
+
+// Those of one pair.
+fn strike_pair(cursor: &Cursor, pair: u32, drafts: &mut Drafts) -> Result<(), AllocError>
+    requires { pair < pair_count cursor.now.problem }
+{
+    let (x, y) = cursor.problem().pair_at(pair);
+    let regions = cursor.start_at(pair);
+    for (left, right) in [(true, true), (true, false), (false, true)] {
+        if !avoids_by(regions, left, right) {
+            drafts.strike_all((x, left), (y, right))?;
+        }
+    }
+    Ok(())
+}
+
+// No depth for a point of the problem, and else the start. One that is not live is not tested.
+fn depth_at_start(cursor: &Cursor, pairs: &[u32], bits: &Bits, is_live: bool) -> Option<usize>
     requires trees { IsTrue (meets_trees cursor.now.problem bits.now) }
     requires pairs { pairs.now ≡ empty_pairs cursor.now.problem }
     ensures point { IfNone result (IsTrue (is_point cursor.now.problem bits.now)) }
     ensures start { IfSome result (λ depth. depth ≡ 0) }
 {
-    if !sums_hold(cursor.problem(), bits) {
+    if !is_live || !sums_hold(cursor.problem(), bits) {
         return Some(0);
     }
     if !avoids_all(cursor, pairs, bits) {

@@ -1,6 +1,6 @@
 use Rattle.std.proofs.Common.{arith, ◌∙◌}
 use Rattle.cert_reader.proofs.BlockLemmas.{gathered_no_lf, moved_length}
-use Rattle.cert_reader.proofs.GatherLemmas.{gathers_line, gathers_long, gathers_rest, gathers_on}
+use Rattle.cert_reader.proofs.GatherLemmas.{gathers_line, gathers_long, gathers_faulty, gathers_rest, gathers_on}
 use Rattle.cert_reader.proofs.gather.gather.Goals as goal
 
 pub loop-line-preserved : goal.loop-line-preserved
@@ -19,14 +19,19 @@ loop-line-preserved g c = record {
 pub returns-then-branch-clause-bytes : goal.returns-then-branch-clause-bytes
 returns-then-branch-clause-bytes g c =
     gathers_line _ _ c.loop-line.blocks c.take_line.new.self c.loop-line.line.items c.take_line.new.line.items (g.R.Source.left c.loop-line.source) c.in_ok-take_line.ensures
-    c.loop-line.invariant.no_lf c.loop-line.invariant.bytes c.args.room c.if-branch.true
+    c.loop-line.invariant.no_lf c.loop-line.invariant.bytes c.args.spot c.if-branch.true
 
 pub returns-then-len-room-clause-bytes : goal.returns-then-len-room-clause-bytes
 returns-then-len-room-clause-bytes g c =
     gathers_long _ _ c.loop-line.blocks c.take_line.new.self c.loop-line.line.items c.take_line.new.line.items (g.R.Source.left c.loop-line.source) c.in_ok-take_line.ensures
-    c.loop-line.invariant.no_lf c.loop-line.invariant.bytes c.args.room c.if-branch.false (omega arith)
+    c.loop-line.invariant.no_lf c.loop-line.invariant.bytes c.args.spot (omega arith)
+
+pub returns-then-refuses-clause-bytes : goal.returns-then-refuses-clause-bytes
+returns-then-refuses-clause-bytes g c =
+    gathers_faulty _ _ c.loop-line.blocks c.take_line.new.self c.loop-line.line.items c.take_line.new.line.items (g.R.Source.left c.loop-line.source) c.in_ok-take_line.ensures
+    c.loop-line.invariant.no_lf c.loop-line.invariant.bytes c.args.spot _ _ c.deref-then-refuses.result.now c.if-branch.false c.deref-then-refuses.ensures.value c.in_ok-pass.ensures.fault
 
 pub returns-then-not-branch-clause-bytes : goal.returns-then-not-branch-clause-bytes
 returns-then-not-branch-clause-bytes g c =
     gathers_rest _ _ c.loop-line.blocks c.take_line.new.self c.loop-line.line.items c.take_line.new.line.items (g.R.Source.left c.loop-line.source) c.in_ok-take_line.ensures
-    c.loop-line.invariant.no_lf c.loop-line.invariant.bytes c.args.room _ _ c.if-branch.false (omega arith) c.in_ok-fill.ensures.ended c.if-not-branch.true
+    c.loop-line.invariant.no_lf c.loop-line.invariant.bytes c.args.spot _ _ c.if-branch.false (omega arith) c.in_ok-fill.ensures.ended c.if-not-branch.true

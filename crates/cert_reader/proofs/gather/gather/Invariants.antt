@@ -8,7 +8,7 @@ abbrev pub invariant-loop-line : goal.invariant-loop-line
 invariant-loop-line g l = record {
   bytes : GoesOn (MayCome l.fn.blocks (g.R.Source.left l.fn.source)) (MayCome l.blocks (g.R.Source.left l.source)) (λ old rest. old ≡ l.line.items ++ rest);
   no_lf : has_byte 10 l.line.items ≡ false;
-  short : length l.line.items ≤ l.room;
+  short : l.spot.place + length l.line.items ≤ 2 ^ 36;
   front : length l.fn.blocks ≤ length l.line.items + length l.blocks;
   faults : g.R.Source.faults l.source ≡ g.R.Source.faults l.fn.source;
   steady : g.R.Source.steady l.fn.source l.source;

@@ -5,7 +5,7 @@ use Rattle.point_encode.specs.Numbers.{is_needed}
 use Rattle.cert_model.specs.Forced.{need_count}
 use Rattle.point_pool.specs.Starts.{AreStarted}
 use Rattle.point_pool.proofs.Pooling.{pool_made}
-use Rattle.point_pool.proofs.pool.Pool.new.Goals as goal
+use Rattle.point_pool.proofs.pool.Pool.with_drafts.Goals as goal
 
 pub returns-clause-pool : goal.returns-clause-pool
 returns-clause-pool c =
