@@ -2,10 +2,11 @@
 
 PREFIX ?= /usr/local
 PROGRAM ?= crates/euler_align/out/euler_align
+DESK ?= crates/euler_desk/out/euler_desk
 VERSION = $(shell cat VERSION)
 SHARE = $(DESTDIR)$(PREFIX)/share
 
-.PHONY: all check pages tools install uninstall dist deb completions
+.PHONY: all check pages tools install install-desk uninstall dist deb completions
 
 # Builds, and runs a small example. From nothing it takes tens of minutes, since all is proved.
 all:
@@ -24,7 +25,7 @@ pages:
 tools:
 	for test in tools/test_*.py; do python3 $$test || exit 1; done
 
-# The completions, and the lists of the manual page, from completions/keys.txt.
+# The completions, and the lists of the manual pages, from completions/keys.txt.
 completions:
 	completions/generate
 
@@ -35,11 +36,21 @@ install:
 	install -D -m 644 completions/euler_align.bash $(SHARE)/bash-completion/completions/euler_align
 	install -D -m 644 completions/_euler_align $(SHARE)/zsh/site-functions/_euler_align
 	install -D -m 644 completions/euler_align.fish $(SHARE)/fish/vendor_completions.d/euler_align.fish
+	@if [ -x $(DESK) ]; then $(MAKE) -s install-desk; else echo "make: there is no $(DESK), so it is not installed"; fi
+
+# The desk, which is a program of its own.
+install-desk:
+	install -D -m 755 $(DESK) $(DESTDIR)$(PREFIX)/bin/euler_desk
+	install -D -m 644 man/euler_desk.1 $(SHARE)/man/man1/euler_desk.1
+	install -D -m 644 completions/euler_desk.bash $(SHARE)/bash-completion/completions/euler_desk
+	install -D -m 644 completions/_euler_desk $(SHARE)/zsh/site-functions/_euler_desk
+	install -D -m 644 completions/euler_desk.fish $(SHARE)/fish/vendor_completions.d/euler_desk.fish
 
 uninstall:
-	rm -f $(DESTDIR)$(PREFIX)/bin/euler_align $(SHARE)/man/man1/euler_align.1 \
-	  $(SHARE)/bash-completion/completions/euler_align $(SHARE)/zsh/site-functions/_euler_align \
-	  $(SHARE)/fish/vendor_completions.d/euler_align.fish
+	for name in euler_align euler_desk; do \
+	  rm -f $(DESTDIR)$(PREFIX)/bin/$$name $(SHARE)/man/man1/$$name.1 $(SHARE)/bash-completion/completions/$$name \
+	    $(SHARE)/zsh/site-functions/_$$name $(SHARE)/fish/vendor_completions.d/$$name.fish; \
+	done
 
 # The sources that are committed, as packaging/out/euler_align-VERSION.tar.gz.
 dist:
@@ -50,4 +61,4 @@ dist:
 
 # A Debian package of the built program with its tools and pages, as packaging/out/euler-align_VERSION_ARCHITECTURE.deb.
 deb:
-	packaging/deb $(PROGRAM)
+	DESK=$(DESK) packaging/deb $(PROGRAM)

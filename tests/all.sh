@@ -2,9 +2,9 @@
 # Tries the built program from outside, part by part, the quick parts first: a line each, with what it came to and its seconds. What a
 # part prints is kept, and shown where it failed.
 #
-#   tests/all.sh [--quick] [PROGRAM [RUN_SCENES]]
+#   tests/all.sh [--quick] [PROGRAM [RUN_SCENES [DESK]]]
 #
-# With --quick only what takes under three minutes together on one processor.
+# With --quick only what takes under three minutes together on one processor. Where the desk isn't built its part is left out.
 set -u
 cd "$(dirname "$0")" || exit 2
 quick=
@@ -14,6 +14,8 @@ if [ "${1:-}" = --quick ]; then
 fi
 program=$(realpath -m "${1:-../crates/euler_align/out/euler_align}")
 scenes=$(realpath -m "${2:-../crates/run_scenes/out/run_scenes}")
+desk=$(realpath -m "${3:-../crates/euler_desk/out/euler_desk}")
+[ ! -x "$desk" ] || export EULER_DESK="$desk"
 for built in "$program" "$scenes"; do
   if [ ! -x "$built" ]; then
     echo "all: there is no program at $built"
@@ -47,10 +49,11 @@ part "tools/from_skos" env EULER_ALIGN="$program" python3 ../tools/test_from_sko
 part "tools: damaged tables" python3 ../tools/test_damaged.py
 part "tools/to_table" env EULER_ALIGN="$program" python3 ../tools/test_to_table.py
 part "tools/list, tools/watch" env EULER_ALIGN="$program" python3 ../tools/test_long_work.py
+part "tools/desk" python3 ../tools/test_desk.py
 part "completions" python3 completions.py "$program"
 part "messages" python3 messages.py "$program"
 part "figures" python3 figures.py
-part "package" ./package.sh "$program"
+part "package" ./package.sh "$program" "$desk"
 part "rows" python3 rows.py "$program"
 part "faults" python3 faults.py "$scenes"
 part "json_names" python3 json_names.py --program "$program"
@@ -62,11 +65,17 @@ part "revisions" python3 revisions.py "$program"
 part "killed" python3 killed.py "$program" --count 24
 part "cluster" python3 cluster.py "$program"
 part "differential, 500 cases" python3 differential.py --program "$program"
+if [ -x "$desk" ]; then
+  part "desk, 200 cases" python3 desk.py --cases 200 "$desk"
+else
+  echo "desk: left out, there is no program at $desk"
+fi
 if [ -z "$quick" ]; then
   part "killed at 200 moments" python3 killed.py "$program" --count 200 --seed 2
   part "refused" python3 refused.py "$program"
   part "hostile" python3 hostile.py "$program"
   part "differential, 5,000 other cases" python3 differential.py --count 5000 --seed 2 --program "$program"
-  part "breaks" python3 breaks.py --program "$program"
+  [ ! -x "$desk" ] || part "desk, 2,000 other cases" python3 desk.py --cases 2000 --seed 2 "$desk"
+  part "breaks" python3 breaks.py --program "$program" --desk "$desk"
 fi
 exit $status

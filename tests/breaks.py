@@ -1,11 +1,12 @@
 #!/usr/bin/env python3
-"""Shows that differential.py finds mistakes: each of a list of breaks, planted in the plain programs, one at a time.
+"""Shows that differential.py and desk.py find mistakes: each of a list of breaks, planted in the plain programs, one at a time.
 
-    tests/breaks.py [--count N] [--seed S] [--program PATH] [NAME ..]
+    tests/breaks.py [--count N] [--seed S] [--program PATH] [--desk PATH] [NAME ..]
 
 A break is one change of the text of one file: its old text stands there exactly once. For each it is told after how many cases
-differential.py found a difference, and it ends with status 1 if one was not found within N cases (5,000 if not given). What the program
-answers is kept, so that it runs once for the same words and files.
+differential.py found a difference, or desk.py where the break is one of the plain desk, and it ends with status 1 if one was not found
+within N cases (5,000 if not given). What the program answers is kept, so that it runs once for the same words and files. Where the desk
+isn't built, the breaks of the plain desk are left out.
 """
 
 import argparse
@@ -21,7 +22,7 @@ from commands import files_read, files_written
 
 HERE = os.path.dirname(os.path.abspath(__file__))
 # in the order in which they import each other
-MODULES = ["plain", "plain_lattice", "random_cases", "plain_words", "certificate_lines", "certificates", "certificate_writer", "plain_parts", "differential"]
+MODULES = ["plain", "plain_lattice", "random_cases", "plain_words", "certificate_lines", "certificates", "certificate_writer", "plain_parts", "differential", "plain_desk", "desk"]
 
 # name, file, old text, new text
 BREAKS = [
@@ -105,7 +106,7 @@ BREAKS = [
     ("any letters are a set of relations", "plain_words", "or any(c not in plain.LETTERS for c in value)", "or False"),
     ("a set of relations may be empty", "plain_words", '(not value or any(c not in', '(any(c not in'),
     ("a key may stand twice", "plain_words", "if key in given:", "if False:"),
-    ("names may be the same", "plain_words", "if len(set(files)) < len(files) or", "if"),
+    ("names may be the same", "plain_words", "return len(set(files)) < len(files)", "return False"),
     ("a missing token is looked for first", "plain_words", 'if ("nodes" in given or "worlds" in given) and "token" not in given:', "if False:"),
     # the text of certificates
     ("a literal of 2147483648 is refused", "certificate_lines", "2**31", "2**31 - 1"),
@@ -152,11 +153,35 @@ BREAKS = [
     ("the start has fewer letters than pairs", "certificates", "if len(start) > len(problem.pairs):", "if len(start) >= len(problem.pairs):"),
     ("the header's switches are not compared", "certificates", "if switches != problem.switches:", "if False:"),
     ("an unfinished tree is a claim", "certificates", 'elif kind == "quit":\n            return False', 'elif kind == "quit":\n            return True'),
+    # the desk
+    ("each next world is the first", "plain_desk", "slot.last is None or plain.rank(world)", "True or plain.rank(world)"),
+    ("the last world comes again", "plain_desk", "plain.rank(world) > plain.rank(slot.last)", "plain.rank(world) >= plain.rank(slot.last)"),
+    ("the next world is above by the order of bytes", "plain_desk", "plain.rank(world) > plain.rank(slot.last)", "world > slot.last"),
+    ("past the last world it begins anew", "plain_desk", "slot.last = slot.last if world is None else world", "slot.last = world"),
+    ("an open slot is opened anew", "plain_desk", "            if slot:\n", "            if False:\n"),
+    ("a slot stays open", "plain_desk", "del self.slots[number]", "pass"),
+    ("all slots are one", "plain_desk", "slot = self.slots.get(number)", "slot = next(iter(self.slots.values()), None)"),
+    ("keep and narrow leave the last world", "plain_desk", "        slot.last = None\n", ""),
+    ("what was dropped stays dropped", "plain_desk", "slot.bits = given[0]", 'slot.bits = "".join(map(min, slot.bits, given[0]))'),
+    ("keep forgets narrowings", "plain_desk", "slot.bits = given[0]", "slot.bits, slot.narrowings = given[0], []"),
+    ("the last narrowing alone counts", "plain_desk", "slot.narrowings.append(given)", "slot.narrowings = [given]"),
+    ("of each pair the last narrowing counts", "plain_desk", "slot.narrowings.append(given)", "slot.narrowings = [other for other in slot.narrowings if other[0] != given[0]] + [given]"),
+    ("a narrowing is not turned round", "plain_desk", "pair[::-1], {plain.CONVERSE[letter] for letter in letters}", "pair[::-1], letters"),
+    ("there are seventeen slots", "plain_desk", "MOST_SLOTS = 16", "MOST_SLOTS = 17"),
+    ("slots are numbered from 0", "plain_desk", "is_number(slot, 1, MOST_SLOTS)", "is_number(slot, 0, MOST_SLOTS)"),
+    ("a line of one word is passed over", "plain_desk", "        if words:\n", "        if len(words) > 1:\n"),
+    ("a full stop always keeps nothing", "plain_desk", 'if concepts.statements == 0 and word == ".":', 'if word == ".":'),
+    ("one concept may be narrowed with itself", "plain_desk", "    if left == right:\n", "    if False:\n"),
+    ("a bad letter is told before an unknown concept", "plain_desk", "    if left not in concepts.numbers or right", '    if set(letters) - set(plain.LETTERS):\n        raise plain.Fault(line, "BadLetters")\n    if left not in concepts.numbers or right'),
+    ("lines without words are not counted", "plain_desk", '.split("\\n"), 1):', '.replace("\\n\\n", "\\n").split("\\n"), 1):'),
+    ("a return is a blank", "plain_desk", 're.split("[ \\t]", line)', 're.split("[ \\t\\r]", line)'),
+    ("the script is read first", "plain_desk", "    if data is None:\n", '    if data is None or bytes_of(given["script"]) is None:\n'),
+    ("the desk knows no switches", "plain_desk", 'given.get(name) != "off"', "True"),
 ]
 
 
 def load(file=None, old="", new=""):
-    """The plain programs and differential.py as new modules, with one change; answers the module of differential.py."""
+    """The plain programs and what tries them as new modules, with one change; answers the module that is to find it."""
     for name in MODULES:
         path = os.path.join(HERE, name + ".py")
         with open(path) as f:
@@ -169,7 +194,7 @@ def load(file=None, old="", new=""):
         module.__file__ = path
         sys.modules[name] = module
         exec(compile(source, path, "exec"), module.__dict__)
-    return sys.modules["differential"]
+    return sys.modules["desk" if file == "plain_desk" else "differential"]
 
 
 def remembering(base, program, folder, known):
@@ -209,14 +234,14 @@ def remembering(base, program, folder, known):
     return Remembering()
 
 
-def found_after(differential, runner, seed, count):
+def found_after(tester, runner, seed, count):
     """After how many cases there was a difference, or None."""
     for number in range(count):
         try:
-            differential.case(runner, random.Random(f"{seed} {number}"))
+            tester.case(runner, random.Random(f"{seed} {number}"))
         except sys.modules["plain"].TooMany:
             pass
-        except differential.Difference:
+        except tester.Difference:
             return number + 1
     return None
 
@@ -226,20 +251,23 @@ def main():
     parser.add_argument("--count", type=int, default=5000)
     parser.add_argument("--seed", type=int, default=1)
     parser.add_argument("--program", default=os.path.join(HERE, "../crates/euler_align/out/euler_align"))
+    parser.add_argument("--desk", default=os.path.join(HERE, "../crates/euler_desk/out/euler_desk"))
     parser.add_argument("names", nargs="*")
     given = parser.parse_args()
-    begun, known, missed, tried = time.monotonic(), {}, 0, 0
+    begun, known, missed, tried, has_desk = time.monotonic(), {}, 0, 0, os.access(given.desk, os.X_OK)
     with tempfile.TemporaryDirectory() as folder:
         for name, file, old, new in BREAKS:
-            if given.names and name not in given.names:
+            if (given.names and name not in given.names) or (file == "plain_desk" and not has_desk):
                 continue
-            differential = load(file, old, new)
-            runner = remembering(differential.Runner, given.program, folder, known)
-            after = found_after(differential, runner, given.seed, given.count)
+            tester = load(file, old, new)
+            # what the desk answers is not kept: its scripts are never the same
+            runner = tester.DeskRunner(given.desk, folder) if file == "plain_desk" else remembering(tester.Runner, given.program, folder, known)
+            after = found_after(tester, runner, given.seed, given.count)
             tried += 1
             missed += after is None
             print(f"{file}.py, {name}: {'not found' if after is None else f'found after {after}'}", flush=True)
-    print(f"breaks: {tried} planted, {missed} not found, {time.monotonic() - begun:.0f} s")
+    left_out = "" if has_desk else "; there is no desk, so those of the plain desk are left out"
+    print(f"breaks: {tried} planted, {missed} not found, {time.monotonic() - begun:.0f} s{left_out}")
     return 1 if missed or not tried else 0
 
 

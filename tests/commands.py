@@ -11,7 +11,7 @@ LIMIT = (0, 2**64 - 1, 1)
 MOST_PARTS = 5000
 KEYS = {
     **{key: "switch" for key in SWITCHES},
-    **{key: "file" for key in ("in", "cert", "token", "resume", "until")},
+    **{key: "file" for key in ("in", "cert", "token", "resume", "until", "script")},
     "certs": "files",
     "kinds": "reports",
     "left": "text",
@@ -47,7 +47,8 @@ ROWS = {
     "trial": Row("seed size", "", "", ""),
 }
 
-
+# the program of the desk has no commands: all its words are operands
+DESK = Row("in script", "nonempty sibling coverage", "in script", "")
 NONE = Row("", "", "", "")
 
 
@@ -212,6 +213,6 @@ OTHER_WORDS = [
     "kinds=count,count", "kinds=seen,x", "kinds=seen,", "seed=3", "seed=+3", "size=14", "size=15", "size=300", "left=1.A0", "left=", "left=p",
     "right=2.B0", "right=1.A0", "set==", "set=", "set=x!x", "set=o", "set==,<", "set=x ", "count=1", "count=0", "count=1000", "count=1001",
     "count=01", "count=", "until=u", "until=r", "until=p", "until=c", "until=", "certs=c", "certs=c,c", "certs=d,p", "certs=", "certs=c,,d",
-    "certs=c,", "in=t1", "in=t5000", "in=t5001", "in=t0", "in=t01", "in=tt", "in=1", "token=t1", "token=u", "x", "=x", "y=z", "", "In=p", "--help",
+    "certs=c,", "script=s", "in=t1", "in=t5000", "in=t5001", "in=t0", "in=t01", "in=tt", "in=1", "token=t1", "token=u", "x", "=x", "y=z", "", "In=p", "--help",
 ]
 OTHER_VALUES = ["", "", "=", "<x", "o", "on", "7", "count", "1.A0"]

@@ -1,10 +1,12 @@
 #!/usr/bin/env python3
-"""Whether completions/keys.txt is the program's table, and the completions and the manual page are made from it and work.
+"""Whether completions/keys.txt is the program's table, and the completions and the manual pages are made from it and work.
 
     tests/completions.py [PROGRAM]
 
-The table is compared with the usage lines of PROGRAM (`crates/euler_align/out/euler_align` where none is given). What completions/generate
-would write is compared with what is there. Each shell that is installed (bash, zsh, fish) is asked for the words that it offers.
+The table is compared with the usage lines of PROGRAM (`crates/euler_align/out/euler_align` where none is given), and that of the desk with
+those of the program that EULER_DESK names, or that was built; where there is none, with what the tests know of it. What
+completions/generate would write is compared with what is there. Each shell that is installed (bash, zsh, fish) is asked for the words
+that it offers.
 """
 
 import os
@@ -15,7 +17,7 @@ import sys
 import tempfile
 from importlib.machinery import SourceFileLoader
 
-from commands import ROWS
+from commands import DESK, ROWS
 
 ROOT = os.path.join(os.path.dirname(os.path.abspath(__file__)), "..")
 COMPLETIONS = os.path.join(ROOT, "completions")
@@ -38,6 +40,10 @@ CASES = [
     ("euler_align part in=problem.txt until=oth", [None, "other.txt"]),
     ("euler_align join in=problem.txt certs=pro", [None, "problem.txt"]),
     ("euler_align join in=problem.txt certs=problem.txt,oth", [None, "other.txt"]),
+    ("euler_desk scr", [None, "script="]),
+    ("euler_desk in=problem.txt nonem", ["nonempty="]),
+    ("euler_desk in=problem.txt coverage=o", [None, "on", "off"]),
+    ("euler_desk in=problem.txt script=oth", [None, "other.txt"]),
 ]
 ZSH = """
 emulate -L zsh
@@ -64,27 +70,39 @@ line=${LINE//=/ = }
 read -ra COMP_WORDS <<<"$line"
 [[ $LINE == *" " ]] && COMP_WORDS+=("")
 COMP_CWORD=$((${#COMP_WORDS[@]} - 1))
-_euler_align
+"_${COMP_WORDS[0]}"
 printf '%s\n' "${COMPREPLY[@]}"
 """
 
 
+def usage_of(program):
+    return subprocess.run([program, "--help"], capture_output=True, text=True, check=False).stderr
+
+
+def row_of(usage):
+    """The needed keys of a usage line, other keys, and the values that they take."""
+    words = re.findall(r"(\[?)(\w+)=([^\s\]]+)", usage)
+    return [key for mark, key, _ in words if not mark], [key for mark, key, _ in words if mark], {key: value for _, key, value in words}
+
+
 def program_table(program):
-    """The commands by the program's usage lines: needed keys, other keys, and the values that they take."""
-    said = subprocess.run([program, "--help"], capture_output=True, text=True, check=False).stderr
-    table = {}
-    for name, rest in re.findall(r"^  (\w+) (.*=.*)$", said, re.M):
-        words = re.findall(r"(\[?)(\w+)=([^\s\]]+)", rest)
-        table[name] = ([key for mark, key, _ in words if not mark], [key for mark, key, _ in words if mark], {key: value for _, key, value in words})
-    return table
+    """The commands by the program's usage lines."""
+    return {name: row_of(rest) for name, rest in re.findall(r"^  (\w+) (.*=.*)$", usage_of(program), re.M)}
 
 
-def table_faults(program):
-    commands, keys = generate.read_table()
-    there, faults = program_table(program), []
-    if [one.name for one in commands] != list(there):
-        faults.append(f"the commands are {' '.join(there)}, and keys.txt has {' '.join(one.name for one in commands)}")
-    for one in commands:
+def desk_table():
+    """What the desk takes, by its usage line where it is built."""
+    program = os.environ.get("EULER_DESK") or os.path.join(ROOT, "crates/euler_desk/out/euler_desk")
+    if not os.path.exists(program):
+        return {"euler_desk": (DESK.required, DESK.optional, {})}
+    return {"euler_desk": row_of(next((line for line in usage_of(program).split("\n") if "euler_desk " in line and "=" in line), ""))}
+
+
+def table_faults(there, rows, keys):
+    faults = []
+    if [one.name for one in rows] != list(there):
+        faults.append(f"the commands are {' '.join(there)}, and keys.txt has {' '.join(one.name for one in rows)}")
+    for one in rows:
         needed, other, values = there.get(one.name, ([], [], {}))
         if (one.needed, one.other) != (needed, other):
             faults.append(f"{one.name} needs {needed} and takes {other}; keys.txt has {one.needed} and {one.other}")
@@ -96,12 +114,12 @@ def table_faults(program):
 
 def offered(shell, line, folder):
     """The words that a shell offers at the end of a line; what stands before = or a comma is left out."""
+    file = os.path.abspath(os.path.join(COMPLETIONS, generate.FILES[shell].format(line.split(" ")[0])))
     if shell == "fish":
-        script = f"source {os.path.join(COMPLETIONS, 'euler_align.fish')}; complete -C {generate.fish_quoted(line)}"
+        script = f"source {file}; complete -C {generate.fish_quoted(line)}"
         words = ["fish", "--no-config", "-c", script]
     else:
         words = ["bash", "--norc", "-c", BASH] if shell == "bash" else ["zsh", "-f", "-c", ZSH]
-    file = os.path.abspath(os.path.join(COMPLETIONS, generate.FILES[shell]))
     given = {**os.environ, "LINE": line, "COMPLETION": file, "HOME": folder}
     done = subprocess.run(words, cwd=folder, env=given, capture_output=True, text=True, timeout=120, check=False)
     if done.stderr.strip():
@@ -129,7 +147,9 @@ def shell_faults(shell):
 
 def main():
     program = sys.argv[1] if len(sys.argv) > 1 else os.path.join(ROOT, "crates/euler_align/out/euler_align")
-    faults, told = table_faults(program), []
+    programs, faults, told = generate.read_programs(), [], []
+    for one, there in zip(programs, (program_table(program), desk_table())):
+        faults += table_faults(there, one.rows, one.keys)
     done = subprocess.run([os.path.join(COMPLETIONS, "generate"), "--check"], capture_output=True, text=True, check=False)
     faults += done.stdout.strip().split("\n") if done.returncode else []
     for shell in generate.FILES:
@@ -140,7 +160,7 @@ def main():
             told.append(f"{shell} is not installed")
     for fault in faults:
         print(fault)
-    print(f"completions: the table has {len(generate.read_table()[0])} commands; {', '.join(told)}; {len(faults)} wrong")
+    print(f"completions: the table has {len(programs[0].commands)} commands; {', '.join(told)}; {len(faults)} wrong")
     return 1 if faults else 0
 
 

@@ -50,9 +50,9 @@ def named(words, keys):
 
 # name: words, the files that are read and the files that are written, each with its key
 COMMANDS = {name: (words, named(words, ROWS[name].reads), named(words, ROWS[name].writes)) for name, words in ON_DEVICES.items()}
-# what an endless file comes to, by its key; that of a certificate is one line without an end, for which memory is wanting
-BAD_TOKEN, NO_MEMORY = (7, "token BadToken\n"), (9, "no memory\n")
-ENDLESS = {"in": (1, "refused 0 TooLong\n"), "resume": BAD_TOKEN, "until": BAD_TOKEN, "cert": NO_MEMORY, "certs": NO_MEMORY}
+# what an endless file comes to, by its key; a certificate is read on, to byte number 68,719,476,737 of it
+BAD_TOKEN = (7, "token BadToken\n")
+ENDLESS = {"in": (1, "refused 0 TooLong\n"), "resume": BAD_TOKEN, "until": BAD_TOKEN}
 
 
 class Failed(Exception):
@@ -118,13 +118,13 @@ class Bench:
                 found[name] = sorted(os.listdir(path)) if os.path.isdir(path) else "a device"
         return found
 
-    def run(self, words, stdout=subprocess.PIPE, kilobytes=None, nobody=False, before=None):
+    def run(self, words, stdout=subprocess.PIPE, kilobytes=None, nobody=False, before=None, seconds=120):
         self.tries += 1
         command = [self.program] + words
         if kilobytes:
             command = ["sh", "-c", f'ulimit -v {kilobytes}; exec "$@"', "sh"] + command
         user = {"user": NOBODY, "group": NOBODY, "extra_groups": []} if nobody and os.geteuid() == 0 else {}
-        done = subprocess.run(command, cwd=self.place, stdout=stdout, stderr=subprocess.PIPE, timeout=120, preexec_fn=before, **user)
+        done = subprocess.run(command, cwd=self.place, stdout=stdout, stderr=subprocess.PIPE, timeout=seconds, preexec_fn=before, **user)
         return done.returncode, done.stdout, done.stderr
 
     def judge(self, name, got, fault, changed=(), before=None):
@@ -166,8 +166,18 @@ def tries_of(bench, name):
     """The tries of one command: what each is called, and a function that makes it."""
     words, read, written = COMMANDS[name]
 
-    def with_name(key, file, value, fault, kilobytes=None):
-        return lambda: bench.judge(name, bench.run(changed_words(words, key, file, value), kilobytes=kilobytes), fault)
+    def with_name(key, file, value, fault):
+        return lambda: bench.judge(name, bench.run(changed_words(words, key, file, value)), fault)
+
+    def read_on(key, file):
+        """One line without an end, that no form begins: it is still read after some seconds, in little memory."""
+        def make():
+            try:
+                got = bench.run(changed_words(words, key, file, "/dev/zero"), kilobytes=1 << 17, seconds=5)
+            except subprocess.TimeoutExpired:
+                return
+            raise Failed(f"it ended with {got[0]} and {got[1]!r:.200}")
+        return make
 
     def folder(file, fault):
         def make():
@@ -199,8 +209,7 @@ def tries_of(bench, name):
 
     for key, file in read:
         title = key if sum(other == key for other, _ in read) == 1 else f"{file} of {key}"
-        limit = 1 << 20 if key in ("cert", "certs") else None
-        yield f"{title} endless", with_name(key, file, "/dev/zero", ENDLESS[key], limit)
+        yield f"{title} endless", with_name(key, file, "/dev/zero", ENDLESS[key]) if key in ENDLESS else read_on(key, file)
         yield f"{title} a folder", folder(file, READ_FAULT)
         yield f"{title} without permission", without_permission(file, READ_FAULT)
         yield f"{title} absent", with_name(key, file, "absent", READ_FAULT)

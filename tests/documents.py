@@ -1,22 +1,25 @@
 #!/usr/bin/env python3
 """Whether the pages are true: runs the command lines that they show, and looks up what they link to.
 
-    tests/documents.py [PROGRAM]
+    tests/documents.py [PROGRAM [DESK]]
 
-PROGRAM is the built program; where none is given, `crates/euler_align/out/euler_align`. Where there is none, no command line is run.
+PROGRAM is the built program; where none is given, `crates/euler_align/out/euler_align`. Where there is none, no command line is run. DESK is
+the built desk, `crates/euler_desk/out/euler_desk` where none is given.
 
 A command line of README.md, docs/GUIDE.md or examples/README.md stands in a block that is indented by four spaces, behind `$ `; further
 lines of the command stand behind `> `. What follows up to the next `$ ` is what it puts, on standard output and standard error. There,
 `...` stands for any text: within a line for a part of it, and on a line of its own for lines, or none. The command lines of a page
-are run one after the other by bash, in a folder of their own that has the examples and tools, with the program on the path. A block with
-`tools/from_skos` is skipped, and the last line says so, where no Python that the tool would take has `rdflib`.
+are run one after the other by bash, in a folder of their own that has the examples and tools, with the programs on the path. A block is
+skipped, and the last line says so, where something that it needs is missing: the desk, or, for `tools/from_skos`, `rdflib` in a Python that
+the tool would take.
 
 Besides: each relative link of each page leads to a file, and to a heading of it; what stands between backticks is there, where it looks
 like a path or, on the pages about the proof, like a name in the code; each crate stands in docs/CODE.md once, and stands on
 no crate that the line of its layer rules out; the table of what must be read, in docs/PROOF.md, is what tools/reading_list counts; and
-docs/FORMATS.md, the manual page and the completion have the commands and keys of the program's table.
+docs/FORMATS.md, the manual pages and the completions have the commands and keys of the program's table.
 """
 
+import collections
 import os
 import re
 import shutil
@@ -24,12 +27,14 @@ import subprocess
 import sys
 import tempfile
 
-from commands import NONE, ROWS
+from commands import DESK, NONE, ROWS
 
 ROOT = os.path.join(os.path.dirname(os.path.abspath(__file__)), "..")
 SHOWN = ["README.md", "docs/GUIDE.md", "examples/README.md"]
-NAMING = ["docs/PROOF.md", "docs/DEFINITIONS.md", "docs/CONTRACTS.md"]
+NAMING = ["docs/PROOF.md", "docs/DEFINITIONS.md"]
 MARK = "\x01"
+# what stands in a command line, and what that needs besides the program
+NEEDED = [("tools/from_skos ", "rdflib"), ("tools/desk ", "euler_desk"), ("euler_desk in=", "euler_desk")]
 
 
 def lines_of(page):
@@ -60,8 +65,9 @@ def has_rdflib():
     return any(subprocess.run([python, "-c", "import rdflib"], capture_output=True, check=False).returncode == 0 for python in pythons)
 
 
-def can_run(block, rdflib):
-    return rdflib or not any("from_skos " in words for _, words, _ in block)
+def lacking(block, there):
+    """What a block of command lines needs that isn't there, or None."""
+    return next((thing for text, thing in NEEDED if thing not in there and any(text in words for _, words, _ in block)), None)
 
 
 def is_line(shown, got):
@@ -82,19 +88,20 @@ def first_difference(shown, got):
     return None if len(got) in reached else (len(shown), max(reached))
 
 
-def run_page(page, program, folder, rdflib):
-    """How many command lines of a page were run and how many were not, and what is wrong."""
+def run_page(page, programs, folder, there):
+    """How many command lines of a page were run, how many were not for want of what, and what is wrong."""
     for name in ("examples", "tools", "docs", "tests"):
         os.symlink(os.path.abspath(os.path.join(ROOT, name)), os.path.join(folder, name))
-    programs = os.path.join(folder, ".programs")
-    os.mkdir(programs)
-    os.symlink(os.path.abspath(program), os.path.join(programs, "euler_align"))
-    blocks = commands_of(page)
-    commands = [command for block in blocks if can_run(block, rdflib) for command in block]
+    path = os.path.join(folder, ".programs")
+    os.mkdir(path)
+    for name, program in programs.items():
+        os.symlink(os.path.abspath(program), os.path.join(path, name))
+    blocks = [(block, lacking(block, there)) for block in commands_of(page)]
+    commands = [command for block, lack in blocks if not lack for command in block]
     script = ["exec 2>&1"]
     for _, words, _ in commands:
         script += [words, f"__code=$?; printf '{MARK}'; (exit $__code)"]
-    environment = dict(os.environ, PATH=programs + os.pathsep + os.environ["PATH"], LC_ALL="C.UTF-8")
+    environment = dict(os.environ, PATH=path + os.pathsep + os.environ["PATH"], LC_ALL="C.UTF-8")
     done = subprocess.run(
         ["bash"], input="\n".join(script).encode() + b"\n", stdout=subprocess.PIPE, cwd=folder, env=environment, timeout=600, check=False
     )
@@ -113,7 +120,7 @@ def run_page(page, program, folder, rdflib):
                 f"{page}:{number}: $ {words}\n  shown: {shown[wanted] if wanted < len(shown) else 'nothing more'}"
                 f"\n  put:   {got[at] if at < len(got) else 'nothing more'}"
             )
-    return len(commands), sum(map(len, blocks)) - len(commands), faults
+    return len(commands), collections.Counter(lack for block, lack in blocks if lack for _ in block), faults
 
 
 def pages():
@@ -189,7 +196,7 @@ def layers():
     for line in lines_of("docs/CODE.md"):
         if line.startswith("## "):
             current = line[3:].replace("The ", "").split()[0].lower()
-        elif line.startswith("| `") and current:
+        elif line.startswith("| [`") and current:
             out.setdefault(current, []).extend(re.findall(r"`(\w+)`", line.split("|")[1]))
     return out
 
@@ -232,41 +239,63 @@ def commands_in_code():
     return {name: tuple(map(keys, parts)) for name, *parts in rows}
 
 
+def bare_page(page):
+    """A manual page without its fonts."""
+    return re.sub(r"\\f[A-Z]", "", "\n".join(lines_of(page)))
+
+
+def key_faults(name, keys, manual, synopsis, completion, case):
+    """Whether the pages and the completion have just these keys; `synopsis` and `case` find the lines of the name."""
+    required, optional = keys
+    row = f"| `{name}` | " + " ".join([f"`{key}=`" for key in required] + [f"[`{key}=`]" for key in optional]) + " |"
+    if row not in "\n".join(lines_of("docs/FORMATS.md")):
+        yield f"docs/FORMATS.md: no row begins {row}"
+    found = re.search(synopsis, bare_page(manual), re.M)
+    shown = found.group(0).replace("SWITCHES", "nonempty= sibling= coverage=") if found else ""
+    if sorted(re.findall(r"(\w+)=", shown)) != sorted(required + optional):
+        yield f"{manual}: the synopsis of {name} has other keys than {' '.join(required + optional)}"
+    found = re.search(case, "\n".join(lines_of(completion)), re.M)
+    if not found or found.group(1).replace("=", "").split() != required + optional:
+        yield f"{completion}: {name} has other keys than {' '.join(required + optional)}"
+
+
 def word_faults():
-    table, faults = commands_in_code(), []
-    formats = "\n".join(lines_of("docs/FORMATS.md"))
-    manual = re.sub(r"\\f[A-Z]", "", "\n".join(lines_of("man/euler_align.1")))
-    completion = "\n".join(lines_of("completions/euler_align.bash"))
-    for name, (required, optional, reads, writes) in table.items():
-        known = ROWS.get(name, NONE)
-        if (known.required, known.optional, known.reads, known.writes) != (required, optional, reads, writes):
+    table, faults, manual, completion = commands_in_code(), [], "man/euler_align.1", "completions/euler_align.bash"
+    # the program of the desk has a row without commands, as soon as it is there
+    desk = table.pop("euler_desk", None)
+    for name, keys in [*table.items()] + ([("euler_desk", desk)] if desk else []):
+        known = DESK if name == "euler_desk" else ROWS.get(name, NONE)
+        if (known.required, known.optional, known.reads, known.writes) != keys:
             faults.append(f"tests/commands.py: {name} has other keys than the program's table")
-        row = f"| `{name}` | " + " ".join([f"`{key}=`" for key in required] + [f"[`{key}=`]" for key in optional]) + " |"
-        if row not in formats:
-            faults.append(f"docs/FORMATS.md: no row of commands begins {row}")
-        synopsis = re.search(rf"^euler_align {name} .*(?:\n    .*)?", manual, re.M)
-        shown = synopsis.group(0).replace("SWITCHES", "nonempty= sibling= coverage=") if synopsis else ""
-        if sorted(re.findall(r"(\w+)=", shown)) != sorted(required + optional):
-            faults.append(f"man/euler_align.1: the synopsis of {name} has other keys than {' '.join(required + optional)}")
-        case = re.search(rf"^ +(?:\w+ \| )*{name}(?: \| \w+)*\) keys=\"(.*)\"", completion, re.M)
-        if not case or case.group(1).replace("=", "").split() != required + optional:
-            faults.append(f"completions/euler_align.bash: {name} has other keys than {' '.join(required + optional)}")
-    if f'compgen -W "{" ".join(table)}"' not in completion:
-        faults.append("completions/euler_align.bash: the commands are others")
+    for name, keys in table.items():
+        synopsis, case = rf"^euler_align {name} .*(?:\n    .*)?", rf"^ +(?:\w+ \| )*{name}(?: \| \w+)*\) keys=\"(.*)\""
+        faults += key_faults(name, keys[:2], manual, synopsis, completion, case)
+    faults += key_faults(
+        "euler_desk", (DESK.required, DESK.optional), "man/euler_desk.1", r"^euler_desk in=.*", "completions/euler_desk.bash", r"^ +keys=\"(.*)\""
+    )
+    if f'compgen -W "{" ".join(table)}"' not in "\n".join(lines_of(completion)):
+        faults.append(f"{completion}: the commands are others")
     return len(table), faults
 
 
+def programs_there():
+    """The program and the desk, as far as they are there."""
+    given = sys.argv[1:] + [""] * 2
+    places = {name: path or os.path.join(ROOT, f"crates/{name}/out/{name}") for name, path in zip(("euler_align", "euler_desk"), given)}
+    return places["euler_align"], {name: path for name, path in places.items() if os.path.exists(path)}
+
+
 def main():
-    program = sys.argv[1] if len(sys.argv) > 1 else os.path.join(ROOT, "crates/euler_align/out/euler_align")
+    program, programs = programs_there()
     faults, told = [], []
-    if os.path.exists(program):
-        count, skipped, rdflib = 0, 0, has_rdflib()
+    if "euler_align" in programs:
+        count, skipped, there = 0, collections.Counter(), [*programs] + ["rdflib"] * has_rdflib()
         for page in SHOWN:
             with tempfile.TemporaryDirectory() as folder:
-                ran, left, wrong = run_page(page, program, folder, rdflib)
+                ran, left, wrong = run_page(page, programs, folder, there)
             count, skipped = count + ran, skipped + left
             faults += wrong
-        told.append(f"{count} command lines run" + (f", {skipped} skipped for want of rdflib" if skipped else ""))
+        told += [f"{count} command lines run"] + [f"{times} skipped for want of {thing}" for thing, times in sorted(skipped.items())]
     else:
         told.append(f"no program at {os.path.relpath(program)}, so no command line was run")
     for name, look in [("links", link_faults), ("quotes", quote_faults), ("crates", crate_faults), ("rows of what must be read", reading_faults), ("commands", word_faults)]:

@@ -134,6 +134,17 @@ JOINS = [
     ),
 ]
 
+# lines that are not kept, under a limit of memory in KiB: what each is called, what stands before the zero bytes, how many there are, what
+# stands behind them, and the answer
+LIMIT, LONG = 1 << 17, 300_000_000
+UNKEPT = [
+    ("a small certificate", WHOLE, 0, b"", (0, "from .\n=\n>\n<\nx\n!\nto -\naccepted 5\n")),
+    ("one line without an end", b"", LONG, b"", (7, "certificate 1 EndsEarly\n")),
+    ("one line with its end", b"", LONG, b"\n", (7, "certificate 1 BadLine\n")),
+    ("a line in a listing", LISTING + ROOT, LONG, b"\nend .\n", (7, "certificate 3 BadLine\n")),
+    ("a line behind the last", WHOLE, LONG, b"", (7, "certificate 9 BadLine\n")),
+]
+
 
 def answered(program, folder, *request):
     """The exit code and standard output of a run, and its processor seconds."""
@@ -171,6 +182,19 @@ def joined(program, folder, make, count):
     return sum(len(files.get(name, name)) + 1 for name in names), seconds, wanted[1].split("\n")[-2], fault_of(got, wanted)
 
 
+def limited(program, folder, name, front, zeros, behind, wanted):
+    """Tells of a check under the limit; whether its answer is as wanted."""
+    path = os.path.join(folder, "c")
+    hold(folder, "c", front)
+    os.truncate(path, len(front) + zeros)
+    with open(path, "ab") as f:
+        f.write(behind)
+    got, seconds = answered("sh", folder, "-c", f'ulimit -v {LIMIT}; exec "$@"', "sh", program, "check", "in=p", "cert=c")
+    fault = fault_of(got, wanted)
+    print(f"under a limit, {name}: {os.path.getsize(path) / 1e6:.1f} MB, {seconds:.2f} s: {fault or wanted[1].splitlines()[-1]}", flush=True)
+    return not fault
+
+
 def judged(name, few, many):
     """Tells of a try with a quarter of the things and of one with all; whether both are as wanted."""
     (few_bytes, few_seconds, _, few_fault), (many_bytes, seconds, last, fault) = few, many
@@ -194,6 +218,8 @@ def main():
         for name, make, times in CASES:
             count = times * 1_000_000 // part
             came.append(judged(name, *(checked(program, folder, problem, make, number) for number in (count // 4, count))))
+        for case in UNKEPT:
+            came.append(limited(program, folder, *case))
         for name, text, make, count in JOINS:
             hold(folder, "p", text)
             came.append(judged(f"join, {name}", *(joined(program, folder, make, number // part) for number in (count // 4, count))))

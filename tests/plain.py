@@ -420,7 +420,9 @@ def print_token(problem, position):
 
 
 def is_number(word, low, high):
-    return word.isascii() and word.isdigit() and (word == "0" or word[0] != "0") and low <= int(word) <= high
+    # Python makes no numbers of thousands of digits
+    is_decimal = word.isascii() and word.isdigit() and (word == "0" or word[0] != "0")
+    return is_decimal and len(word) <= len(str(high)) and low <= int(word) <= high
 
 
 def read_token(problem, data):

@@ -1,7 +1,7 @@
 """What the words of the command line come to: their first usage fault, as docs/FORMATS.md has it."""
 
 import plain
-from commands import KEYS, KINDS, LIMIT, MOST_PARTS, ROWS, names_in
+from commands import DESK, KEYS, KINDS, LIMIT, MOST_PARTS, ROWS, names_in
 
 
 def usage_of(words):
@@ -10,9 +10,26 @@ def usage_of(words):
         return "NoCommand"
     if words[0] not in ROWS:
         return "UnknownCommand"
-    row = ROWS[words[0]]
     given = {}
-    for word in words[1:]:
+    fault = operands_fault(ROWS[words[0]], words[1:], given)
+    if fault:
+        return fault
+    if ("nodes" in given or "worlds" in given) and "token" not in given:
+        return "BudgetWithoutToken"
+    if is_name_twice(given) or (words[0] == "parts" and is_token_of_part(given)):
+        return "SameName"
+    return None
+
+
+def desk_usage_of(words):
+    """The first usage fault of the words of the desk's program, or None."""
+    given = {}
+    return operands_fault(DESK, words, given) or ("SameName" if is_name_twice(given) else None)
+
+
+def operands_fault(row, words, given):
+    """The first fault of words that give keys of a row, or None; the values are put into a dictionary."""
+    for word in words:
         if "=" not in word:
             return "NotOperand"
         key, value = word.split("=", 1)
@@ -39,15 +56,13 @@ def usage_of(words):
             if len(set(kinds)) < len(kinds):
                 return "KindTwice"
         given[key] = value
-    if any(key not in given for key in row.required):
-        return "MissingKey"
-    if ("nodes" in given or "worlds" in given) and "token" not in given:
-        return "BudgetWithoutToken"
-    # a name may stand twice under one key
+    return "MissingKey" if any(key not in given for key in row.required) else None
+
+
+def is_name_twice(given):
+    """Whether two keys name one file; a name may stand twice under one key."""
     files = [name for key, value in given.items() for name in set(names_in(key, value))]
-    if len(set(files)) < len(files) or (words[0] == "parts" and is_token_of_part(given)):
-        return "SameName"
-    return None
+    return len(set(files)) < len(files)
 
 
 def is_token_of_part(given):

@@ -73,12 +73,12 @@ class Folder:
         return code, *texts
 
 
-def program():
-    """The program that the tools find; None where there is none."""
+def program(name="euler_align"):
+    """The program of a name that the tools find; None where there is none."""
     import program as finder
     from tables import Fault
 
     try:
-        return finder.path()
+        return finder.path(name)
     except Fault:
         return None

@@ -1,4 +1,5 @@
-"""Finds and runs the program: what the variable EULER_ALIGN names, else what lies beside the tools, else what is on the path."""
+"""Finds and runs the program: what the variable EULER_ALIGN names, else what lies beside the tools, else what is on the path. The desk's
+program is found so by EULER_DESK."""
 
 import os
 import shutil
@@ -8,23 +9,24 @@ from tables import Fault
 
 HERE = os.path.dirname(os.path.realpath(__file__))
 # beside the tools, and built in the repository; where the tools are installed, in the folder of programs beside PREFIX/share
-BESIDE = ["euler_align", "../crates/euler_align/out/euler_align"]
+BESIDE = ["{0}", "../crates/{0}/out/{0}"]
 if HERE.endswith("share/euler_align/tools"):
-    BESIDE.append("../../../bin/euler_align")
+    BESIDE.append("../../../bin/{0}")
 CODES = {1: "the problem has a fault", 2: "the words are wrong", 3: "a file can't be read", 4: "a file can't be written", 9: "there was no memory"}
 
 
-def path():
-    """The program; a fault where there is none."""
-    named = os.environ.get("EULER_ALIGN")
+def path(name="euler_align"):
+    """The program of a name; a fault where there is none."""
+    variable = name.upper()
+    named = os.environ.get(variable)
     if named:
         if not os.access(named, os.X_OK):
-            raise Fault(f"EULER_ALIGN names {named}, which is no program")
+            raise Fault(f"{variable} names {named}, which is no program")
         return os.path.abspath(named)
-    beside = (shutil.which(os.path.normpath(os.path.join(HERE, place))) for place in BESIDE)
-    found = next((place for place in beside if place), None) or shutil.which("euler_align")
+    beside = (shutil.which(os.path.normpath(os.path.join(HERE, place.format(name)))) for place in BESIDE)
+    found = next((place for place in beside if place), None) or shutil.which(name)
     if not found:
-        raise Fault("the program euler_align is neither on the path nor beside the tools; put it on the path, or name it by the variable EULER_ALIGN")
+        raise Fault(f"the program {name} is neither on the path nor beside the tools; put it on the path, or name it by the variable {variable}")
     return found
 
 

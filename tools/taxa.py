@@ -4,6 +4,7 @@ A file is read leniently here, line by line: what the program would refuse is ke
 all of it at once.
 """
 
+import difflib
 import re
 import sys
 
@@ -162,6 +163,31 @@ def entry(left, letters, right):
     """The statement that a pair has one of these relations."""
     words = [WORD_OF[letter] for letter in LETTERS if letter in letters]
     return f"[{left} {words[0] if len(words) == 1 else '{' + ' '.join(words) + '}'} {right}]"
+
+
+def nearest(name, names):
+    """The names that it may be meant for; letters' case, and what parts words, count little."""
+    plain = {}
+    for other in names:
+        plain.setdefault(other.casefold().replace("-", "_"), other)
+    found = difflib.get_close_matches(name.casefold().replace("-", "_").rstrip(",;"), plain, n=3, cutoff=0.7)
+    return [plain[key] for key in found]
+
+
+def unknown_name(problem, full):
+    """What to say of a name that no row has."""
+    owner, dot, name = full.partition(".")
+    if not dot:
+        homes = [t.name for t in problem.taxonomies if full in t.concepts]
+        return f"{full} names no taxonomy; write {joined([f'{home}.{full}' for home in homes]) if homes else 'TAXONOMY.' + full}"
+    taxonomy = problem.taxonomy(owner)
+    if taxonomy is None:
+        names = [t.name for t in problem.taxonomies]
+        near = [t.name for t in problem.taxonomies if name in t.concepts] or nearest(owner, names) or names
+        return f"there is no taxonomy {owner}, in {full}" + (f"; is it {joined(near)}?" if near else "")
+    near = [f"{owner}.{other}" for other in nearest(name, taxonomy.concepts)]
+    near += [f"{t.name}.{name}" for t in problem.taxonomies if name in t.concepts]
+    return f"no row has {full}" + (f"; is it {joined(near)}?" if near else f", and {owner} has no name like it")
 
 
 def joined(words, last="or"):

@@ -1,13 +1,12 @@
 //! What people are told, on standard error, of an ending that is not good, and what to do about it.
 
 use crate::usage::{asks_for_help, explain_fault, explain_program};
-use align_top::{Key, Status, UsageKind, fault_place, text_help};
-use cleantax_text::TextKind;
+use align_top::{Key, Status, UsageKind};
 use outer_store::FileStore;
 use run_help::{
-    certificate_help, explain_empty, explain_gap, explain_many, explain_open, explain_pair,
-    explain_part, explain_read, explain_write, line_of, read_again, refused_token, rejection_help,
-    show_line, switch_words, token_help, unknown_names, value_of,
+    certificate_help, command_of, explain_empty, explain_gap, explain_many, explain_open,
+    explain_pair, explain_part, explain_read, explain_text, explain_write, refused_token,
+    rejection_help, switch_words, token_help, value_of,
 };
 use std::alloc::Global;
 use std::io;
@@ -35,37 +34,12 @@ fn explain_usage(
     explain_fault(rt, alloc, words, &watchers, kind)
 }
 
-// What to say of a fault of a text besides what holds of every fault of its kind, if there is memory for it.
-fn told_of_names(alloc: Global, text: &str, line: u32, kind: TextKind) -> Vec<String> {
-    if kind != TextKind::UnknownConcept {
-        return Vec::new(alloc);
+// Tells which of the files that the command reads can't be read.
+fn explain_unread(rt: &HostRuntime, words: &[String]) -> io::Result<()> {
+    match command_of(words) {
+        Some(command) => explain_read(rt, words, command.reads()),
+        None => Ok(()),
     }
-    match unknown_names(alloc, text, line) {
-        Ok(told) => told,
-        Err(_) => Vec::new(alloc),
-    }
-}
-
-// Tells what is wrong with a line of the problem's text, or with the text as a whole, and shows the line.
-fn explain_text(rt: &HostRuntime, words: &[String], line: u32, kind: TextKind) -> io::Result<()> {
-    let alloc = rt.alloc();
-    let input = value_of(words, Key::In);
-    let place = fault_place(alloc, input, line)?;
-    let bytes = read_again(rt, input);
-    let text = match std::str::from_utf8(&bytes) {
-        Ok(text) => text,
-        Err(_) => "",
-    };
-    let told = told_of_names(alloc, text, line, kind);
-    for sentence in told.iter() {
-        let sentence = sentence.as_str();
-        eprintln!(rt; "{place}{sentence}")?;
-    }
-    if told.is_empty() {
-        let sentence = text_help(kind);
-        eprintln!(rt; "{place}{sentence}")?;
-    }
-    show_line(rt, line_of(text, line))
 }
 
 // Tells what is wrong with a line of a certificate.
@@ -99,7 +73,7 @@ pub(crate) fn explain(
     match status {
         Status::Usage(kind) => explain_usage(rt, rt.alloc(), words, *kind),
         Status::RefusedText { line, kind } => explain_text(rt, words, *line, *kind),
-        Status::ReadFault => explain_read(rt, words),
+        Status::ReadFault => explain_unread(rt, words),
         Status::WriteFault => explain_write(rt, words, store),
         Status::RefusedToken(kind) => {
             let name = refused_token(rt, words);

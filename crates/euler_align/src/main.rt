@@ -7,47 +7,13 @@ mod usage;
 use align_top::{Status, run};
 use explain::explain;
 use outer_store::{FileStore, StdoutSink};
+use run_help::{NoWords, given_words};
 use std::alloc::AllocError;
+use std::fs;
 use std::process::ExitCode;
-use std::{env, fs, io};
 use world_watch::{
     CountWatcher, JsonWatcher, MergeWatcher, SeenWatcher, TallyWatcher, WorldWatcher,
 };
-
-/// Why there are no words to go by.
-#[derive(Clone, Copy)]
-enum NoWords {
-    /// The system gives none.
-    Refused,
-    NoMemory,
-}
-
-impl NoWords {
-    fn code(self) -> u8 {
-        match self {
-            NoWords::Refused => 2,
-            NoWords::NoMemory => 9,
-        }
-    }
-}
-
-// Why the words were not given.
-fn no_words(error: io::Error) -> NoWords {
-    match error.kind() {
-        io::ErrorKind::OutOfMemory => NoWords::NoMemory,
-        _ => NoWords::Refused,
-    }
-}
-
-// The words after the program's name.
-fn given_words(rt: &HostRuntime) -> Result<Vec<String>, NoWords> {
-    let mut words = Vec::new(rt.alloc());
-    let args = env::args(rt).map_err(no_words)?;
-    for word in args.skip(1) {
-        words.push(word).map_err(|_| NoWords::NoMemory)?;
-    }
-    Ok(words)
-}
 
 // Does what the words ask for, on the files of the system and standard output. Where no memory is found for the watchers,
 // nothing is done.

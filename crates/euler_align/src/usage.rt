@@ -3,22 +3,10 @@
 use align_top::{
     Command, Key, KeyKind, UsageKind, WordsFault, command_help, key_help, read_words, usage_help,
 };
-use run_help::{command_of, key_of, kind_of, nearest};
+use run_help::{asks_for_help, command_of, is_given, key_of, kind_of, nearest, usage_advice};
 use std::alloc::{AllocError, Global};
 use std::io;
 use world_watch::WorldWatcher;
-
-fn is_help(word: &str) -> bool {
-    word == "--help" || word == "-h" || word == "help"
-}
-
-/// Whether the only word asks for help. It is no command: the run ends as it does with any other word that is none.
-pub(crate) fn asks_for_help(words: &[String]) -> bool {
-    match words.split_first() {
-        Some((word, further)) => further.is_empty() && is_help(word.as_str()),
-        None => false,
-    }
-}
 
 /// Tells what the program is for, what its words are and where its manual is.
 pub(crate) fn explain_program(rt: &impl Eprint, alloc: Global) -> io::Result<()> {
@@ -54,10 +42,6 @@ fn first_wrong<'a>(
         }
     }
     ""
-}
-
-fn is_given(words: &[String], key: &str) -> bool {
-    words.iter().any(|word| key_of(word.as_str()) == key)
 }
 
 // The first key that the command must have and no word gives.
@@ -98,28 +82,6 @@ fn numbers_of(alloc: Global, kind: Option<KeyKind>) -> Result<String, AllocError
     format!(in alloc; "give a{even} number from {least} to {most}, without a leading zero")
 }
 
-// What to do about a fault of this kind, whatever the word.
-fn advice(kind: UsageKind) -> &'static str {
-    match kind {
-        UsageKind::NoCommand | UsageKind::UnknownCommand => "begin with one of these",
-        UsageKind::NotOperand => {
-            "write a key, an equals sign and a value, with no space between them"
-        }
-        UsageKind::UnknownKey => "take one of those above",
-        UsageKind::KeyTwice => "give it once",
-        UsageKind::BadSwitch => "write on or off",
-        UsageKind::BadNumber | UsageKind::ZeroBudget => "give another number",
-        UsageKind::BadSet => "give one or more of the letters = > < x !",
-        UsageKind::EmptyName => "write the file's name behind the equals sign",
-        UsageKind::UnknownKind => {
-            "give one or more of count, tally, seen, merge and json, with commas and no spaces between"
-        }
-        UsageKind::KindTwice => "name it once",
-        UsageKind::MissingKey | UsageKind::BudgetWithoutToken => "add it",
-        UsageKind::SameName => "give each a name of its own",
-    }
-}
-
 // What to do about a fault of this kind at a word.
 fn advice_at(
     alloc: Global,
@@ -133,7 +95,7 @@ fn advice_at(
             alloc,
             "the tokens have this name with a number behind it; give one with which in= does not begin",
         ),
-        _ => String::from_str(alloc, advice(kind)),
+        _ => String::from_str(alloc, usage_advice(kind)),
     }
 }
 

@@ -1,4 +1,4 @@
-//! What people are told of a file that can't be read or written: which one, by the command's row of the table.
+//! What people are told of a file that can't be read or written: which one, by a row of the table.
 
 use crate::line::is_there;
 use crate::words::{command_of, files_of, value_in, value_of};
@@ -20,13 +20,6 @@ fn joined(alloc: Global, names: &[&str], between: &str) -> Result<String, AllocE
         text.push_str(name)?;
     }
     Ok(text)
-}
-
-fn files_read(alloc: Global, words: &[String]) -> Result<Vec<&str>, AllocError> {
-    match command_of(words) {
-        Some(command) => files_of(alloc, words, command.reads()),
-        None => Ok(Vec::new(alloc)),
-    }
 }
 
 // The names of the tokens of parts: the first so many that there may be, each with its number.
@@ -78,9 +71,9 @@ fn unread(rt: &HostRuntime, names: &[&str]) -> Result<String, AllocError> {
     joined(rt.alloc(), names, " or ")
 }
 
-/// Tells that a file can't be read: which one, where one of several is not there.
-pub fn explain_read(rt: &HostRuntime, words: &[String]) -> io::Result<()> {
-    let names = files_read(rt.alloc(), words)?;
+/// Tells that a file can't be read whose name words give one of these keys: which one, where one of several is not there.
+pub fn explain_read(rt: &HostRuntime, words: &[String], keys: &[Key]) -> io::Result<()> {
+    let names = files_of(rt.alloc(), words, keys)?;
     let told = unread(rt, &names)?;
     eprintln!(rt;
         "{told}: this file can't be read; check that it exists, that it is not a folder, and that you may read it"

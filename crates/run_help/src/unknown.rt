@@ -153,11 +153,7 @@ fn problem_of(alloc: Global, text: &[u8]) -> Option<Problem> {
 }
 
 /// What to say of a word that was to name a concept of a problem, by its text; nothing where it names one.
-pub(crate) fn unknown_name(
-    alloc: Global,
-    text: &[u8],
-    word: &str,
-) -> Result<Option<String>, AllocError> {
+pub fn unknown_name(alloc: Global, text: &[u8], word: &str) -> Result<Option<String>, AllocError> {
     let Some(problem) = problem_of(alloc, text) else {
         return Ok(None);
     };
@@ -172,7 +168,11 @@ pub(crate) fn unknown_name(
 }
 
 /// What to say of each name of a statement that no row above has, by the text and the number of the statement's line.
-pub fn unknown_names(alloc: Global, text: &str, number: u32) -> Result<Vec<String>, AllocError> {
+pub(crate) fn unknown_names(
+    alloc: Global,
+    text: &str,
+    number: u32,
+) -> Result<Vec<String>, AllocError> {
     let mut told = Vec::new(alloc);
     let above = above(alloc, text, number)?;
     let Some(problem) = problem_of(alloc, above.as_bytes()) else {

@@ -4,6 +4,7 @@ use super::feeding::fed_lines;
 use super::last_watcher::LastWatcher;
 use super::own_watcher::OwnWatcher;
 use align_top::run;
+use desk_run::serve;
 use outer_store::{MemorySink, MemoryStore};
 use std::alloc::{AllocError, Global};
 use std::cell::Cell;
@@ -48,7 +49,7 @@ enum Watching {
 /// A line `@ NAME` begins a file, whose lines follow. `$ WORDS` is a run, `? CODE` its exit code, and what it puts stands between.
 /// `& WORDS` is a run with watchers of its own: `one`, `stop`, which finds no memory at the third world, and `one` once more; `~ N` tells
 /// how many of these, and the scene, were there when one of them was first shown a world. `^ WORDS` is a run with a watcher of its own,
-/// `last`, which keeps the last table, and with `count`.
+/// `last`, which keeps the last table, and with `count`. `: WORDS` is a run of the desk.
 ///
 /// `+ TABLES` feeds tables of the problem in the file `p`, each by its letters, to `count` and to a `stop` that counts too, with no run
 /// around them; `fed N` tells how many both took, and what each of the two then reports stands behind its name.
@@ -90,6 +91,17 @@ impl Scene {
         }
     }
 
+    fn put_code(&mut self, code: u8) -> Result<(), AllocError> {
+        let end = format!(in self.alloc; "? {code}")?;
+        self.put_line(end.as_str())
+    }
+
+    /// A sink of which the call fails that is to.
+    fn new_sink(&self) -> Result<MemorySink, AllocError> {
+        let failing = vec![in self.alloc; self.failing_put]?;
+        Ok(MemorySink::new(self.alloc, failing))
+    }
+
     /// Holds the file whose lines have been played.
     fn end_file(&mut self) -> Result<(), AllocError> {
         if let Some(name) = &self.name {
@@ -102,7 +114,7 @@ impl Scene {
 
     fn run(&mut self, text: &str, watching: Watching) -> Result<(), AllocError> {
         let words = words_of(self.alloc, text)?;
-        let mut sink = MemorySink::new(self.alloc, vec![in self.alloc; self.failing_put]?);
+        let mut sink = self.new_sink()?;
         let held = Rc::new(self.alloc, Cell::new(0))?;
         let code = match watching {
             Watching::Program => self.run_words(&words, &mut sink)?,
@@ -115,8 +127,16 @@ impl Scene {
             let shown = format!(in self.alloc; "~ {count}")?;
             self.put_line(shown.as_str())?;
         }
-        let end = format!(in self.alloc; "? {code}")?;
-        self.put_line(end.as_str())
+        self.put_code(code)
+    }
+
+    /// Serves a script at the desk.
+    fn serve(&mut self, text: &str) -> Result<(), AllocError> {
+        let words = words_of(self.alloc, text)?;
+        let mut sink = self.new_sink()?;
+        let code = serve(self.alloc, &words, &mut self.store, &mut sink).code();
+        self.put_bytes(sink.bytes())?;
+        self.put_code(code)
     }
 
     /// Runs with a watcher of each kind, as the program does, and answers the exit code.
@@ -198,6 +218,7 @@ impl Scene {
             "$" => self.run(rest, Watching::Program),
             "&" => self.run(rest, Watching::Own),
             "^" => self.run(rest, Watching::Last),
+            ":" => self.serve(rest),
             "+" => self.feed(rest),
             "=" => self.show(rest),
             _ => self.renew(rest),
@@ -220,7 +241,7 @@ pub fn played(alloc: Global, text: &str) -> Result<String, AllocError> {
     let mut scene = Scene::new(alloc);
     for line in text.lines() {
         match line.split_once(' ') {
-            Some((sign, rest)) if matches!(sign, "@" | "$" | "&" | "^" | "+" | "=" | "%") => {
+            Some((sign, rest)) if matches!(sign, "@" | "$" | "&" | "^" | ":" | "+" | "=" | "%") => {
                 scene.play_sign(line, sign, rest)?;
             }
             _ => scene.play_other(line)?,

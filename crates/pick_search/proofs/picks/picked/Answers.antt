@@ -13,8 +13,8 @@ loop-pick-init c = none_picked c.args.problem.now c.in_ok-node.node c.args.pairs
 
 pub loop-pick-preserved : goal.loop-pick-preserved
 loop-pick-preserved c =
-    subst (λ ps. IsPicked c.args.problem.now c.args.pairs.now ps c.in_ok-node-2.node) (sym (take_more c.args.picks.now c.loop-pick.pick-index _ c.loop-pick-test.true))
-    (more_picked c.args.problem.now c.loop-pick.node c.in_ok-node-2.node c.args.pairs.now (take c.loop-pick.pick-index c.args.picks.now) _ c.loop-pick.invariant c.in_ok-node-2.ensures)
+    subst (λ ps. IsPicked c.args.problem.now c.args.pairs.now ps c.narrow_by.new.node) (sym (take_more c.args.picks.now c.loop-pick.pick-index _ c.loop-pick-test.true))
+    (more_picked c.args.problem.now c.loop-pick.node c.narrow_by.new.node c.args.pairs.now (take c.loop-pick.pick-index c.args.picks.now) _ c.loop-pick.invariant c.in_ok-narrow_by.ensures)
 
 pub returns : goal.returns
 returns c =
