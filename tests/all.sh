@@ -51,16 +51,16 @@ part "tools/to_table" env EULER_ALIGN="$program" python3 ../tools/test_to_table.
 part "tools/list, tools/watch" env EULER_ALIGN="$program" python3 ../tools/test_long_work.py
 part "tools/desk" python3 ../tools/test_desk.py
 part "completions" python3 completions.py "$program"
-part "messages" python3 messages.py "$program"
+part "messages" python3 messages.py "$program" "$desk"
 part "figures" python3 figures.py
 part "package" ./package.sh "$program" "$desk"
 part "rows" python3 rows.py "$program"
 part "faults" python3 faults.py "$scenes"
 part "json_names" python3 json_names.py --program "$program"
-part "devices" python3 devices.py "$program"
-part "refused, each 9th allocation" python3 refused.py "$program" --every 9
+part "devices" python3 devices.py "$program" --desk "$desk"
+part "refused, each 9th allocation" python3 refused.py "$program" --every 9 --desk "$desk"
 part "certificate_bytes" python3 certificate_bytes.py "$program"
-part "hostile, small" python3 hostile.py "$program" --quick
+part "hostile, small" python3 hostile.py "$program" --quick --desk "$desk"
 part "revisions" python3 revisions.py "$program"
 part "killed" python3 killed.py "$program" --count 24
 part "cluster" python3 cluster.py "$program"
@@ -72,8 +72,8 @@ else
 fi
 if [ -z "$quick" ]; then
   part "killed at 200 moments" python3 killed.py "$program" --count 200 --seed 2
-  part "refused" python3 refused.py "$program"
-  part "hostile" python3 hostile.py "$program"
+  part "refused" python3 refused.py "$program" --desk "$desk"
+  part "hostile" python3 hostile.py "$program" --desk "$desk"
   part "differential, 5,000 other cases" python3 differential.py --count 5000 --seed 2 --program "$program"
   [ ! -x "$desk" ] || part "desk, 2,000 other cases" python3 desk.py --cases 2000 --seed 2 "$desk"
   part "breaks" python3 breaks.py --program "$program" --desk "$desk"

@@ -151,6 +151,17 @@ FAILING_CALLS = [
     (ALONE, {}, "align in=p nodes=3"),
 ]
 
+# the same at the desk
+DESK_CALLS = [
+    (PARTINGS, {"s": "1 open\n2 open\n1 next\n2 keep 0\n2 narrow 2.D 1.A =\n1 next\n2 next\n1 open\n3 next\n1 close\n"}, "in=p script=s"),
+    (SPLIT, {"s": "16 open\n\n16 next\n16 narrow 1.A 3.C x\n16 next\n16 next\n1 keep 000\n16 keep 110\n16 next\n"}, "coverage=off script=s in=p"),
+    (ALONE, {"s": ""}, "in=p script=s"),
+    (ALONE, {"s": "1 open\n" + "\n" * 4096 + "1 next\n"}, "in=p script=s"),
+    (ALONE, {"s": "1 open\n17 open\n"}, "in=p script=s"),
+    (ALONE + "articulation\n[1.A equals 2.C]\n", {"s": "1 open\n"}, "in=p script=s"),
+    (ALONE, {}, "in=p"),
+]
+
 # runs whose allocations are refused, each in its turn
 REFUSED_MEMORY = [
     (PARTINGS, {}, "align in=p"),
@@ -181,6 +192,18 @@ REFUSED_MEMORY = [
     (CROWD, {}, "lattice in=p cert=c"),
     (ALONE, {"r": TOKEN[:-3]}, "align in=p resume=r"),
     (ALONE, {}, "align in=p nodes=0"),
+]
+
+# at the desk: problems with their scripts. The second has too many points for a table, so its worlds are found by questions
+MANY_POINTS = "".join(f"taxonomy {t}\n" + "".join(f"({c}{k})\n" for k in range(9)) for t, c in ((1, "A"), (2, "B"))) + "articulation\n[1.A0 overlaps 2.B0]\n"
+DESK_REFUSED = [
+    (
+        PARTINGS,
+        "1 open\n2 open\n1 next\n2 keep 0\n2 narrow 1.A 2.D =\n1 next\n2 next\n1 open\n3 next\n1 narrow 2.E 1.B >x\n1 next\n2 next\n1 keep 0\n"
+        "1 next\n1 close\n1 open\n1 next\n1 narrow 1.B 2.E !\n1 next\n1 narrow 1.B 2.E =\n1 next\n",
+    ),
+    (MANY_POINTS, "1 open\n1 next\n1 next\n"),
+    (MANY_POINTS, "1 open\n2 open\n2 keep 0\n1 next\n2 next\n1 next\n2 next\n1 narrow 2.B0 1.A0 x\n2 close\n"),
 ]
 
 # a run of each command on devices, with the most files that it can have: p is a problem, q one in conflict, k a certificate of its listing,

@@ -1,20 +1,25 @@
 #!/usr/bin/env python3
 """What the built program does where a file, a folder, a device or standard output fails it, and where memory is scarce.
 
-    tests/devices.py [PROGRAM] [--memory-only | --no-memory] [--verbose]
+    tests/devices.py [PROGRAM] [--memory-only | --no-memory] [--verbose] [--desk DESK]
 
-For each command, each file that it reads or writes, and standard output: an endless device, a full one, a folder, a file or a folder
-without permission, an absent name, a name in an absent folder, a closed standard output, a pipe whose reader left, a file that grows; and
-for each file that it writes another name of one that it reads (`./`, a path, a link, a hard link): that file keeps its bytes, and both
-words are told. Tokens of parts, which have a number behind the word that is given, are links to such devices and files.
+For each command, and for the desk, each file that it reads or writes, and standard output: an endless device, a full one, a folder, a file
+or a folder without permission, an absent name, a name in an absent folder, a closed standard output, a pipe whose reader left, a file that
+grows; and for each file that it writes another name of one that it reads (`./`, a path, a link, a hard link): that file keeps its bytes,
+and both words are told. Tokens of parts, which have a number behind the word that is given, are links to such devices and files.
 Each try looks at the exit code; at standard output, which is the right one, or a first part of it and then the last line of the fault; at
-what is in the folder, where nothing may change but the files that the command writes, and these hold a first part of what is right, or
-what they held; and at standard error, which says something where the fault is one of the words or of a text. Then each command runs under
-`ulimit -v` from small to ample: it answers rightly, or ends with 9 and `no memory`. A run counts as the program's where the system's
-loader handed it control (glibc's LD_DEBUG says so); what fails before that is not the program's. It ends with status 1 if a try failed.
+what is in the folder, where nothing may change but the files that the command writes, and these hold a first part of what is right, or what
+they held; and at standard error, which says something where the fault is one of the words or of a text. Then each command runs under
+`ulimit -v` from small to ample: it answers rightly, or ends with 9 and `no memory`; the desk may also tell so of a request, and go on. A
+run counts as the program's where the system's loader handed it control (glibc's LD_DEBUG says so); what fails before that is not the
+program's. It ends with status 1 if a try failed.
+The desk's script comes from pipes too. Where the desk isn't built, it is left out.
 """
 
 import argparse
+import collections
+import functools
+import itertools
 import os
 import shutil
 import stat
@@ -22,8 +27,10 @@ import subprocess
 import sys
 import tempfile
 import threading
+import time
 
 import plain
+import plain_desk
 from commands import ON_DEVICES, ROWS, files_written, names_in, values_of
 
 HERE = os.path.dirname(os.path.abspath(__file__))
@@ -50,9 +57,18 @@ def named(words, keys):
 
 # name: words, the files that are read and the files that are written, each with its key
 COMMANDS = {name: (words, named(words, ROWS[name].reads), named(words, ROWS[name].writes)) for name, words in ON_DEVICES.items()}
+COMMANDS["desk"] = "in=p script=s", [("in", "p"), ("script", "s")], []
+SCRIPT = b"1 open\n1 next\n2 open\n2 narrow 2.r 1.s1 >\n2 next\n1 next\n2 keep 0\n2 next\n3 next\n1 narrow 1.b1 2.r <\n1 next\n2 close\n"
+# each slot takes some memory for its table of points; when four are closed again, there may be enough for others that had too little
+MANY = "".join(f"taxonomy {t}\n" + "".join(f"({c}{k})\n" for k in range(7)) for t, c in ((1, "A"), (2, "B"))) + "articulation\n[1.A0 overlaps 2.B0]\n"
+SLOTS = (
+    "".join(f"{k} open\n{k} narrow 1.A1 2.B1 {'><x!'[k % 4]}\n{k} next\n" for k in range(1, 9))
+    + "".join(f"{k} close\n" for k in range(1, 5))
+    + "".join(f"{k} next\n" for k in range(5, 9)) * 2
+)
 # what an endless file comes to, by its key; a certificate is read on, to byte number 68,719,476,737 of it
 BAD_TOKEN = (7, "token BadToken\n")
-ENDLESS = {"in": (1, "refused 0 TooLong\n"), "resume": BAD_TOKEN, "until": BAD_TOKEN}
+ENDLESS = {"in": (1, "refused 0 TooLong\n"), "resume": BAD_TOKEN, "until": BAD_TOKEN, "script": (7, "script 0 TooLong\n")}
 
 
 class Failed(Exception):
@@ -62,24 +78,31 @@ class Failed(Exception):
 class Bench:
     """A folder with the files of a try, and the program run in it."""
 
+    commands = list(ON_DEVICES)
+    problems = {"small": SMALL, "larger": LARGER}
+
     def __init__(self, program, folder, problem):
         self.folder = folder
-        self.program = os.path.join(folder, "euler_align")
+        self.program = os.path.join(folder, "program")
         shutil.copy(program, self.program)  # so that any user may run it
         os.chmod(self.program, 0o755)
         self.place = os.path.join(folder, "place")
-        self.files = {"p": problem[0], "q": b"".join(problem)}
+        self.files = self.first_files(problem)
         self.right = {}
         self.tries = self.silent = 0
         self.prepare()
 
+    def first_files(self, problem):
+        return {"p": problem[0], "q": b"".join(problem)}
+
     def prepare(self):
         """What the commands put and write where nothing fails: differential.py looks at whether it is right."""
-        for words, name in MADE:
+        for words, name in MADE if self.commands == list(ON_DEVICES) else []:
             self.fresh()
             self.run(words.split())
             self.files[name] = self.held()[name]
-        for name, (words, _, written) in COMMANDS.items():
+        for name in self.commands:
+            words, _, written = COMMANDS[name]
             self.fresh()
             code, out, _ = self.run(words.split())
             held = self.held()
@@ -118,13 +141,13 @@ class Bench:
                 found[name] = sorted(os.listdir(path)) if os.path.isdir(path) else "a device"
         return found
 
-    def run(self, words, stdout=subprocess.PIPE, kilobytes=None, nobody=False, before=None, seconds=120):
+    def run(self, words, stdout=subprocess.PIPE, kilobytes=None, nobody=False, before=None, seconds=120, **given):
         self.tries += 1
         command = [self.program] + words
         if kilobytes:
             command = ["sh", "-c", f'ulimit -v {kilobytes}; exec "$@"', "sh"] + command
         user = {"user": NOBODY, "group": NOBODY, "extra_groups": []} if nobody and os.geteuid() == 0 else {}
-        done = subprocess.run(command, cwd=self.place, stdout=stdout, stderr=subprocess.PIPE, timeout=seconds, preexec_fn=before, **user)
+        done = subprocess.run(command, cwd=self.place, stdout=stdout, stderr=subprocess.PIPE, timeout=seconds, preexec_fn=before, **user, **given)
         return done.returncode, done.stdout, done.stderr
 
     def judge(self, name, got, fault, changed=(), before=None):
@@ -154,6 +177,33 @@ class Bench:
         if code == right_code and out is not None and not set(right_files) & set(changed):
             if any(after.get(file) != data for file, data in right_files.items()):
                 raise Failed("right, but its files are not")
+
+
+class DeskBench(Bench):
+    """The same for the desk: a script over the problem, in which memory may be wanting for a request."""
+
+    commands = ["desk"]
+    problems = {"small": (SMALL[0], SCRIPT), "larger": (MANY.encode(), SLOTS.encode())}
+
+    def first_files(self, problem):
+        self.known = {}
+        return {"p": problem[0], "s": problem[1]}
+
+    def served(self, requests):
+        """What is put of some requests where there is memory."""
+        script = "".join(request + "\n" for request in requests).encode()
+        if script not in self.known:
+            self.known[script] = self.run(["in=p", "script=/dev/stdin"], input=script)[1].decode()
+        return self.known[script]
+
+    def judge(self, name, got, fault, changed=(), before=None):
+        code, out, told = got
+        if out and b" NoMemory\n" in out:
+            why = plain_desk.starved_fault(self.files["s"].decode().splitlines(), code, out.decode(), self.served)
+            if why or self.held() != self.files:
+                raise Failed(why or "a file is changed")
+            return
+        super().judge(name, got, fault, changed, before)
 
 
 def changed_words(words, key, file, value):
@@ -349,7 +399,8 @@ def output(bench, name, opened):
 def growing(bench, name, key, file):
     """The file grows while it is read: it is read as it was at some moment, or is too long, or is no token or certificate then."""
     words = COMMANDS[name][0].split()
-    line = b"# more\n" * 64 if key == "in" else b"more\n"
+    # lines that change nothing in a problem or a script
+    line = {"in": b"# more\n" * 64, "script": b" \t\n" * 64}.get(key, b"more\n")
     lines = bench.files[file].count(b"\n")
     place = [other for own, other in COMMANDS[name][1] if own == key].index(file) + 1
     fault = {
@@ -377,6 +428,73 @@ def growing(bench, name, key, file):
                 writer.join()
             bench.judge(name, got, [None, fault], changed=(file,))
     return make
+
+
+# The desk's script from standard input and pipes.
+
+
+def desk_tries(bench):
+    script, problem = bench.files["s"], bench.files["p"]
+    from_input = ["in=p", "script=/dev/stdin"]
+
+    def given(words, fault=None, **how):
+        return lambda: bench.judge("desk", bench.run(words, **how), fault)
+
+    def from_file():
+        with open(os.path.join(bench.place, "s"), "rb") as file:
+            bench.judge("desk", bench.run(from_input, stdin=file), None)
+
+    def here_document():
+        command = f"exec \"$0\" in=p script=/dev/stdin << 'END'\n{script.decode()}END\n"
+        done = subprocess.run(["sh", "-c", command, bench.program], cwd=bench.place, stdout=subprocess.PIPE, stderr=subprocess.PIPE, timeout=60)
+        bench.tries += 1
+        bench.judge("desk", (done.returncode, done.stdout, done.stderr), None)
+
+    def in_pieces(key, file, size):
+        """A pipe with a name, into which bytes come slowly."""
+        def make():
+            path = os.path.join(bench.place, "pipe")
+            os.mkfifo(path)
+
+            def write():
+                with open(path, "wb", buffering=0) as pipe:
+                    for begin in range(0, len(bench.files[file]), size):
+                        pipe.write(bench.files[file][begin : begin + size])
+                        time.sleep(0.002)
+
+            writer = threading.Thread(target=write)
+            writer.start()
+            before = bench.held()
+            bench.judge("desk", bench.run(changed_words(COMMANDS["desk"][0], key, file, "pipe")), None, before=before)
+            writer.join()
+        return make
+
+    def reader_leaves():
+        """The reader takes a line of very many, and leaves."""
+        bench.hold("s", b"1 open\n" + b"2 close\n" * 100_000)
+        before = bench.held()
+        run = subprocess.Popen([bench.program, "in=p", "script=s"], cwd=bench.place, stdout=subprocess.PIPE, stderr=subprocess.PIPE)
+        bench.tries += 1
+        first = run.stdout.readline()
+        run.stdout.close()
+        told = run.stderr.read()
+        run.stderr.close()
+        if first != b"1 opened\n" or run.wait(timeout=60) != WRITE_FAULT[0] or not told or bench.held() != before:
+            raise Failed(f"exit code {run.returncode}, {first!r} {told!r}")
+
+    yield "script from a pipe", given(from_input, input=script)
+    yield "script from a file at standard input", from_file
+    yield "script from a here-document", here_document
+    yield "script from a pipe with a name, a byte at a time", in_pieces("script", "s", 1)
+    yield "script from a pipe with a name, in pieces", in_pieces("script", "s", 50)
+    yield "script from an empty pipe", given(from_input, (0, "served 0\n"), input=b"")
+    yield "script from no device", given(["in=p", "script=/dev/null"], (0, "served 0\n"))
+    # where it is closed, nothing can be read from there: main opens an empty device in its place
+    yield "script from a closed standard input", given(from_input, (0, "served 0\n"), before=lambda: os.close(0))
+    yield "problem from a pipe", given(["in=/dev/stdin", "script=s"], input=problem)
+    yield "problem from a pipe with a name, in pieces", in_pieces("in", "p", 7)
+    yield "both from standard input", given(["in=/dev/stdin", "script=/dev/stdin"], (2, "usage SameName\n"), input=script)
+    yield "a reader that leaves", reader_leaves
 
 
 # Memory.
@@ -408,7 +526,7 @@ def least_limit(bench, words):
 
 def memory_tries(bench, name):
     """Runs a command under limits from small to ample; answers what the runs came to."""
-    words, counts = COMMANDS[name][0].split(), {"right": 0, "no memory": 0, "not begun": 0}
+    words, counts = COMMANDS[name][0].split(), collections.Counter({"right": 0, "no memory": 0, "not begun": 0})
     bench.fresh()
     least = least_limit(bench, words)
     counts["not begun"] = least // 64 - 1
@@ -423,7 +541,7 @@ def memory_tries(bench, name):
             bench.judge(name, got, [None, (9, "no memory\n" if got[1] else "")])
         except Failed as failed:
             raise Failed(f"under {kilobytes} KiB: {failed}")
-        counts["no memory" if got[0] == 9 else "right"] += 1
+        counts["no memory" if got[0] == 9 else "no memory for a request" if b" NoMemory\n" in got[1] else "right"] += 1
     if got[0] == 9 or not began:
         raise Failed("no answer with ample memory")
     return counts
@@ -443,28 +561,37 @@ def report(title, make, verbose):
     return True
 
 
+def all_tries(bench, size, given):
+    """The tries of each command at devices, where the problem is the small one, and under limits of memory."""
+    for name in [] if given.memory_only or size != "small" else bench.commands:
+        for title, make in itertools.chain(tries_of(bench, name), desk_tries(bench) if name == "desk" else []):
+            bench.fresh()
+            yield f"{name}, {title}", make
+    for name in [] if given.no_memory else bench.commands:
+        yield f"{name} of a {size} problem, under limits of memory", functools.partial(memory_tries, bench, name)
+
+
 def main():
     parser = argparse.ArgumentParser()
     parser.add_argument("program", nargs="?", default=os.path.join(HERE, "../crates/euler_align/out/euler_align"))
     parser.add_argument("--memory-only", action="store_true")
     parser.add_argument("--no-memory", action="store_true")
     parser.add_argument("--verbose", action="store_true")
+    parser.add_argument("--desk", default=os.path.join(HERE, "../crates/euler_desk/out/euler_desk"))
     given = parser.parse_args()
-    with tempfile.TemporaryDirectory() as folder:
-        os.chmod(folder, stat.S_IRWXU | stat.S_IXGRP | stat.S_IXOTH)
-        benches, came = [Bench(given.program, folder, SMALL)], []
-        for name in [] if given.memory_only else COMMANDS:
-            for title, make in tries_of(benches[0], name):
-                benches[0].fresh()
-                came.append(report(f"{name}, {title}", make, given.verbose))
-        if not given.no_memory:
-            benches.append(Bench(given.program, folder, LARGER))
-        for number, bench in enumerate([] if given.no_memory else benches):
-            for name in COMMANDS:
-                title = f"{name} of a {['small', 'larger'][number]} problem, under limits of memory"
-                came.append(report(title, lambda: memory_tries(bench, name), given.verbose))
-        runs, silent = sum(b.tries for b in benches), sum(b.silent for b in benches)
-        print(f"devices: {sum(came)} passed, {len(came) - sum(came)} failed, {runs} runs; {silent} faults with nothing on standard error")
+    has_desk, benches, came = os.access(given.desk, os.X_OK), [], []
+    for kind, program in [(Bench, given.program)] + [(DeskBench, given.desk)] * has_desk:
+        with tempfile.TemporaryDirectory() as folder:
+            os.chmod(folder, stat.S_IRWXU | stat.S_IXGRP | stat.S_IXOTH)
+            for size, problem in kind.problems.items():
+                if size == "larger" and given.no_memory:
+                    continue
+                bench = kind(program, folder, problem)
+                benches.append(bench)
+                came += [report(title, make, given.verbose) for title, make in all_tries(bench, size, given)]
+    runs, silent = sum(b.tries for b in benches), sum(b.silent for b in benches)
+    left_out = "" if has_desk else f"; the desk was left out, there is no program at {given.desk}"
+    print(f"devices: {sum(came)} passed, {len(came) - sum(came)} failed, {runs} runs; {silent} faults with nothing on standard error{left_out}")
     return 0 if all(came) else 1
 
 

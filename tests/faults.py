@@ -1,5 +1,5 @@
 #!/usr/bin/env python3
-"""Every call of the store and of the sink fails once, for each command, over objects in memory.
+"""Every call of the store and of the sink fails once, for each command and for the desk, over objects in memory.
 
     tests/faults.py [RUN_SCENES]
 
@@ -7,6 +7,9 @@ Transcripts for crates/run_scenes are made in which the k-th call fails, for eac
 a run with a fault puts must be a first part of what is right, and `read fault` behind it where it read in vain; the certificate and
 tokens must hold what they held, or a first part of what is right; other names must hold what they held. It ends with status 1 at the
 first run that is not so, and shows it.
+
+The desk puts what plain_desk.py says; and a line at a time, so that the lines before the one that fails are there, and no more. It reads a
+file in pieces of 4,096 bytes, and once more, which finds the end.
 """
 
 import os
@@ -14,7 +17,8 @@ import subprocess
 import sys
 import tempfile
 
-from commands import FAILING_CALLS, files_written
+import plain_desk
+from commands import DESK_CALLS, FAILING_CALLS, files_written
 
 HERE = os.path.dirname(os.path.abspath(__file__))
 OLD = {"c": "old c\n", "t": "old t\n", "z": "other\n"}
@@ -29,16 +33,21 @@ def as_lines(files):
     return {name: text if not text or text.endswith("\n") else text + "\n" for name, text in files.items()}
 
 
+def sign_of(words):
+    """The sign of a run: of the desk, or of a command."""
+    return ":" if "=" in words.split(" ")[0] else "$"
+
+
 def block(files, words, failing, put):
     """A transcript of one run in a new store; the lines that show what the names hold end with their names."""
     held = {**OLD, **files}
     shown = "".join(f"= {name}\n" for name in sorted(held))
-    return f"% {failing} {put} 0\n" + "".join(file_of(name, text) for name, text in sorted(held.items())) + f"$ {words}\n" + shown
+    return f"% {failing} {put} 0\n" + "".join(file_of(name, text) for name, text in sorted(held.items())) + f"{sign_of(words)} {words}\n" + shown
 
 
-def parts(out, names):
+def parts(out, sign, names):
     """What runs put, their exit codes and what the names hold then, run by run."""
-    for run in out.split("\n$ ")[1:]:
+    for run in out.split(f"\n{sign} ")[1:]:
         run = run.split("\n% ")[0].removesuffix("\n") + "\n"
         put, _, rest = run.partition("\n? ")
         put = put.partition("\n")[2]
@@ -57,7 +66,7 @@ def played(program, folder, problem, files, words, kind, most):
     with open(os.path.join(folder, "t.txt"), "w") as file:
         file.write(file_of("p", problem) + blocks)
     done = subprocess.run([program, "t.txt"], cwd=folder, stdout=subprocess.PIPE, timeout=100, check=True)
-    return list(parts("\n" + done.stdout.decode(), sorted({**OLD, **files})))
+    return list(parts("\n" + done.stdout.decode(), sign_of(words), sorted({**OLD, **files})))
 
 
 def is_first_part(text, whole):
@@ -105,11 +114,33 @@ def check_case(program, folder, case):
     return count
 
 
+def check_desk(program, folder, case):
+    """The same for the desk, with what it puts told beforehand."""
+    problem, files, words = case
+    held = {name: text.encode() for name, text in {"p": problem, **files}.items()}
+    code, text = plain_desk.answer(words.split(), held.get)
+    lines, count = text.splitlines(keepends=True), 0
+    # none is read where the words are at fault, and the problem alone where it is
+    read = [held["p"], held.get("s", b"")][: {2: 0, 1: 1}.get(code, 2)]
+    reads = sum(-(-len(data) // 4096) + 1 for data in read)
+    wanted = [[("read fault\n", 3)] * reads, [("".join(lines[:number]), 4) for number in range(len(lines))]]
+    for kind in (0, 1):
+        right, others = until_it_ends_well(program, folder, case, kind)
+        got = [run[:2] for run in others]
+        if right[:2] != (text, code) or got != wanted[kind]:
+            sys.exit(f"{words}: where calls of the {'sink' if kind else 'store'} fail: {right[:2]}, and then {got}\nwanted: {(text, code)}, and then {wanted[kind]}")
+        if any(run[2] != {**OLD, **files} for run in [right, *others]):
+            sys.exit(f"{words}: a name holds something else: {right[2]}, and then {[run[2] for run in others]}")
+        count += len(others)
+    return count
+
+
 def main():
     program = os.path.abspath(sys.argv[1] if len(sys.argv) > 1 else os.path.join(HERE, "../crates/run_scenes/out/run_scenes"))
     with tempfile.TemporaryDirectory() as folder:
         count = sum(check_case(program, folder, (problem, as_lines(files), words)) for problem, files, words in FAILING_CALLS)
-    print(f"{len(FAILING_CALLS)} runs, {count} calls that fail, nothing wrong")
+        of_desk = sum(check_desk(program, folder, (problem, as_lines(files), words)) for problem, files, words in DESK_CALLS)
+    print(f"{len(FAILING_CALLS)} runs, {count} calls that fail, and of the desk {len(DESK_CALLS)} runs, {of_desk} calls, nothing wrong")
 
 
 if __name__ == "__main__":

@@ -1,7 +1,8 @@
 #!/usr/bin/env python3
-"""Certificates that nobody would write in good faith: what `check` answers of them, and `join` of many, and in what time.
+"""Certificates that nobody would write in good faith: what `check` answers of them, and `join` of many, and in what time. And scripts for
+the desk.
 
-    tests/hostile.py [PROGRAM] [--quick]
+    tests/hostile.py [PROGRAM] [--quick] [--desk DESK]
 
 Each is made of some number of things: bytes of one word, literals, hints, lines, elements, sets, claims. It is tried with a quarter of
 them and with all; the answer must be that of certificates.py both times, and the processor's time may grow by no more than twice as much
@@ -9,6 +10,10 @@ as the bytes do (times below a tenth of a second count as a tenth). There are a 
 with `--quick` a tenth of that. So it is with what is joined, by plain_parts.py: there are as many names as a word may have, and 5,000 that
 are all needed, which is as many as `parts` tells of; with `--quick` a tenth. It ends with status 1 if an answer is another one or a time
 grows too fast.
+
+The desk's scripts are as long as they may be, with `--quick` a tenth of that, and are tried with a quarter of it too. The answer must be
+that of plain_desk.py, or of the program's listing where very many worlds are shown. What has no end must be refused within seconds. All of
+it goes within a limit of memory. Where the desk isn't built, it is left out.
 """
 
 import argparse
@@ -20,6 +25,7 @@ import tempfile
 
 import certificates
 import plain
+import plain_desk
 
 HERE = os.path.dirname(os.path.abspath(__file__))
 PROBLEM = b"taxonomy 1\n(A)\ntaxonomy 2\n(B)\n"
@@ -146,7 +152,90 @@ UNKEPT = [
 ]
 
 
-def answered(program, folder, *request):
+# The desk.
+
+# the limit is for both the scripts and what has no end, in KiB
+DESK_LIMIT = 1 << 15
+TWO_TREES = b"taxonomy 1\n(A B)\ntaxonomy 2\n(C)\narticulation\n[1.A {equals includes} 2.C]\n"
+# more worlds than a script has lines
+VERY_MANY = b"".join(words("taxonomy", t) + b"".join(words(f"({c}{k})") for k in range(4)) for t, c in ((1, "A"), (2, "B")))
+
+# what each is called, the problem, and the requests at first and those that come again and again
+SCRIPTS = [
+    ("a closed slot asked again and again", TWO_TREES, b"", b"1 next\n"),
+    ("one world after the other", VERY_MANY, b"1 open\n", b"1 next\n"),
+    ("asked again and again past the last world", TWO_TREES, b"1 open\n", b"1 next\n"),
+    ("statements dropped and kept again and again", TWO_TREES, b"1 open\n", b"1 keep 0\n1 next\n1 keep 1\n1 next\n"),
+    ("narrowed again and again to what is so", TWO_TREES, b"1 open\n", b"1 narrow 2.C 1.A =<\n"),
+    ("narrowed and asked again and again", TWO_TREES, b"1 open\n", b"1 narrow 2.C 1.A =<\n1 next\n"),
+    ("opened, asked and closed again and again", TWO_TREES, b"", b"16 open\n16 next\n16 close\n"),
+]
+# what each is called, what is written into standard input without an end, the words, and the answer
+WITHOUT_END = [
+    ("zero bytes as a script", None, ["in=p", "script=/dev/zero"], (7, "script 0 TooLong\n")),
+    ("zero bytes as a problem", None, ["in=/dev/zero", "script=c"], (1, "refused 0 TooLong\n")),
+    ("requests from a pipe", "1 next", ["in=p", "script=/dev/stdin"], (7, "script 0 TooLong\n")),
+    ("lines without words from a pipe", "", ["in=p", "script=/dev/stdin"], (7, "script 0 TooLong\n")),
+    ("a problem from a pipe", "(A)", ["in=/dev/stdin", "script=c"], (1, "refused 0 TooLong\n")),
+]
+
+
+def under_limit(desk, *request):
+    return ["sh", "-c", f'ulimit -v {DESK_LIMIT}; exec "$@"', "sh", desk, *request]
+
+
+def worlds_in_order(program, folder, count):
+    """The replies where each request shows a further world: those of the program's listing."""
+    _, listed = answered(program, "align", "in=p", f"worlds={count}", "token=t", folder=folder)[0]
+    return [f"1 world {world}" for world in listed.split("\n")[:-2]]
+
+
+def replies_again(problem, front, again, times):
+    """The replies to requests that come again and again: when they have come twenty times, nothing changes any more."""
+    read = plain.read_problem(problem, (True, True, True)).finish()
+    replies = plain_desk.answer_to(read, front + again * min(times, 20))[1].split("\n")[:-2]
+    return replies + replies[len(replies) - again.count(b"\n") :] * max(times - 20, 0)
+
+
+def served(program, desk, folder, problem, front, again, size):
+    """How many bytes a script has, in which time it is served, the last line, and what is wrong with the answer."""
+    times = (size - len(front)) // len(again)
+    hold(folder, "p", problem)
+    hold(folder, "c", front + again * times)
+    got, seconds = answered(*under_limit(desk, "in=p", "script=c"), folder=folder)
+    replies = ["1 opened"] + worlds_in_order(program, folder, times) if problem == VERY_MANY else replies_again(problem, front, again, times)
+    last = f"served {len(replies)}"
+    return len(front) + len(again) * times, seconds, last, fault_of(got, (0, "\n".join([*replies, last, ""])))
+
+
+def without_end(desk, folder, name, line, request, wanted):
+    """Tells of a run over what has no end; whether its answer is as wanted, in time."""
+    writer = subprocess.Popen(["yes", line or ""], stdout=subprocess.PIPE, stderr=subprocess.DEVNULL)
+    try:
+        pipes = {"stdin": writer.stdout, "stdout": subprocess.PIPE, "stderr": subprocess.DEVNULL}
+        done = subprocess.run(under_limit(desk, *request), cwd=folder, timeout=10, **pipes)
+        fault = fault_of((done.returncode, done.stdout.decode()), wanted)
+    except subprocess.TimeoutExpired:
+        fault = "it has not ended after ten seconds"
+    finally:
+        writer.stdout.close()
+        writer.kill()
+        writer.wait()
+    print(f"desk, {name}, without an end: {fault or wanted[1].splitlines()[-1]}", flush=True)
+    return not fault
+
+
+def of_desk(program, desk, folder, part):
+    """Whether each try of the desk came to what was wanted."""
+    size = plain_desk.MOST_BYTES // part
+    for name, *case in SCRIPTS:
+        yield judged(f"desk, {name}", *(served(program, desk, folder, *case, number) for number in (size // 4, size)))
+    hold(folder, "p", TWO_TREES)
+    for case in WITHOUT_END:
+        yield without_end(desk, folder, *case)
+
+
+def answered(program, *request, folder):
     """The exit code and standard output of a run, and its processor seconds."""
     with open(os.path.join(folder, "out"), "wb") as out:
         run = subprocess.Popen([program, *request], cwd=folder, stdout=out, stderr=subprocess.DEVNULL)
@@ -169,7 +258,7 @@ def checked(program, folder, problem, make, count):
     """How many bytes are checked, in which time, the last line, and what is wrong with the answer."""
     data = make(count)
     hold(folder, "c", data)
-    got, seconds = answered(program, folder, "check", "in=p", "cert=c")
+    got, seconds = answered(program, "check", "in=p", "cert=c", folder=folder)
     wanted = certificates.check(problem, data)
     return len(data), seconds, wanted[1].split("\n")[-2], fault_of(got, wanted)
 
@@ -178,7 +267,7 @@ def joined(program, folder, make, count):
     files, names, wanted = make(count)
     for name, data in files.items():
         hold(folder, name, data)
-    got, seconds = answered(program, folder, "join", "in=p", "certs=" + ",".join(names))
+    got, seconds = answered(program, "join", "in=p", "certs=" + ",".join(names), folder=folder)
     return sum(len(files.get(name, name)) + 1 for name in names), seconds, wanted[1].split("\n")[-2], fault_of(got, wanted)
 
 
@@ -189,7 +278,7 @@ def limited(program, folder, name, front, zeros, behind, wanted):
     os.truncate(path, len(front) + zeros)
     with open(path, "ab") as f:
         f.write(behind)
-    got, seconds = answered("sh", folder, "-c", f'ulimit -v {LIMIT}; exec "$@"', "sh", program, "check", "in=p", "cert=c")
+    got, seconds = answered("sh", "-c", f'ulimit -v {LIMIT}; exec "$@"', "sh", program, "check", "in=p", "cert=c", folder=folder)
     fault = fault_of(got, wanted)
     print(f"under a limit, {name}: {os.path.getsize(path) / 1e6:.1f} MB, {seconds:.2f} s: {fault or wanted[1].splitlines()[-1]}", flush=True)
     return not fault
@@ -209,8 +298,9 @@ def main():
     parser = argparse.ArgumentParser()
     parser.add_argument("program", nargs="?", default=os.path.join(HERE, "../crates/euler_align/out/euler_align"))
     parser.add_argument("--quick", action="store_true")
+    parser.add_argument("--desk", default=os.path.join(HERE, "../crates/euler_desk/out/euler_desk"))
     given = parser.parse_args()
-    program, part = os.path.abspath(given.program), 10 if given.quick else 1
+    program, desk, part = os.path.abspath(given.program), os.path.abspath(given.desk), 10 if given.quick else 1
     problem = plain.read_problem(PROBLEM, (True, True, True)).finish()
     with tempfile.TemporaryDirectory() as folder:
         hold(folder, "p", PROBLEM)
@@ -223,7 +313,10 @@ def main():
         for name, text, make, count in JOINS:
             hold(folder, "p", text)
             came.append(judged(f"join, {name}", *(joined(program, folder, make, number // part) for number in (count // 4, count))))
-    print(f"hostile: {sum(came)} passed, {len(came) - sum(came)} failed")
+        has_desk = os.access(desk, os.X_OK)
+        came += of_desk(program, desk, folder, part) if has_desk else []
+    left_out = "" if has_desk else f"; the desk was left out, there is no program at {desk}"
+    print(f"hostile: {sum(came)} passed, {len(came) - sum(came)} failed{left_out}")
     return 0 if all(came) else 1
 
 

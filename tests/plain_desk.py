@@ -184,6 +184,29 @@ def answer(words, bytes_of):
     return (3, "read fault\n") if script is None else answer_to(problem, script)
 
 
+# Where memory was wanting.
+
+
+def not_starved(requests, replies):
+    """The requests, as lines, and the lines of the replies to them, without those for which memory was wanting."""
+    return [(request, reply) for request, reply in zip(requests, replies) if reply != f"{request.split(' ')[0]} NoMemory"]
+
+
+def starved_fault(requests, code, text, served):
+    """What is wrong with a run over a script that may have wanted memory, or None. `served` gives the text of a run over such lines that did
+    not. The replies must be those to the requests for which memory was not wanting, and, where the run ended early, the first of them."""
+    *replies, last = text.split("\n")[:-1] or [""]
+    if (code, last) not in ((0, f"served {len(requests)}"), (9, "no memory")):
+        return f"exit code {code}, and the last line is {last!r}"
+    if len(replies) > len(requests) or (code == 0 and len(replies) < len(requests)):
+        return "there are more or fewer replies than requests"
+    asked = requests[: len(replies)]
+    kept = not_starved(asked, replies)
+    if [reply for _, reply in kept] != served([request for request, _ in kept]).split("\n")[:-2]:
+        return "the replies are not those to the requests for which memory was not wanting"
+    return None
+
+
 def bytes_of_file(name):
     try:
         with open(name, "rb") as file:

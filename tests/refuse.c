@@ -1,5 +1,6 @@
 /* Refuses allocations, for tests/refused.py: loaded before the C library, it lets the call of malloc or realloc with the number in
-   REFUSE_AT answer NULL, and all after it too where REFUSE_REST is set. How many calls there were goes into the file in REFUSE_COUNT. */
+   REFUSE_AT answer NULL, and each N-th after it too where REFUSE_REST is a number N. How many calls there were goes into the file in
+   REFUSE_COUNT. */
 #include <stdio.h>
 #include <stdlib.h>
 #include <string.h>
@@ -11,14 +12,18 @@ extern void *__libc_realloc(void *, size_t);
 
 static long calls, at = -1, rest;
 
+static long number_in(const char *name) {
+  const char *number = getenv(name);
+  return number ? strtol(number, 0, 10) : 0;
+}
+
 static int is_refused(void) {
   if (at < 0) {
-    const char *number = getenv("REFUSE_AT");
-    at = number ? strtol(number, 0, 10) : 0;
-    rest = getenv("REFUSE_REST") != 0;
+    at = number_in("REFUSE_AT");
+    rest = number_in("REFUSE_REST");
   }
   calls++;
-  return at > 0 && (calls == at || (rest && calls > at));
+  return at > 0 && (calls == at || (rest > 0 && calls > at && (calls - at) % rest == 0));
 }
 
 void *malloc(size_t size) { return is_refused() ? 0 : __libc_malloc(size); }
