@@ -12,6 +12,7 @@ SHARE = $(DESTDIR)$(PREFIX)/share
 all:
 	@command -v rt >/dev/null || { echo "make: rt is not on the path; it comes with the kit that README.md names" >&2; exit 1; }
 	cd crates/euler_align && rt run -- align in=data/p.txt
+	cd crates/euler_desk && rt run -- in=data/p.txt script=data/if.txt
 	@echo "built: $(PROGRAM); make install PREFIX=.. puts it into PREFIX/bin"
 
 # The gate: every proof, wrong body, test and program.

@@ -26,7 +26,9 @@ subjects SEED SIZE    two schemes of SIZE concepts over the same things, a root 
 repeated SIZE COUNT   flat, SIZE/2 concepts a side, with COUNT statements, each pair's equals again and again, and a disjoint last
 clashing SIZE K       flat, SIZE/2 concepts a side, with 60 statements: K pairs of children that are said to be equal and to be disjoint, which
                       makes K conflicts that have nothing in common, and others that take part in none
-opposed A B           two concepts, which A statements say to be equal and B to be disjoint: A times B conflicts"""
+opposed A B           two concepts, which A statements say to be equal and B to be disjoint: A times B conflicts
+largest COUNT LENGTH  eight copies of a tree of 128 concepts, whose names have LENGTH bytes, with COUNT statements: that concepts equal their
+                      counterparts, and then that each includes a child of its counterpart; one world"""
 import random
 import sys
 
@@ -328,6 +330,21 @@ def sum_of(rng, left, right):
     return 0, [k for k in range(len(right)) if right[k][0] == 0]
 
 
+def largest(count, length):
+    parents = [None] + [0] * 8 + [1 + k % 8 for k in range(119)]
+    names = [f"c{k}".ljust(length, "_") for k in range(128)]
+    lines, said = [], []
+    for taxonomy in range(1, 9):
+        lines.append(f"taxonomy {taxonomy}")
+        for parent in range(9):
+            children = [names[k] for k in range(128) if parents[k] == parent]
+            lines.append(f"({names[parent]} {' '.join(children)})")
+    both = [(left, right) for left in range(1, 9) for right in range(left + 1, 9)]
+    said += [f"[{left}.{names[k]} equals {right}.{names[k]}]" for left, right in both for k in range(128)]
+    said += [f"[{left}.{names[parents[k]]} includes {right}.{names[k]}]" for left, right in both for k in range(1, 128)]
+    return lines + ["articulation"] + said[:count]
+
+
 def revised(seed, size):
     return revision(seed, size, 8, 0.7, 0.3)
 
@@ -338,7 +355,7 @@ def unclear(seed, size):
 
 FAMILIES = {"generated": generated, "flat": two_roots, "loose": loose, "chain": chain, "sums": sums, "split": split, "roots": roots, "planted": planted,
             "doubtful": doubtful, "repeated": repeated, "clashing": clashing, "opposed": opposed, "vague": vague, "revised": revised, "unclear": unclear,
-            "copied": copied, "pigeons": pigeons, "hidden": hidden, "subjects": subjects}
+            "copied": copied, "pigeons": pigeons, "hidden": hidden, "subjects": subjects, "largest": largest}
 
 if __name__ == "__main__":
     kind, one, other = sys.argv[1], int(sys.argv[2]), int(sys.argv[3])

@@ -31,7 +31,7 @@ from commands import DESK, NONE, ROWS
 
 ROOT = os.path.join(os.path.dirname(os.path.abspath(__file__)), "..")
 SHOWN = ["README.md", "docs/GUIDE.md", "examples/README.md"]
-NAMING = ["docs/PROOF.md", "docs/DEFINITIONS.md", "docs/CONTRACTS.md"]
+NAMING = ["docs/PROOF.md", "docs/DEFINITIONS.md"]
 MARK = "\x01"
 # what stands in a command line, and what that needs besides the program
 NEEDED = [("tools/from_skos ", "rdflib"), ("tools/desk ", "euler_desk"), ("euler_desk in=", "euler_desk")]
@@ -196,7 +196,7 @@ def layers():
     for line in lines_of("docs/CODE.md"):
         if line.startswith("## "):
             current = line[3:].replace("The ", "").split()[0].lower()
-        elif line.startswith("| `") and current:
+        elif line.startswith("| [`") and current:
             out.setdefault(current, []).extend(re.findall(r"`(\w+)`", line.split("|")[1]))
     return out
 

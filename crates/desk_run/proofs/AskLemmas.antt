@@ -13,11 +13,12 @@ use Rattle.run_ends.specs.declared.Status.TheVariants as status
 use Rattle.run_ends.specs.Reads.{AreFront, problem_in, ComesOf, IsWithout}
 use Rattle.run_ends.specs.Runs.{Answers, IsEarlyEnd}
 use Rattle.run_ends.proofs.TextLemmas.{says_problem, without_text}
-use Rattle.desk_run.specs.declared.DeskArgs.{DeskArgs}
+use Rattle.command_line.specs.declared.request.DeskArgs.{DeskArgs}
+use Rattle.command_line.specs.Requests.{desk_names}
 use Rattle.desk_run.specs.declared.DeskStatus.{DeskStatus}
 use Rattle.desk_run.specs.declared.DeskStatus.TheVariants.{RefusedText, RefusedScript}
 use Rattle.desk_run.specs.Ends.{desk_status_of, desk_end_line}
-use Rattle.desk_run.specs.Answering.{IsOutcome, IsAnswerBy, IsDeskAnswer, desk_names}
+use Rattle.desk_run.specs.Answering.{IsOutcome, IsAnswerBy, IsDeskAnswer}
 use Rattle.desk_run.specs.Steps.{IsEarlyDeskEnd, IsProblemOf, IsScriptEnd, IsWithoutScript}
 
 -- a problem that comes of its name is one that there may be

@@ -1,3 +1,4 @@
 pub mod TalkLemmas
 pub mod EndLemmas
 pub mod AskLemmas
+pub mod ServeLemmas

@@ -12,10 +12,9 @@ use Rattle.desk_core.specs.declared.reply.Reply.{Reply}
 use Rattle.desk_core.specs.declared.reply.Reply.TheVariants.{Opened, Kept, Narrowed, World, NoneLeft, Closed, SlotOpen, SlotClosed, NoMemory}
 use Rattle.desk_core.specs.Slots.{Slot}
 use Rattle.desk_core.specs.Talks.{Exchange, Talk, of_slot, IsAlone}
-use Rattle.command_line.specs.Requests.{Names}
+use Rattle.command_line.specs.declared.request.DeskArgs.{DeskArgs}
 use Rattle.run_ends.specs.Ends.{line_of}
 use Rattle.run_ends.specs.Runs.{File}
-use Rattle.desk_run.specs.declared.DeskArgs.{DeskArgs}
 use Rattle.desk_run.specs.declared.DeskStatus.{DeskStatus}
 use Rattle.desk_run.specs.declared.DeskStatus.TheVariants.{Done, RefusedText, RefusedScript}
 use Rattle.desk_run.specs.Ends.{desk_end_line}
@@ -77,7 +76,3 @@ pub record IsDeskAnswer (args : DeskArgs) (held : Contents) (status : DeskStatus
   pub bytes : List ℕ
   pub told : MayHold (held args.input) bytes
   pub answer : IsAnswerBy (text_result bytes args.switches) (held args.script) status text files
-
--- the names that it reads; it writes none
-abbrev pub desk_names : DeskArgs → Names
-desk_names args = record { read = args.input ∷ args.script ∷ []; written = [] }

@@ -1,3 +1,4 @@
 pub mod Ends
 pub mod Answering
 pub mod Steps
+pub mod Serving

@@ -10,18 +10,23 @@ use Rattle.cert_reader.specs.Bytes.{MayHold, ForSome}
 use Rattle.desk_script.specs.declared.ScriptKind.{ScriptKind}
 use Rattle.desk_script.specs.declared.requests.DeskRequest.{DeskRequest}
 use Rattle.desk_script.specs.Script.{Outcome, script_result}
-use Rattle.run_ends.specs.Runs.{Answered, HasFailed, LeavesPiece}
-use Rattle.desk_run.specs.declared.DeskArgs.{DeskArgs}
+use Rattle.command_line.specs.declared.request.DeskArgs.{DeskArgs}
+use Rattle.command_line.specs.Requests.{Names, desk_names}
+use Rattle.run_ends.specs.Runs.{Answers, Answered, HasFailed, LeavesPiece}
 use Rattle.desk_run.specs.declared.DeskStatus.{DeskStatus}
 use Rattle.desk_run.specs.declared.DeskStatus.TheVariants.{ReadFault, RefusedScript, NoMemory}
 use Rattle.desk_run.specs.Ends.{desk_ending_of, desk_end_line}
-use Rattle.desk_run.specs.Answering.{reply_line, IsTalkOf, IsServed, IsDeskAnswer, desk_names}
+use Rattle.desk_run.specs.Answering.{reply_line, IsTalkOf, IsServed, IsDeskAnswer}
 
--- why a run ends before anything is put: its answer is a last line alone, a read failed, or memory was wanting
+-- why a run with some answers ends before anything is put: its answer is a last line alone, a read failed, or memory was wanting
+abbrev pub IsEarlyEndOf : Names → Answers DeskStatus → DeskStatus → StoreState → StoreState → Type 0
+IsEarlyEndOf names answers status one other =
+    (answers one.held status (desk_end_line status) [] × (desk_ending_of status ≡ Answered) × IsQuiet one other)
+    ⊎ (((status ≡ ReadFault) × HasFailed names.read one.reads other.reads) ⊎ ((status ≡ NoMemory) × IsQuiet one other))
+
+-- so of a run of the desk
 abbrev pub IsEarlyDeskEnd : DeskArgs → DeskStatus → StoreState → StoreState → Type 0
-IsEarlyDeskEnd args status one other =
-    (IsDeskAnswer args one.held status (desk_end_line status) [] × (desk_ending_of status ≡ Answered) × IsQuiet one other)
-    ⊎ (((status ≡ ReadFault) × HasFailed (desk_names args).read one.reads other.reads) ⊎ ((status ≡ NoMemory) × IsQuiet one other))
+IsEarlyDeskEnd args status one other = IsEarlyEndOf (desk_names args) (IsDeskAnswer args) status one other
 
 -- the problem that there may be under its name
 abbrev pub IsProblemOf : DeskArgs → Contents → Problem → Type 0

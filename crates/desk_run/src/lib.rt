@@ -1,4 +1,5 @@
-//! A script is served: a problem and a script for its desk are read, and the replies are put.
+//! A script is served: a problem and a script for its desk are read, and the replies are put. This is all that the desk's program does with
+//! its words, a store and a sink.
 #![tactic(auto)]
 
 ghost use Rattle.std.specs.Prelude.{◌≡◌};
@@ -8,23 +9,16 @@ mod asked;
 mod ends;
 mod replies;
 mod running;
+mod serve_words;
 mod serving;
 
 use cleantax_text::TextKind;
-use command_line::{UsageKind, Word};
+pub use command_line::DeskArgs;
+use command_line::UsageKind;
 use desk_script::ScriptKind;
 pub use ends::put_desk_end;
 pub use running::run_desk;
-use world_model::Switches;
-
-/// What the desk is given: the requests in one file are asked of the desk of the problem in another.
-#[derive(Drop)]
-pub struct DeskArgs {
-    pub input: Word,
-    /// The file of the script.
-    pub script: Word,
-    pub switches: Switches,
-}
+pub use serve_words::serve;
 
 /// How a run of the desk ended.
 #[derive(Clone, Copy)]

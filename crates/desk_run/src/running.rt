@@ -1,7 +1,8 @@
 //! A run of the desk, from its files to its status.
+ghost use Rattle.command_line.specs.Requests.{desk_names};
 ghost use Rattle.run_ends.specs.Runs.{IsRunBy};
 ghost use Rattle.desk_run.specs.Ends.{desk_ending_of};
-ghost use Rattle.desk_run.specs.Answering.{IsDeskAnswer, desk_names};
+ghost use Rattle.desk_run.specs.Answering.{IsDeskAnswer};
 
 use crate::asked::{Asked, asked_of};
 use crate::serving::serve_all;

@@ -1,12 +1,12 @@
 //! What people are told, on standard error, of an ending that is not good, and what to do about it.
 
-use crate::usage::{asks_for_help, explain_fault, explain_program};
+use crate::usage::{explain_fault, explain_program};
 use align_top::{Key, Status, UsageKind};
 use outer_store::FileStore;
 use run_help::{
-    certificate_help, command_of, explain_empty, explain_gap, explain_many, explain_open,
-    explain_pair, explain_part, explain_read, explain_text, explain_write, refused_token,
-    rejection_help, switch_words, token_help, value_of,
+    asks_for_help, certificate_help, command_of, explain_empty, explain_gap, explain_many,
+    explain_open, explain_pair, explain_part, explain_read, explain_text, explain_write,
+    refused_token, rejection_help, switch_words, token_help, value_of,
 };
 use std::alloc::Global;
 use std::io;

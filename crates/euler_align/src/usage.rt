@@ -3,7 +3,7 @@
 use align_top::{
     Command, Key, KeyKind, UsageKind, WordsFault, command_help, key_help, read_words, usage_help,
 };
-use run_help::{asks_for_help, command_of, is_given, key_of, kind_of, nearest, usage_advice};
+use run_help::{command_of, is_given, key_of, kind_of, nearest, usage_advice};
 use std::alloc::{AllocError, Global};
 use std::io;
 use world_watch::WorldWatcher;

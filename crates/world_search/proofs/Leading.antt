@@ -164,22 +164,20 @@ way_begins p from w way none = way.begins ∙ ap (λ m. m ++ way.rest) (place_se
 -- a longer prefix of the start
 pub longer_way : (p : Problem) (from : List Rel) (old new : Walk) (r : Rel) → IsOnWay p from old → old.next ≡ None → slice_get from (length old.path) ≡ Some r →
     IsAlive (problem_at p old.path) → length old.path < pair_count p → has (allowed p (pair_at p (length old.path))) r ≡ true →
-    new.stage ≡ old.stage → new.open ≡ old.open → place new ≡ old.path ++ r ∷ [] → IsOnWay p from new
-longer_way p from old new r way none at alive short allows stage known path =
+    new.stage ≡ old.stage → place new ≡ old.path ++ r ∷ [] → IsOnWay p from new
+longer_way p from old new r way none at alive short allows stage path =
     let more = rest_begins from old.path way.rest r (way_begins p from old way none) at in
     record {
       begun = stage ∙ way.begun;
-      unknown = known ∙ way.unknown;
       node = subst (IsNode p) (sym path) (child_is_node p old.path r (record { alive = alive; short = short; allows = allows }));
       rest = more.0;
       begins = more.1 ∙ sym (append_assoc old.path (r ∷ []) more.0) ∙ ap (λ m. m ++ more.0) (sym path);
     }
 
 -- a walk at the same place is on the way still
-pub same_way : (p : Problem) (from : List Rel) (old new : Walk) → IsOnWay p from old → new.stage ≡ old.stage → new.open ≡ old.open → place new ≡ place old → IsOnWay p from new
-same_way p from old new way stage known same = record {
+pub same_way : (p : Problem) (from : List Rel) (old new : Walk) → IsOnWay p from old → new.stage ≡ old.stage → place new ≡ place old → IsOnWay p from new
+same_way p from old new way stage same = record {
   begun = stage ∙ way.begun;
-  unknown = known ∙ way.unknown;
   node = subst (IsNode p) (sym same) way.node;
   rest = way.rest;
   begins = way.begins ∙ ap (λ m. m ++ way.rest) (sym same);

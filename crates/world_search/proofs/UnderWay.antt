@@ -1,6 +1,6 @@
 -- What keeps a walk under way: at the same place, as the same walk, and from the first node on.
 use Rattle.std.proofs.Common.{◌≡◌, List, ◌++◌, sym, ◌∙◌, subst}
-use Rattle.std.specs.Prelude.{Option, None, IfSome}
+use Rattle.std.specs.Prelude.{Option}
 use Rattle.std.proofs.lemmas.Bool.{true≢false, not-true}
 use Rattle.rcc5_core.specs.declared.Rel.{Rel}
 use Rattle.world_model.specs.Problem.{Problem}
@@ -10,31 +10,28 @@ use Rattle.world_search.specs.declared.guide.Guide.{Guide}
 use Rattle.world_search.specs.declared.walk.Stage.{Stage}
 use Rattle.world_search.specs.declared.walk.Stage.TheVariants.{Start, Standing, Past}
 use Rattle.world_search.specs.declared.walk.Walk.{Walk}
-use Rattle.world_search.specs.Walking.{place, LeadsBy, IsOnWay, IsStanding, IsPlacedBy, IsPlaced, IsFrom, AreOpenBeside, Knows}
+use Rattle.world_search.specs.Walking.{place, LeadsBy, IsOnWay, IsStanding, IsPlacedBy, IsPlaced, IsFrom, AreKnown, Knows}
 use Rattle.world_search.specs.Guiding.{IsGuideOf, IsUnderWay}
 use Rattle.world_search.proofs.Guiding.{guide_further}
+use Rattle.world_search.proofs.OpenChildren.{known_longer}
 use Rattle.world_search.proofs.Stepping.{standing_at}
 
--- a walk that keeps no set
-pub knows_none : (p : Problem) (w : Walk) → w.open ≡ None → Knows p w
-knows_none p w none = λ standing. subst (λ o. IfSome o (AreOpenBeside p (place w))) (sym none) tt
-
--- the node at which a walk stands, and what it knows there, where its path is all of its place
+-- the node at which a walk stands, where its path is all of its place
 pub node_here : (p : Problem) (from : List Rel) (to : Option (List Rel)) (old new : Walk) → old.stage ≡ Standing → new.path ≡ place old → IsPlaced p from to old →
     IsNode p new.path
 node_here p from to old new standing settled placed = subst (IsNode p) (sym settled) (standing_at p from to old standing placed).node.0
 
-pub knows_here : (p : Problem) (old new : Walk) → old.stage ≡ Standing → new.open ≡ old.open → new.path ≡ place old → Knows p old →
-    IfSome new.open (AreOpenBeside p new.path)
-knows_here p old new standing known settled knows =
-    subst (λ m. IfSome new.open (AreOpenBeside p m)) (sym settled) (subst (λ o. IfSome o (AreOpenBeside p (place old))) (sym known) (knows standing))
+-- what a walk knows is known with more of its place on the path
+pub knows_settled : (p : Problem) (old new : Walk) → new.opens ≡ old.opens → ((rest : List Rel) × (new.path ≡ old.path ++ rest)) → Knows p old → Knows p new
+knows_settled p old new same longer knows =
+    subst (AreKnown p new.path) (sym same) (known_longer p old.path new.path longer.0 old.opens longer.1 knows)
 
 -- at the same place, with more of it on the path
 pub way_settled : (p : Problem) (from : List Rel) (to : Option (List Rel)) (old new : Walk) (g : Guide) → old.stage ≡ Standing → new.stage ≡ old.stage →
-    place new ≡ place old → new.open ≡ old.open → ((rest : List Rel) × (new.path ≡ old.path ++ rest)) → IsUnderWay p from to old g → IsUnderWay p from to new g
+    place new ≡ place old → new.opens ≡ old.opens → ((rest : List Rel) × (new.path ≡ old.path ++ rest)) → IsUnderWay p from to old g → IsUnderWay p from to new g
 way_settled p from to old new g standing stage same known longer way = record {
   placed = subst (IsPlacedBy p from to new) (sym (stage ∙ standing)) (subst (IsStanding p from to) (sym same) (standing_at p from to old standing way.placed));
-  knows = λ _. subst (λ m. IfSome new.open (AreOpenBeside p m)) (sym same) (subst (λ o. IfSome o (AreOpenBeside p (place old))) (sym known) (way.knows standing));
+  knows = knows_settled p old new known longer way.knows;
   guide = guide_further p old.path new.path longer.0 g longer.1 way.guide;
 }
 

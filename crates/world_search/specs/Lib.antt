@@ -1,5 +1,6 @@
 pub mod Guiding
 pub mod Logging
+pub mod Opens
 pub mod Searching
 pub mod Steps
 pub mod Stopping

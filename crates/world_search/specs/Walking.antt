@@ -1,5 +1,5 @@
 -- Where a walk stands among the nodes.
-use Rattle.std.specs.Prelude.{◌≡◌, ◌↔◌, ◌<◌, ℕ, Bool, true, false, List, [], ◌∷◌, ◌++◌, Option, Some, None, IfSome, length, IsTrue, not, if◌then◌else◌}
+use Rattle.std.specs.Prelude.{◌≡◌, ◌↔◌, ◌<◌, ◌≤◌, ℕ, Bool, true, false, List, [], ◌∷◌, ◌++◌, Option, Some, None, length, take, IsTrue, not, if◌then◌else◌}
 use Rattle.rcc5_core.specs.declared.Rel.{Rel}
 use Rattle.rcc5_core.specs.declared.RelSet.{RelSet}
 use Rattle.rcc5_core.specs.RelationSet.{has}
@@ -9,11 +9,13 @@ use Rattle.world_model.specs.Listing.{is_below, is_before_end}
 use Rattle.world_model.specs.Alive.{problem_at, IsAlive}
 use Rattle.world_model.specs.Node.{IsNode, IsNodeFrom}
 use Rattle.world_model.specs.Trial.{nodes_between}
+use Rattle.world_search.specs.declared.opens.Opens.{Opens}
 use Rattle.world_search.specs.declared.walk.Stage.{Stage}
 use Rattle.world_search.specs.declared.walk.Stage.TheVariants.{Start, Standing, Past}
 use Rattle.world_search.specs.declared.walk.Walk.{Walk}
 use Rattle.world_search.specs.declared.walk.NodeSight.{NodeSight}
 use Rattle.world_search.specs.declared.walk.NodeSight.TheVariants.{World, NoWorld}
+use Rattle.world_search.specs.Opens.{Keeps}
 use Rattle.world_search.specs.Searching.{SearchState, last_place}
 
 -- a position comes behind all that begin with a prefix
@@ -51,7 +53,6 @@ LeadsTo p IsKind w = LeadsBy p IsKind (place w) w.stage
 -- on the way to the first node: at a prefix of the start that is a node
 pub record IsOnWay (p : Problem) (from : List Rel) (w : Walk) : Type 0 where
   pub begun : w.stage ≡ Start
-  pub unknown : w.open ≡ None
   pub node : IsNode p (place w)
   pub rest : List Rel
   pub begins : from ≡ place w ++ rest
@@ -106,16 +107,13 @@ Follows p from w false = LeadsTo p (IsFrom from) w
 abbrev pub AreOpenAfter : Problem → List Rel → RelSet → Type 0
 AreOpenAfter p prefix set = (rel : Rel) → IsTrue (has set rel) ↔ IsAlive (problem_at p (prefix ++ rel ∷ []))
 
--- just these relations lead on from the prefix of a node, which is the node without its last relation
-pub record AreOpenBeside (p : Problem) (m : List Rel) (set : RelSet) : Type 0 where
-  pub prefix : List Rel
-  pub last : Rel
-  pub is : m ≡ prefix ++ last ∷ []
-  pub each : AreOpenAfter p prefix set
+-- each set that is kept is kept for a prefix of the path, and just its relations lead on from that prefix to an alive one
+abbrev pub AreKnown : Problem → List Rel → Opens → Type 0
+AreKnown p path opens = (depth : ℕ) (set : RelSet) → Keeps opens depth set → (depth ≤ length path) × AreOpenAfter p (take depth path) set
 
--- where a walk stands and keeps a set, it is that of its place
+-- what a walk keeps is so of its path
 abbrev pub Knows : Problem → Walk → Type 0
-Knows p w = w.stage ≡ Standing → IfSome w.open (AreOpenBeside p (place w))
+Knows p w = AreKnown p w.path w.opens
 
 -- a node is alive and has room, and just these relations lead on to an alive one; or it is dead
 abbrev pub IsOpenOrDead : Problem → List Rel → Option RelSet → Type 0

@@ -4,7 +4,7 @@ ghost use Rattle.world_model.specs.Problem.{pair_count};
 ghost use Rattle.world_model.specs.Alive.{problem_at, IsAlive};
 ghost use Rattle.constraint_set.specs.Shape.{shape_of};
 ghost use Rattle.cert_rules.specs.Listings.{listing_next};
-ghost use Rattle.world_search.specs.Walking.{place, LeadsTo, IsOnWay, IsFrom, Follows, at_by, expected};
+ghost use Rattle.world_search.specs.Walking.{place, LeadsTo, IsOnWay, IsFrom, Knows, Follows, at_by, expected};
 ghost use Rattle.world_search.specs.Searching.{Passes};
 ghost use Rattle.world_search.specs.Guiding.{IsGuideOf, IsUnderWay};
 ghost use Rattle.world_search.specs.Logging.{KeepsOn};
@@ -30,10 +30,11 @@ fn follow(problem: &Problem, guide: &mut Guide, from: &Position, walk: &mut Walk
     requires alive { IsAlive (problem_at problem.now walk.old.path) }
     requires short { length walk.old.path < length from.now }
     requires within { length from.now ≤ pair_count problem.now }
+    requires knows { Knows problem.now walk.old }
     requires guide { IsGuideOf problem.now walk.old.path guide.old }
     ensures ok { Follows problem.now from.now walk.new result }
     ensures longer { result ≡ true → length (place walk.new) ≡ length walk.old.path + 1 }
-    ensures unknown { walk.new.open ≡ None }
+    ensures knows { Knows problem.now walk.new }
     ensures guide { IsGuideOf problem.now walk.new.path guide.new }
     ensures next { listing_next problem.now from.now true walk.old.path ≡ expected walk.new }
 {
@@ -69,10 +70,11 @@ fn go_along(
     requires alive { IsTrue alive ↔ IsAlive (problem_at problem.now walk.old.path) }
     requires short { length walk.old.path < length from.now }
     requires within { length from.now ≤ pair_count problem.now }
+    requires knows { Knows problem.now walk.old }
     requires guide { IsGuideOf problem.now walk.old.path guide.old }
     ensures ok { Follows problem.now from.now walk.new result }
     ensures longer { result ≡ true → length (place walk.new) ≡ length walk.old.path + 1 }
-    ensures unknown { walk.new.open ≡ None }
+    ensures knows { Knows problem.now walk.new }
     ensures guide { IsGuideOf problem.now walk.new.path guide.new }
     ensures next { listing_next problem.now from.now alive walk.old.path ≡ expected walk.new }
 {
@@ -98,10 +100,11 @@ fn along<L: TreeLog>(
     requires settled { walk.old.next ≡ None }
     requires short { length walk.old.path < length from.now }
     requires within { length from.now ≤ pair_count problem.now }
+    requires knows { Knows problem.now walk.old }
     requires guide { IsGuideOf problem.now walk.old.path guide.old }
     ensures ok { IfOk result (Follows problem.now from.now walk.new) }
     ensures longer { IfOk result (λ on. on ≡ true → length (place walk.new) ≡ length walk.old.path + 1) }
-    ensures unknown { walk.new.open ≡ None }
+    ensures knows { Knows problem.now walk.new }
     ensures err { OnErr result (walk.new ≡ walk.old) }
     ensures guide { IsGuideOf problem.now walk.new.path guide.new }
     ensures shape { asker.new.shape ≡ asker.old.shape }
@@ -135,10 +138,11 @@ fn find<L: TreeLog>(
     requires shape { asker.old.shape ≡ shape_of problem.now }
     requires way { IsOnWay problem.now from.now walk.old }
     requires within { length from.now ≤ pair_count problem.now }
+    requires knows { Knows problem.now walk.old }
     requires guide { IsGuideOf problem.now walk.old.path guide.old }
     ensures ok { OnOk result (LeadsTo problem.now (IsFrom from.now) walk.new) }
     ensures err { OnErr result (IsOnWay problem.now from.now walk.new) }
-    ensures unknown { walk.new.open ≡ None }
+    ensures knows { Knows problem.now walk.new }
     ensures guide { IsGuideOf problem.now walk.new.path guide.new }
     ensures shape { asker.new.shape ≡ asker.old.shape }
     ensures keeps { KeepsOn problem.now from.now (L.lines log.old) (L.lines log.new) asker.old asker.new (expected walk.old) (expected walk.new) }

@@ -5,6 +5,7 @@ mod behind;
 mod budget;
 mod first;
 mod guide;
+mod opens;
 mod reasons;
 mod search;
 mod step;

@@ -10,6 +10,7 @@ ghost use Rattle.search_log.specs.Logging.{AddsLines, IfLogFailed};
 ghost use Rattle.outer_store.specs.Faults.{Rose};
 
 use crate::guide::Guide;
+use crate::opens::Opens;
 use crate::step::{Nodes, Step, TableStep};
 use crate::steps::{family_step, table_step};
 use crate::walk::{Span, Stage, Walk};
@@ -166,7 +167,7 @@ fn begin_at(
         stage: Stage::Start,
         path: Position::new(alloc),
         next: None,
-        open: None,
+        opens: Opens::new(alloc),
     };
     Ok(Search {
         problem,

@@ -6,7 +6,7 @@ ghost use Rattle.world_model.specs.Listing.{is_before_end};
 ghost use Rattle.world_model.specs.Node.{IsNode};
 ghost use Rattle.constraint_set.specs.Shape.{shape_of};
 ghost use Rattle.point_query.specs.Asking.{AskerGoes};
-ghost use Rattle.world_search.specs.Walking.{LeadsTo, IsAfter, state_of, nodes_left, expected};
+ghost use Rattle.world_search.specs.Walking.{LeadsTo, IsAfter, Knows, state_of, nodes_left, expected};
 ghost use Rattle.world_search.specs.Logging.{KeepsOn, KeepsFrom};
 ghost use Rattle.search_log.specs.Logging.{LogGoes};
 ghost use Rattle.world_search.specs.Guiding.{IsGuideOf, IsUnderWay};
@@ -147,9 +147,10 @@ fn leave(problem: &Problem, guide: &mut Guide, walk: &mut Walk, nodes: &mut Node
     requires node { IsNode problem.now walk.old.path }
     requires full { pair_count problem.now ≤ length walk.old.path }
     requires some_left { nodes.old.left ≢ Some 0 }
+    requires knows { Knows problem.now walk.old }
     requires guide { IsGuideOf problem.now walk.old.path guide.old }
     ensures on { LeadsTo problem.now (IsAfter walk.old.path) walk.new }
-    ensures unknown { walk.new.open ≡ None }
+    ensures knows { Knows problem.now walk.new }
     ensures counted { FellBy nodes.old.left nodes.new.left 1 }
     ensures guide { IsGuideOf problem.now walk.new.path guide.new }
 {
@@ -228,11 +229,12 @@ fn world_step<L: TreeLog>(
     requires node { IsNode problem.now walk.old.path }
     requires full { pair_count problem.now ≤ length walk.old.path }
     requires some_left { nodes.old.left ≢ Some 0 }
+    requires knows { Knows problem.now walk.old }
     requires guide { IsGuideOf problem.now walk.old.path guide.old }
     ensures met { IfOk result (λ family. IsTrue (meets problem.now family)) }
     ensures shown { IfOk result (λ family. table_of problem.now family ≡ table.now) }
     ensures on { OnOk result (LeadsTo problem.now (IsAfter walk.old.path) walk.new) }
-    ensures unknown { OnOk result (walk.new.open ≡ None) }
+    ensures knows { OnOk result (Knows problem.now walk.new) }
     ensures counted { OnOk result (FellBy nodes.old.left nodes.new.left 1) }
     ensures err { OnErr result (walk.new ≡ walk.old) }
     ensures uncounted { OnErr result (nodes.new.left ≡ nodes.old.left) }

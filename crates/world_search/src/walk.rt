@@ -1,18 +1,19 @@
 //! Where a walk stands among the nodes, and how it goes on from there.
-ghost use Rattle.std.specs.Prelude.{List, Some, None, ◌≡◌, ◌↔◌, true, false, ◌<◌, ◌≤◌, ◌++◌, ◌∷◌, [], length, IfOk, OnOk, OnErr, IfSome, IsTrue};
-ghost use Rattle.world_model.specs.Problem.{pair_count};
+ghost use Rattle.std.specs.Prelude.{List, Some, None, ◌≡◌, ◌↔◌, true, false, ◌<◌, ◌++◌, length, IfOk, OnOk, OnErr, IfSome, IsTrue};
+ghost use Rattle.world_model.specs.Problem.{Problem, pair_count};
 ghost use Rattle.world_model.specs.Family.{IsPossibleWorld};
 ghost use Rattle.world_model.specs.Alive.{problem_at, IsAlive};
 ghost use Rattle.world_model.specs.Node.{IsNode};
 ghost use Rattle.constraint_set.specs.Shape.{shape_of};
 ghost use Rattle.point_query.specs.Asking.{AskerGoes};
-ghost use Rattle.world_search.specs.Walking.{IsBehind, place, LeadsTo, IsAfter, AreOpenAfter, AreOpenBeside, Knows, expected, IsOpenOrDead, IsFoundAt};
+ghost use Rattle.world_search.specs.Walking.{IsBehind, place, LeadsTo, IsAfter, AreOpenAfter, Knows, expected, IsOpenOrDead, IsFoundAt};
 ghost use Rattle.world_search.specs.Guiding.{IsGuideOf};
 ghost use Rattle.world_search.specs.Logging.{KeepsFrom};
 ghost use Rattle.search_log.specs.Logging.{LogGoes};
 
 use crate::behind::{climb, next_set};
 use crate::guide::Guide;
+use crate::opens::Opens;
 use crate::tell::tell;
 use cert_text::TreeLog;
 use constraint_set::Problem;
@@ -46,8 +47,8 @@ pub struct Walk {
     pub stage: Stage,
     pub path: Position,
     pub next: Option<Rel>,
-    /// The relations by which an alive child of the node's prefix follows, where that is known.
-    pub open: Option<RelSet>,
+    /// By which relations alive nodes follow prefixes of the path, as far as that is known.
+    pub opens: Opens,
 }
 
 impl Walk {
@@ -55,7 +56,7 @@ impl Walk {
     pub(crate) fn settle(&mut self) -> Result<(), AllocError>
         ensures stage { self.new.stage ≡ self.old.stage }
         ensures place { place self.new ≡ place self.old }
-        ensures known { self.new.open ≡ self.old.open }
+        ensures known { self.new.opens ≡ self.old.opens }
         ensures settled { OnOk result (self.new.path ≡ place self.old) }
         ensures none_waits { OnOk result (self.new.next ≡ None) }
         ensures longer { (rest : List Rel) × (self.new.path ≡ self.old.path ++ rest) }
@@ -71,14 +72,14 @@ impl Walk {
 // Goes on from a node to the least node behind all that begin with it.
 pub(crate) fn pass(problem: &Problem, guide: &mut Guide, walk: &mut Walk)
     requires node { IsNode problem.now walk.old.path }
+    requires knows { Knows problem.now walk.old }
     requires guide { IsGuideOf problem.now walk.old.path guide.old }
     ensures on { LeadsTo problem.now (IsBehind walk.old.path) walk.new }
-    ensures prefix { (rest : List Rel) × (walk.old.path ≡ walk.new.path ++ rest) }
-    ensures unknown { walk.new.open ≡ None }
+    ensures knows { Knows problem.now walk.new }
     ensures guide { IsGuideOf problem.now walk.new.path guide.new }
 {
-    walk.open = None;
     let next = climb(problem, &mut walk.path);
+    walk.opens.back_to(walk.path.len());
     guide.back_to(&walk.path);
     match next {
         Some(rel) => {
@@ -97,42 +98,26 @@ fn enter(problem: &Problem, walk: &mut Walk, set: RelSet)
     requires alive { IsAlive (problem_at problem.now walk.old.path) }
     requires short { length walk.old.path < pair_count problem.now }
     requires open { AreOpenAfter problem.now walk.old.path set }
+    requires knows { Knows problem.now walk.old }
     ensures on { LeadsTo problem.now (IsAfter walk.old.path) walk.new }
     ensures knows { Knows problem.now walk.new }
     ensures path { walk.new.path ≡ walk.old.path }
 {
     walk.next = next_set(problem, &walk.path).first();
     walk.stage = Stage::Standing;
-    walk.open = Some(set);
+    walk.opens.keep(walk.path.len(), set);
 }
 
-// Goes on from a dead node. What is known of its prefix stays known under the same prefix.
-fn skip(problem: &Problem, guide: &mut Guide, walk: &mut Walk)
-    requires node { IsNode problem.now walk.old.path }
-    requires dead { IsAlive (problem_at problem.now walk.old.path) → ⊥ }
-    requires knows { IfSome walk.old.open (AreOpenBeside problem.now walk.old.path) }
-    requires guide { IsGuideOf problem.now walk.old.path guide.old }
-    ensures on { LeadsTo problem.now (IsAfter walk.old.path) walk.new }
-    ensures knows { Knows problem.now walk.new }
-    ensures guide { IsGuideOf problem.now walk.new.path guide.new }
+// Whether the node at which a walk stands is alive, where the walk keeps the set of the node without its last relation.
+fn known_here(walk: &Walk) -> Option<bool>
+    ensures { (p : Problem) → Knows p walk.now → IfSome result (λ alive. IsTrue alive ↔ IsAlive (problem_at p walk.now.path)) }
 {
-    let known = walk.open;
-    let parent = walk.path.len().saturating_sub(1);
-    pass(problem, guide, walk);
-    if walk.path.len() == parent {
-        walk.open = known;
-    }
+    let above = walk.path.len().checked_sub(1)?;
+    let set = walk.opens.at(above)?;
+    Some(set.has(walk.path.at(above)))
 }
 
-// The last relation of a position.
-fn last_of(node: &Position) -> Rel
-    requires { 0 < length node.now }
-    ensures { (prefix : List Rel) × (node.now ≡ prefix ++ result ∷ []) }
-{
-    node.at(node.len() - 1)
-}
-
-// Whether the node at which a walk stands is alive. The guide is asked only where the walk keeps no set.
+// Whether the node at which a walk stands is alive. The guide is asked only where the walk doesn't know.
 #[tactic(auto, using(search_log::proofs::Logs::asker_stays))]
 fn is_here_alive(
     problem: &Problem,
@@ -142,14 +127,14 @@ fn is_here_alive(
 ) -> Result<bool, AllocError>
     requires shape { asker.old.shape ≡ shape_of problem.now }
     requires node { IsNode problem.now walk.now.path }
-    requires knows { IfSome walk.now.open (AreOpenBeside problem.now walk.now.path) }
+    requires knows { Knows problem.now walk.now }
     requires guide { IsGuideOf problem.now walk.now.path guide.old }
     ensures alive { IfOk result (λ alive. IsTrue alive ↔ IsAlive (problem_at problem.now walk.now.path)) }
     ensures guide { IsGuideOf problem.now walk.now.path guide.new }
     ensures kept { AskerGoes asker.old asker.new }
 {
-    match walk.open {
-        Some(set) => Ok(set.has(last_of(&walk.path))),
+    match known_here(walk) {
+        Some(alive) => Ok(alive),
         None => guide.is_alive(problem, asker, &walk.path),
     }
 }
@@ -172,7 +157,7 @@ fn look(
 ) -> Result<NodeSight, AllocError>
     requires shape { asker.old.shape ≡ shape_of problem.now }
     requires node { IsNode problem.now walk.now.path }
-    requires knows { IfSome walk.now.open (AreOpenBeside problem.now walk.now.path) }
+    requires knows { Knows problem.now walk.now }
     requires guide { IsGuideOf problem.now walk.now.path guide.old }
     ensures found { IfOk result (IsFoundAt problem.now walk.now.path) }
     ensures guide { IsGuideOf problem.now walk.now.path guide.new }
@@ -194,7 +179,7 @@ fn look(
 fn go_on(problem: &Problem, guide: &mut Guide, walk: &mut Walk, set: Option<RelSet>)
     requires node { IsNode problem.now walk.old.path }
     requires found { IsOpenOrDead problem.now walk.old.path set }
-    requires knows { IfSome walk.old.open (AreOpenBeside problem.now walk.old.path) }
+    requires knows { Knows problem.now walk.old }
     requires guide { IsGuideOf problem.now walk.old.path guide.old }
     ensures on { LeadsTo problem.now (IsAfter walk.old.path) walk.new }
     ensures knows { Knows problem.now walk.new }
@@ -202,7 +187,7 @@ fn go_on(problem: &Problem, guide: &mut Guide, walk: &mut Walk, set: Option<RelS
 {
     match set {
         Some(set) => enter(problem, walk, set),
-        None => skip(problem, guide, walk),
+        None => pass(problem, guide, walk),
     }
 }
 
@@ -220,10 +205,10 @@ fn move_on<L: TreeLog>(
     requires node { IsNode problem.now walk.old.path }
     requires at { expected walk.old ≡ Some walk.old.path }
     requires found { IsOpenOrDead problem.now walk.old.path set }
-    requires knows { IfSome walk.old.open (AreOpenBeside problem.now walk.old.path) }
+    requires knows { Knows problem.now walk.old }
     requires guide { IsGuideOf problem.now walk.old.path guide.old }
     ensures on { OnOk result (LeadsTo problem.now (IsAfter walk.old.path) walk.new) }
-    ensures knows { OnOk result (Knows problem.now walk.new) }
+    ensures knows { Knows problem.now walk.new }
     ensures err { OnErr result (walk.new ≡ walk.old) }
     ensures guide { IsGuideOf problem.now walk.new.path guide.new }
     ensures shape { asker.new.shape ≡ asker.old.shape }
@@ -256,12 +241,12 @@ pub(crate) fn visit<L: TreeLog>(
     requires shape { asker.old.shape ≡ shape_of problem.now }
     requires node { IsNode problem.now walk.old.path }
     requires at { expected walk.old ≡ Some walk.old.path }
-    requires knows { IfSome walk.old.open (AreOpenBeside problem.now walk.old.path) }
+    requires knows { Knows problem.now walk.old }
     requires guide { IsGuideOf problem.now walk.old.path guide.old }
     ensures found { IfOk result (λ world. IsTrue world ↔ IsPossibleWorld problem.now walk.old.path) }
     ensures stays { IfOk result (λ world. world ≡ true → walk.new ≡ walk.old) }
     ensures on { IfOk result (λ world. world ≡ false → LeadsTo problem.now (IsAfter walk.old.path) walk.new) }
-    ensures knows { IfOk result (λ world. world ≡ false → Knows problem.now walk.new) }
+    ensures knows { Knows problem.now walk.new }
     ensures err { OnErr result (walk.new ≡ walk.old) }
     ensures guide { IsGuideOf problem.now walk.new.path guide.new }
     ensures shape { asker.new.shape ≡ asker.old.shape }

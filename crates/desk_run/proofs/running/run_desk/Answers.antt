@@ -1,11 +1,13 @@
 use Rattle.std.proofs.Common.{Err, ap, sym, subst, ◌∙◌}
+use Rattle.command_line.specs.Requests.{desk_names}
+use Rattle.desk_run.specs.Answering.{IsDeskAnswer}
 use Rattle.desk_run.specs.Steps.{IsAsked, IsServedOut}
 use Rattle.desk_run.proofs.EndLemmas.{run_early, run_served, run_refused, run_starved}
 use Rattle.desk_run.proofs.running.run_desk.Goals as goal
 
 pub returns-in-Err : goal.returns-in-Err
 returns-in-Err g c =
-    run_early c.args.args.now c.in-Err.status c.put_desk_end.result
+    run_early (desk_names c.args.args.now) (IsDeskAnswer c.args.args.now) c.in-Err.status c.put_desk_end.result
     (g.S.Store.state c.args.store.now)
     (g.S.Store.state c.asked_of.new.store)
     (g.W.Sink.state c.args.out.now) (g.W.Sink.state c.put_desk_end.new.out)

@@ -3,7 +3,7 @@ use Rattle.world_search.specs.Searching.{Passes}
 use Rattle.world_search.specs.Walking.{place, IsPlacedBy, at_by}
 use Rattle.world_search.specs.declared.walk.Stage.TheVariants.{Start}
 use Rattle.world_search.proofs.Passing.{passes_first}
-use Rattle.world_search.proofs.UnderWay.{knows_none, placed_on_way, placed_first}
+use Rattle.world_search.proofs.UnderWay.{placed_on_way, placed_first}
 use Rattle.world_search.proofs.first.begin.Goals as goal
 
 pub find-requires-clause-way : goal.find-requires-clause-way
@@ -16,7 +16,7 @@ returns-in_err-find-clause-walk g c =
     let p = c.args.problem.now in
     record {
       placed = placed_on_way p c.args.span.now.from c.args.span.now.to c.find.new.walk c.in_err-find.ensures.err;
-      knows = knows_none p c.find.new.walk c.find.ensures.unknown;
+      knows = c.find.ensures.knows;
       guide = c.find.ensures.guide;
     }
 
@@ -26,7 +26,7 @@ returns-in_ok-find-clause-walk g c =
     let new = c.find.new.walk in
     record {
       placed = placed_first p c.args.span.now.from c.args.span.now.to new new.stage c.in_ok-find.ensures.ok;
-      knows = knows_none p new c.find.ensures.unknown;
+      knows = c.find.ensures.knows;
       guide = c.find.ensures.guide;
     }
 

@@ -20,7 +20,7 @@ returns-then-has-clause-ok c =
     let at : slice_get c.args.from.now (length w.path) ≡ Some r = subst (λ k. slice_get c.args.from.now k ≡ Some r) c.len.ensures c.at-wanted.ensures in
     let short : length w.path < pair_count p = omega arith in
     let allows : has (allowed p (pair_at p (length w.path))) r ≡ true = ap (λ set. has set r) (sym c.next_set-set.ensures) ∙ sym c.has.ensures ∙ c.if-has.true in
-    longer_way p c.args.from.now w _ r c.requires.way c.requires.settled at c.requires.alive short allows refl refl refl
+    longer_way p c.args.from.now w _ r c.requires.way c.requires.settled at c.requires.alive short allows refl refl
 
 pub returns-then-has-clause-next : goal.returns-then-has-clause-next
 returns-then-has-clause-next c =

@@ -9,12 +9,11 @@ invariant_of-result c = record {
   walk = record {
     placed = record {
       begun = refl;
-      unknown = refl;
       node = inl (ap (λ m. m ++ []) c.new.ensures);
       rest = c.args.from;
       begins = ap (λ m. (m ++ []) ++ c.args.from) (sym c.new.ensures);
     };
-    knows = λ standing. tt;
+    knows = λ depth set kept. absurd (c.new-2.ensures depth set kept);
     guide = subst (λ m. IsGuideOf c.in_ok-problem.problem m c.args.guide) (sym c.new.ensures) (subst (λ p. IsGuideOf p [] c.args.guide) (sym c.in_ok-problem.ensures) c.requires.guide);
   };
 }

@@ -5,7 +5,7 @@ use Rattle.world_search.specs.Walking.{state_of, expected}
 use Rattle.world_search.proofs.Leading.{place_settled}
 use Rattle.world_search.proofs.Stepping.{stepped_err, step_world, placed_world, expected_at, not_below_start, node_at, place_is}
 use Rattle.world_search.proofs.Telling.{keeps_joins, keeps_flushed_if}
-use Rattle.world_search.proofs.UnderWay.{knows_none, way_same}
+use Rattle.world_search.proofs.UnderWay.{way_same}
 use Rattle.search_log.proofs.Logs.{log_joins, log_ok_as, log_as}
 use Rattle.world_search.proofs.steps.family_step.Goals as goal
 
@@ -116,7 +116,7 @@ returns-in_ok-family-in-World-clause-walk g c =
     subst (IsStop p from to c.walk_on.new.walk c.walk_on.new.nodes.left) c.in-World.is c.in_ok-table.ensures.stop in
     record {
       placed = placed_world p from to c.walk_on.new.walk c.world_step.new.walk c.walk_on.new.nodes.left c.in-World.table at c.walk_on.ensures.walk.placed c.in_ok-family-in-World.ensures.on;
-      knows = knows_none p c.world_step.new.walk c.in_ok-family-in-World.ensures.unknown;
+      knows = c.in_ok-family-in-World.ensures.knows;
       guide = c.world_step.ensures.guide;
     }
 

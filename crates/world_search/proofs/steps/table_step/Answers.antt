@@ -2,7 +2,6 @@ use Rattle.std.proofs.Common.{subst}
 use Rattle.world_search.specs.Stopping.{IsAtWorld, IsStop}
 use Rattle.world_search.specs.Walking.{state_of}
 use Rattle.world_search.proofs.Stepping.{step_world, placed_world, node_at}
-use Rattle.world_search.proofs.UnderWay.{knows_none}
 use Rattle.world_search.proofs.steps.table_step.Goals as goal
 
 pub leave-requires-clause-node : goal.leave-requires-clause-node
@@ -33,6 +32,6 @@ returns-in-World-clause-walk c =
     subst (IsStop p from to c.walk_untold.new.walk c.walk_untold.new.nodes.left) c.in-World.is c.in_ok-other.ensures.stop in
     record {
       placed = placed_world p from to c.walk_untold.new.walk c.leave.new.walk c.walk_untold.new.nodes.left c.in-World.table at c.walk_untold.ensures.walk.placed c.leave.ensures.on;
-      knows = knows_none p c.leave.new.walk c.leave.ensures.unknown;
+      knows = c.leave.ensures.knows;
       guide = c.leave.ensures.guide;
     }

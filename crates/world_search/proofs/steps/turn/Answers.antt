@@ -8,7 +8,7 @@ use Rattle.world_search.proofs.Telling.{keeps_same, keeps_ends}
 use Rattle.search_log.proofs.Logs.{log_stays_ok, log_memory, log_ok_as, log_as, log_then_memory}
 use Rattle.world_search.proofs.Passing.{none_there}
 use Rattle.world_search.proofs.Stepping.{came_same, stop_end, stop_spent, came_visit, placed_visit, fewer_visit, expected_same, expected_at, not_below_start}
-use Rattle.world_search.proofs.UnderWay.{node_here, knows_here, way_settled, way_same}
+use Rattle.world_search.proofs.UnderWay.{node_here, knows_settled, way_settled, way_same}
 use Rattle.world_search.proofs.steps.turn.Goals as goal
 
 pub returns-then-not-is_before_end-clause-stop : goal.returns-then-not-is_before_end-clause-stop
@@ -139,7 +139,7 @@ returns-clause-walk g c = record {
   placed =
       placed_visit c.args.problem.now c.args.span.now.from c.args.span.now.to c.args.walk.now c.visit.new.walk c.settle.new.self.path
       c.requires.standing c.requires.walk.placed c.in_ok-settle.ensures.settled (sym c.is_before_end.ensures ∙ c.if-not-is_before_end.false) (c.in_ok-visit.ensures.on c.if-branch.false);
-  knows = c.in_ok-visit.ensures.knows c.if-branch.false;
+  knows = c.visit.ensures.knows;
   guide = c.visit.ensures.guide;
 }
 
@@ -198,7 +198,7 @@ visit-requires-clause-node g c =
 
 pub visit-requires-clause-knows : goal.visit-requires-clause-knows
 visit-requires-clause-knows g c =
-    knows_here c.args.problem.now c.args.walk.now c.settle.new.self c.requires.standing c.settle.ensures.known c.in_ok-settle.ensures.settled c.requires.walk.knows
+    knows_settled c.args.problem.now c.args.walk.now c.settle.new.self c.settle.ensures.known c.settle.ensures.longer c.requires.walk.knows
 
 pub visit-requires-clause-guide : goal.visit-requires-clause-guide
 visit-requires-clause-guide g c =
