@@ -59,13 +59,13 @@ for size in 64 256 512; do
   nexts 16 1 turn > "$folder/slots"
   echo "generated 7 $size: no request but open $(run "$folder/none"), one next $(run "$folder/first"), one next of each of sixteen slots $(run "$folder/slots")"
 done
-for size in 6 8 9; do
-  problem split "$size" "$size"
+for fixed in 17 37 80; do
+  problem loose 5 "$fixed"
   nexts 1 1 alone > "$folder/first"
   nexts 1 1001 alone > "$folder/later"
   nexts 16 100 turn > "$folder/turn"
   nexts 16 100 alone > "$folder/alone"
-  echo "split $size $size: one next $(run "$folder/first"), 1,001 $(run "$folder/later"); sixteen slots, 100 next each: in turn $(run "$folder/turn"), slot by slot $(run "$folder/alone")"
+  echo "loose 5 $fixed: one next $(run "$folder/first"), 1,001 $(run "$folder/later"); sixteen slots, 100 next each: in turn $(run "$folder/turn"), slot by slot $(run "$folder/alone")"
 done
 for size in 24 48 96; do
   problem generated 7 "$size"
