@@ -7,7 +7,7 @@ ghost use Rattle.table_walk.specs.Ways.{problem_of, IsWay, left_of, WentOn};
 ghost use Rattle.table_walk.specs.declared.way.Stage.TheVariants.{Standing};
 
 use crate::way::{Way, turn_off};
-use point_ladder::Ladder;
+use alive_path::AlivePath;
 use std::alloc::AllocError;
 
 // A retreat asks about a prefix for each time that the path's length may be halved, so that one after so many steps adds little.
@@ -33,7 +33,7 @@ impl Patience {
 
 // How many of the path's first relations are enough that no world begins with them, if that is shown of the whole path. The number is
 // looked for from `kept` on, and need not be the least.
-fn barren_len(ladder: &mut Ladder, kept: usize) -> Result<Option<usize>, AllocError>
+fn barren_len(ladder: &mut AlivePath, kept: usize) -> Result<Option<usize>, AllocError>
     requires { IsAlive (problem_at ladder.old.problem ladder.old.path) }
     ensures same { ladder.new ≡ ladder.old }
     ensures barren { IfOk result (λ found. IfSome found (λ len. BeginsNone ladder.old.problem (take len ladder.old.path))) }

@@ -6,7 +6,7 @@ ghost use Rattle.table_walk.specs.Tables.{IsNewListing, IsAtWorld, PassedTold, K
 use crate::start::way_from;
 use crate::way::{Way, next_world};
 use constraint_set::Problem;
-use point_ladder::{Ladder, MOST_POINTS, MOST_TRIES};
+use alive_path::AlivePath;
 use rcc5_core::{Position, Rel};
 use std::alloc::{AllocError, Global};
 use std::marker::Model;
@@ -43,9 +43,7 @@ impl Tables {
         requires { length from.now ≤ pair_count problem.now }
         ensures { IfOk result (λ o. IfSome o (IsNewListing problem.now from.now)) }
     {
-        let Some(ladder) = Ladder::bounded(alloc, problem, MOST_POINTS, MOST_TRIES)? else {
-            return Ok(None);
-        };
+        let ladder = AlivePath::bounded(alloc, problem)?;
         let way = way_from(alloc, ladder, from)?;
         let problem = problem.copy()?;
         Ok(Some(Tables { problem, way }))

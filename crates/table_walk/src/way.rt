@@ -9,7 +9,7 @@ ghost use Rattle.table_walk.specs.declared.way.Stage.TheVariants.{Standing, Told
 
 use crate::Level;
 use crate::retreat::{Patience, retreat};
-use point_ladder::Ladder;
+use alive_path::AlivePath;
 use rcc5_core::{Rel, RelSet};
 use std::alloc::AllocError;
 
@@ -27,7 +27,7 @@ pub enum Stage {
 /// A path of alive prefixes, and the levels at which other relations lead on.
 #[derive(Drop)]
 pub struct Way {
-    pub ladder: Ladder,
+    pub ladder: AlivePath,
     /// The relation that is to be added to the ladder's path next.
     pub waiting: Option<Rel>,
     pub levels: Vec<Level>,
@@ -134,7 +134,7 @@ fn enter(way: &mut Way) -> Result<(), AllocError>
     ensures shorter { Begins way.new.ladder.path way.old.ladder.path }
     ensures less { OnOk result (left_of way.new < left_of way.old) }
 {
-    let set = way.ladder.leads_on();
+    let set = way.ladder.leads_on()?;
     let Some(rel) = set.first() else {
         // The pair at which it fails here is tried first where a retreat looks for the reason.
         let pair = u32::try_from(way.ladder.path().len()).unwrap_or(u32::MAX);
