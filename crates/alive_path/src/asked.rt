@@ -1,97 +1,196 @@
 //! A path whose prefixes an asker shows to be alive.
+ghost use Rattle.std.specs.Prelude.{IfOk, IsTrue, OnErr, OnOk, [], true, length, take, ◌++◌, ◌∷◌, ◌≡◌, ◌<◌, ◌≤◌, ◌↔◌};
+ghost use Rattle.rcc5_core.specs.RelationSet.{has};
+ghost use Rattle.rcc5_core.specs.declared.Rel.{Rel};
+ghost use Rattle.world_model.specs.Alive.{IsAlive, problem_at};
+ghost use Rattle.world_model.specs.Problem.{pair_count};
+ghost use Rattle.point_ladder.specs.Ladders.{BeginsNone, IsPushed};
+ghost use Rattle.alive_path.specs.Asked.{IsLooker};
 
+use crate::narrowing::narrowed_by;
 use constraint_set::Problem;
-use pick_search::{Known, is_barren};
+use pick_search::{Known, are_whole, choose_part};
 use point_query::Asker;
 use rcc5_core::{Position, Rel, RelSet};
-use search_log::tidy;
+use search_log::tidy_by_turns;
+use split_search::Choice;
 use std::alloc::{AllocError, Global};
+use std::marker::Model;
 
-/// Between two looks at how many clauses of the asker are idle there are so many questions.
-const TIDY_TURNS: usize = 64;
+/// What looks behind a path: an asker of its own, since the other's points stand along the path, and what is known to clash.
+#[derive(Drop)]
+pub(crate) struct Looker {
+    pub(crate) asker: Asker,
+    pub(crate) known: Known,
+}
 
-/// A problem, a path, the asker for both, and which picks are known to clash, once that was asked.
+/// A problem, a path, and an asker for both.
 pub(crate) struct Asked {
     problem: Problem,
     path: Position,
     asker: Asker,
-    known: Known,
-    turn: usize,
+    // Made when it is first asked whether a world begins with the path.
+    looker: Option<Looker>,
+    // Whether each pair allows a whole set: then a world begins with each alive path.
+    whole: bool,
+    turns: u32,
     alloc: Global,
 }
 
+// Written out, so that letting one go is a call.
 impl Drop for Asked {
     fn drop(self) {
         let Asked {
             problem: _,
             path: _,
             asker: _,
-            known: _,
-            turn: _,
+            looker: _,
+            whole: _,
+            turns: _,
             alloc: _,
         } = self;
     }
 }
 
+impl Model for Asked {
+    ghost use Rattle.point_ladder.specs.Ladders.{LadderState};
+
+    ghost Value = { LadderState };
+
+    ghost use Rattle.alive_path.specs.Asked.{IsAskedPath};
+
+    ghost view = { λ s. record { problem = s.problem; path = s.path } };
+
+    ghost invariant = { λ s. IsAskedPath s };
+}
+
 impl Asked {
-    pub(crate) fn new(alloc: Global, problem: &Problem) -> Result<Asked, AllocError> {
+    /// The empty path of a problem.
+    pub(crate) fn new(alloc: Global, problem: &Problem) -> Result<Asked, AllocError>
+        ensures { IfOk result (λ s. s ≡ record { problem = problem.now; path = [] }) }
+    {
         let asker = Asker::new(alloc, problem)?;
-        let known = Known::new(alloc, problem)?;
         Ok(Asked {
             problem: problem.copy()?,
             path: Position::new(alloc),
             asker,
-            known,
-            turn: 0,
+            looker: None,
+            whole: are_whole(problem),
+            turns: 0,
             alloc,
         })
     }
 
-    fn clean(&mut self) -> Result<(), AllocError> {
-        self.turn = self.turn.wrapping_add(1);
-        if self.turn % TIDY_TURNS == 0 {
-            tidy(&mut self.asker)?;
-        }
+    // Drops the lines of the asker, which nobody reads, and now and then its idle clauses.
+    fn clean(&mut self) -> Result<(), AllocError>
+        ensures { self.new ≡ self.old }
+    {
+        self.turns = tidy_by_turns(&mut self.asker, self.turns)?;
         self.asker.clear_lines();
         Ok(())
     }
 
-    pub(crate) fn is_alive(&mut self) -> Result<bool, AllocError> {
+    /// Whether the path is alive.
+    pub(crate) fn is_alive(&mut self) -> Result<bool, AllocError>
+        ensures same { self.new ≡ self.old }
+        ensures alive { IfOk result (λ alive. IsTrue alive ↔ IsAlive (problem_at self.old.problem self.old.path)) }
+    {
         self.clean()?;
-        self.asker.is_alive(&self.problem, &self.path)
+        let alive = self.asker.is_alive(&self.problem, &self.path)?;
+        Ok(alive)
     }
 
-    pub(crate) fn leads_on(&mut self) -> Result<RelSet, AllocError> {
+    /// The relations that lead to an alive path.
+    pub(crate) fn leads_on(&mut self) -> Result<RelSet, AllocError>
+        requires alive { IsAlive (problem_at self.old.problem self.old.path) }
+        requires short { length self.old.path < pair_count self.old.problem }
+        ensures same { self.new ≡ self.old }
+        ensures next { IfOk result (λ set. (rel : Rel) → IsTrue (has set rel) ↔ IsAlive (problem_at self.old.problem (self.old.path ++ rel ∷ []))) }
+    {
         self.clean()?;
-        self.asker.alive_after(&self.problem, &self.path)
+        let set = self.asker.alive_after(&self.problem, &self.path)?;
+        Ok(set)
     }
 
-    pub(crate) fn push(&mut self, rel: Rel) -> Result<bool, AllocError> {
+    /// Puts a relation at the end of the path, if that leads to an alive one.
+    pub(crate) fn push(&mut self, rel: Rel) -> Result<bool, AllocError>
+        requires short { length self.old.path < pair_count self.old.problem }
+        ensures pushed { IfOk result (IsPushed self.old self.new rel) }
+        ensures err { OnErr result (self.new ≡ self.old) }
+    {
         self.path.push(rel)?;
-        match self.asker.is_alive(&self.problem, &self.path) {
-            Ok(true) => Ok(true),
-            Ok(false) => {
-                let _ = self.path.pop();
-                Ok(false)
-            }
-            Err(fault) => {
-                let _ = self.path.pop();
-                Err(fault)
-            }
+        let alive = self.asker.is_alive(&self.problem, &self.path);
+        if alive != Ok(true) {
+            let _ = self.path.pop();
         }
+        alive
     }
 
-    pub(crate) fn is_barren(&mut self, len: usize) -> Result<bool, AllocError> {
-        is_barren(self.alloc, &self.problem, &self.path.rels()[..len], &mut self.known, &mut self.asker)
+    /// Whether a world begins with each alive path: a hint.
+    pub(crate) fn leads_to_worlds(&self) -> bool {
+        self.whole
     }
 
-    pub(crate) fn back_to(&mut self, len: usize) {
+    // The looker that was kept, or a new one. Until it is put back there is none.
+    fn take_looker(&mut self) -> Result<Looker, AllocError>
+        ensures same { self.new ≡ self.old }
+        ensures looker { IfOk result (IsLooker self.old.problem) }
+    {
+        if let Some(looker) = self.looker.take() {
+            return Ok(looker);
+        }
+        Ok(Looker {
+            asker: Asker::new(self.alloc, &self.problem)?,
+            known: Known::new(self.alloc, &self.problem)?,
+        })
+    }
+
+    /// Whether no world begins with the first relations.
+    pub(crate) fn is_barren(&mut self, len: usize) -> Result<bool, AllocError>
+        requires { len ≤ length self.old.path }
+        ensures same { self.new ≡ self.old }
+        ensures none { IfOk result (λ none. none ≡ true → BeginsNone self.old.problem (take len self.old.path)) }
+    {
+        let mut looker = self.take_looker()?;
+        let none = lies_none(self.alloc, &self.problem, &self.path.rels()[..len], &mut looker)?;
+        self.looker = Some(looker);
+        Ok(none)
+    }
+
+    /// Takes the path back to its first relations.
+    pub(crate) fn back_to(&mut self, len: usize)
+        requires { len ≤ length self.old.path }
+        ensures { self.new ≡ record self.old { path = take len self.old.path } }
+    {
         while self.path.len() > len {
             let _ = self.path.pop();
         }
     }
 
-    pub(crate) fn path(&self) -> &[Rel] {
+    /// The relations.
+    pub(crate) fn path(&self) -> &[Rel]
+        ensures { result.now ≡ self.now.path }
+    {
         self.path.rels()
+    }
+}
+
+// Whether no world begins with a path.
+fn lies_none(
+    alloc: Global,
+    problem: &Problem,
+    path: &[Rel],
+    looker: &mut Looker,
+) -> Result<bool, AllocError>
+    requires within { length path.now ≤ pair_count problem.now }
+    requires looker { IsLooker problem.now looker.old }
+    ensures looker { OnOk result (IsLooker problem.now looker.new) }
+    ensures none { IfOk result (λ none. none ≡ true → BeginsNone problem.now path.now) }
+{
+    let node = narrowed_by(alloc, problem, path)?;
+    let choice = choose_part(alloc, problem, &node, &mut looker.known, &mut looker.asker)?;
+    match choice {
+        Choice::Met(_) => Ok(false),
+        Choice::Refuted => Ok(true),
     }
 }

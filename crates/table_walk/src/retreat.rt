@@ -10,10 +10,8 @@ use crate::way::{Way, turn_off};
 use alive_path::AlivePath;
 use std::alloc::AllocError;
 
-// A retreat asks about a prefix for each time that the path's length may be halved, so that one after so many steps adds little.
-const FIRST_PATIENCE: usize = 64;
-
-/// How long a way goes on without a world before it asks whether its path leads to one: a hint.
+/// How long a way goes on without a world before it asks whether its path leads to one: a hint. A retreat asks about a prefix for
+/// each time that the path's length may be halved, so that one after some steps adds little.
 #[derive(Clone, Copy, PartialEq, Eq)]
 pub(crate) struct Patience {
     /// The steps since the last world or retreat.
@@ -23,11 +21,8 @@ pub(crate) struct Patience {
 }
 
 impl Patience {
-    pub(crate) fn new() -> Patience {
-        Patience {
-            steps: 0,
-            most: FIRST_PATIENCE,
-        }
+    pub(crate) fn new(most: usize) -> Patience {
+        Patience { steps: 0, most }
     }
 }
 

@@ -43,7 +43,7 @@ impl Tables {
         requires { length from.now ≤ pair_count problem.now }
         ensures { IfOk result (λ o. IfSome o (IsNewListing problem.now from.now)) }
     {
-        let ladder = AlivePath::bounded(alloc, problem)?;
+        let ladder = AlivePath::new(alloc, problem)?;
         let way = way_from(alloc, ladder, from)?;
         let problem = problem.copy()?;
         Ok(Some(Tables { problem, way }))

@@ -124,17 +124,17 @@ pub(crate) fn go_on(way: &mut Way, set: RelSet, rel: Rel) -> Result<(), AllocErr
     Ok(())
 }
 
-// Goes on from an alive prefix that is not full.
-fn enter(way: &mut Way) -> Result<(), AllocError>
+// Goes on from an alive prefix that is not full, by the first of the relations that lead on.
+fn enter(way: &mut Way, set: RelSet) -> Result<(), AllocError>
     requires way { IsWay way.old }
     requires standing { way.old.stage ≡ Standing }
     requires ready { way.old.waiting ≡ None }
     requires short { length way.old.ladder.path < pair_count (problem_of way.old) }
+    requires next { AreNext (problem_of way.old) way.old.ladder.path set }
     ensures went { WentOn way.old way.new }
     ensures shorter { Begins way.new.ladder.path way.old.ladder.path }
     ensures less { OnOk result (left_of way.new < left_of way.old) }
 {
-    let set = way.ladder.leads_on()?;
     let Some(rel) = set.first() else {
         // The pair at which it fails here is tried first where a retreat looks for the reason.
         let pair = u32::try_from(way.ladder.path().len()).unwrap_or(u32::MAX);
@@ -145,7 +145,16 @@ fn enter(way: &mut Way) -> Result<(), AllocError>
     go_on(way, set, rel)
 }
 
+// Whether one relation and no other is in a set.
+fn is_single(set: RelSet) -> bool {
+    match set.first() {
+        Some(rel) => set.after(rel).is_none(),
+        None => false,
+    }
+}
+
 // Takes a step from an alive prefix that is not full: a retreat, if many steps led to no world and none begins with the path, else on.
+// Where one relation is left there is no choice, so that is not counted.
 fn step(way: &mut Way, kept: usize, patience: &mut Patience) -> Result<(), AllocError>
     requires way { IsWay way.old }
     requires standing { way.old.stage ≡ Standing }
@@ -155,6 +164,10 @@ fn step(way: &mut Way, kept: usize, patience: &mut Patience) -> Result<(), Alloc
     ensures shorter { Begins way.new.ladder.path way.old.ladder.path }
     ensures less { OnOk result (left_of way.new < left_of way.old) }
 {
+    let set = way.ladder.leads_on()?;
+    if is_single(set) {
+        return enter(way, set);
+    }
     patience.steps = patience.steps.saturating_add(1);
     if patience.steps > patience.most {
         patience.steps = 0;
@@ -164,7 +177,7 @@ fn step(way: &mut Way, kept: usize, patience: &mut Patience) -> Result<(), Alloc
         // There may be a world behind the path, so it goes on for longer before it asks again.
         patience.most = patience.most.saturating_mul(2);
     }
-    enter(way)
+    enter(way, set)
 }
 
 // Leaves the table that was told, if there is one. How many of its relations are still on the path.
@@ -198,7 +211,7 @@ pub fn next_world(way: &mut Way, pairs: usize) -> Result<Option<usize>, AllocErr
     ensures err { OnErr result (told_of way.new ≡ []) }
 {
     let mut kept = leave(way);
-    let mut patience = Patience::new();
+    let mut patience = Patience::new(way.ladder.patience());
     while way.stage == Stage::Standing {
         add_waiting(way)?;
         go_along(way);

@@ -1,0 +1,26 @@
+//! A problem narrowed along a path.
+ghost use Rattle.std.specs.Prelude.{IfOk, OnOk, [], ◌∷◌, ◌≡◌, ◌<◌, ◌≤◌, length};
+ghost use Rattle.world_model.specs.Problem.{pair_count};
+ghost use Rattle.alive_path.specs.Asked.{IsNarrowedBy};
+
+use constraint_set::Problem;
+use rcc5_core::{Rel, RelSet};
+use std::alloc::{AllocError, Global};
+
+/// The problem in which each of the first pairs has just the relation that a path has there.
+pub(crate) fn narrowed_by(
+    alloc: Global,
+    problem: &Problem,
+    path: &[Rel],
+) -> Result<Problem, AllocError>
+    requires { length path.now ≤ pair_count problem.now }
+    ensures { IfOk result (IsNarrowedBy problem.now path.now) }
+{
+    let mut node = problem.copy()?;
+    let mut pair: u32 = 0;
+    for rel in path {
+        node.narrow(alloc, pair, RelSet::one(*rel))?;
+        pair += 1;
+    }
+    Ok(node)
+}
