@@ -1,13 +1,13 @@
 -- A path whose prefixes an asker shows to be alive, and a problem narrowed along one.
-use Rattle.std.specs.Prelude.{IsTrue, List, ◌≡◌, ◌≤◌, length, IfSome}
+use Rattle.std.specs.Prelude.{IsTrue, List, Option, ◌≡◌, ◌≤◌, length, IfSome}
 use Rattle.rcc5_core.specs.declared.Rel.{Rel}
 use Rattle.world_model.specs.Problem.{Problem, pair_count}
 use Rattle.world_model.specs.Family.{Family, meets, table_of}
 use Rattle.world_model.specs.Listing.{Begins}
 use Rattle.constraint_set.specs.Shape.{SameShape, shape_of}
+use Rattle.point_query.specs.Asking.{AskerState}
 use Rattle.pick_search.specs.Picking.{IsKnown}
 use Rattle.point_ladder.specs.Ladders.{LadderState}
-use Rattle.alive_path.specs.declared.asked.Asked as code
 use Rattle.alive_path.specs.declared.asked.Looker.{Looker}
 use Rattle.alive_path.specs.declared.path.Ground.{Ground}
 use Rattle.alive_path.specs.declared.path.Ground.TheVariants as by
@@ -24,10 +24,10 @@ pub record IsLooker (p : Problem) (l : Looker) : Type 0 where
   pub known : IsKnown p l.known
 
 -- the asker is one for the problem, and the path has no more relations than that has pairs
-pub record IsAskedPath (s : code.Asked) : Type 0 where
-  pub shape : s.asker.shape ≡ shape_of s.problem
-  pub upto : length s.path ≤ pair_count s.problem
-  pub looker : IfSome s.looker (IsLooker s.problem)
+pub record IsAskedPath (p : Problem) (m : List Rel) (asker : AskerState) (behind : Option Looker) : Type 0 where
+  pub shape : asker.shape ≡ shape_of p
+  pub upto : length m ≤ pair_count p
+  pub looker : IfSome behind (IsLooker p)
 
 -- a problem and a path, whichever tells what is alive
 abbrev pub state_of : Ground → LadderState

@@ -1,5 +1,5 @@
 //! A path whose prefixes an asker shows to be alive.
-ghost use Rattle.std.specs.Prelude.{IfOk, IsTrue, OnErr, OnOk, [], true, length, take, ◌++◌, ◌∷◌, ◌≡◌, ◌<◌, ◌≤◌, ◌↔◌};
+ghost use Rattle.std.specs.Prelude.{IfOk, IfSome, IsTrue, OnErr, OnOk, [], true, length, take, ◌++◌, ◌∷◌, ◌≡◌, ◌<◌, ◌≤◌, ◌↔◌};
 ghost use Rattle.rcc5_core.specs.RelationSet.{has};
 ghost use Rattle.rcc5_core.specs.declared.Rel.{Rel};
 ghost use Rattle.world_model.specs.Alive.{IsAlive, problem_at};
@@ -61,7 +61,7 @@ impl Model for Asked {
 
     ghost view = { λ s. record { problem = s.problem; path = s.path } };
 
-    ghost invariant = { λ s. IsAskedPath s };
+    ghost invariant = { λ s. IsAskedPath s.problem s.path s.asker s.looker };
 }
 
 impl Asked {
@@ -131,27 +131,14 @@ impl Asked {
         self.whole
     }
 
-    // The looker that was kept, or a new one. Until it is put back there is none.
-    fn take_looker(&mut self) -> Result<Looker, AllocError>
-        ensures same { self.new ≡ self.old }
-        ensures looker { IfOk result (IsLooker self.old.problem) }
-    {
-        if let Some(looker) = self.looker.take() {
-            return Ok(looker);
-        }
-        Ok(Looker {
-            asker: Asker::new(self.alloc, &self.problem)?,
-            known: Known::new(self.alloc, &self.problem)?,
-        })
-    }
-
     /// Whether no world begins with the first relations.
     pub(crate) fn is_barren(&mut self, len: usize) -> Result<bool, AllocError>
         requires { len ≤ length self.old.path }
         ensures same { self.new ≡ self.old }
         ensures none { IfOk result (λ none. none ≡ true → BeginsNone self.old.problem (take len self.old.path)) }
     {
-        let mut looker = self.take_looker()?;
+        let kept = self.looker.take();
+        let mut looker = ready(self.alloc, &self.problem, kept)?;
         let none = lies_none(self.alloc, &self.problem, &self.path.rels()[..len], &mut looker)?;
         self.looker = Some(looker);
         Ok(none)
@@ -173,6 +160,20 @@ impl Asked {
     {
         self.path.rels()
     }
+}
+
+// The looker that was kept, or a new one.
+fn ready(alloc: Global, problem: &Problem, kept: Option<Looker>) -> Result<Looker, AllocError>
+    requires { IfSome kept (IsLooker problem.now) }
+    ensures { IfOk result (IsLooker problem.now) }
+{
+    if let Some(looker) = kept {
+        return Ok(looker);
+    }
+    Ok(Looker {
+        asker: Asker::new(alloc, problem)?,
+        known: Known::new(alloc, problem)?,
+    })
 }
 
 // Whether no world begins with a path.

@@ -16,11 +16,10 @@ pub(crate) fn narrowed_by(
     requires { length path.now ≤ pair_count problem.now }
     ensures { IfOk result (IsNarrowedBy problem.now path.now) }
 {
+    problem.facts();
     let mut node = problem.copy()?;
-    let mut pair: u32 = 0;
-    for rel in path {
-        node.narrow(alloc, pair, RelSet::one(*rel))?;
-        pair += 1;
+    for pair in 0..path.len() {
+        node.narrow(alloc, pair as u32, RelSet::one(path[pair]))?;
     }
     Ok(node)
 }

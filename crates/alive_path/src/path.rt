@@ -88,8 +88,8 @@ impl AlivePath {
         ensures next { IfOk result (λ set. (rel : Rel) → IsTrue (has set rel) ↔ IsAlive (problem_at self.old.problem (self.old.path ++ rel ∷ []))) }
     {
         match &mut self.ground {
-            Ground::Tabled(ladder) => Ok(ladder.leads_on()),
-            Ground::Asked(asked) => asked.leads_on(),
+            Ground::Tabled(ladder) => return Ok(ladder.leads_on()),
+            Ground::Asked(asked) => return asked.leads_on(),
         }
     }
 
@@ -126,8 +126,8 @@ impl AlivePath {
         ensures none { IfOk result (λ none. none ≡ true → BeginsNone self.old.problem (take len self.old.path)) }
     {
         match &mut self.ground {
-            Ground::Tabled(ladder) => ladder.is_barren(len),
-            Ground::Asked(asked) => asked.is_barren(len),
+            Ground::Tabled(ladder) => return ladder.is_barren(len),
+            Ground::Asked(asked) => return asked.is_barren(len),
         }
     }
 

@@ -4,7 +4,7 @@ ghost use Rattle.world_model.specs.Problem.{pair_count, is_problem};
 ghost use Rattle.table_walk.specs.Ways.{problem_of, place, IsWay, told_of, HasBegun, Follows};
 ghost use Rattle.table_walk.specs.declared.way.Stage.TheVariants.{Standing};
 
-use crate::way::{Stage, Way, add_waiting, go_on, turn_off};
+use crate::way::{Stage, Way, add_waiting, go_on, next_set, turn_off};
 use alive_path::AlivePath;
 use rcc5_core::{Position, Rel};
 use std::alloc::{AllocError, Global};
@@ -20,7 +20,7 @@ fn follow(way: &mut Way, rel: Rel) -> Result<bool, AllocError>
     ensures untold { OnOk result (told_of way.new ≡ []) }
     ensures follows { IfOk result (Follows way.old way.new rel) }
 {
-    let set = way.ladder.leads_on()?;
+    let set = next_set(way)?;
     if set.has(rel) {
         go_on(way, set, rel)?;
         return Ok(true);
@@ -50,13 +50,12 @@ fn go_to(way: &mut Way, from: &Position) -> Result<(), AllocError>
 }
 
 /// A way that stands at the first place from a position on.
-pub fn way_from(alloc: Global, ladder: AlivePath, from: &Position) -> Result<Way, AllocError>
+pub fn way_from(alloc: Global, mut ladder: AlivePath, from: &Position) -> Result<Way, AllocError>
     requires valid { IsTrue (is_problem ladder.problem) }
     requires empty { ladder.path ≡ [] }
     requires within { length from.now ≤ pair_count ladder.problem }
     ensures { IfOk result (HasBegun ladder.problem from.now) }
 {
-    let mut ladder = ladder;
     let alive = ladder.is_alive()?;
     let mut way = Way {
         ladder,

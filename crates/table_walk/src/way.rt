@@ -124,6 +124,18 @@ pub(crate) fn go_on(way: &mut Way, set: RelSet, rel: Rel) -> Result<(), AllocErr
     Ok(())
 }
 
+/// The relations that lead on.
+pub(crate) fn next_set(way: &mut Way) -> Result<RelSet, AllocError>
+    requires way { IsWay way.old }
+    requires standing { way.old.stage ≡ Standing }
+    requires ready { way.old.waiting ≡ None }
+    requires short { length way.old.ladder.path < pair_count (problem_of way.old) }
+    ensures same { way.new ≡ way.old }
+    ensures next { IfOk result (AreNext (problem_of way.old) way.old.ladder.path) }
+{
+    way.ladder.leads_on()
+}
+
 // Goes on from an alive prefix that is not full, by the first of the relations that lead on.
 fn enter(way: &mut Way, set: RelSet) -> Result<(), AllocError>
     requires way { IsWay way.old }
@@ -164,7 +176,7 @@ fn step(way: &mut Way, kept: usize, patience: &mut Patience) -> Result<(), Alloc
     ensures shorter { Begins way.new.ladder.path way.old.ladder.path }
     ensures less { OnOk result (left_of way.new < left_of way.old) }
 {
-    let set = way.ladder.leads_on()?;
+    let set = next_set(way)?;
     if is_single(set) {
         return enter(way, set);
     }
