@@ -1,26 +1,26 @@
 //! The start of a way, at any position.
 ghost use Rattle.std.specs.Prelude.{◌≡◌, ◌<◌, ◌≤◌, [], length, Some, None, IfOk, OnOk, IsTrue};
 ghost use Rattle.world_model.specs.Problem.{pair_count, is_problem};
-ghost use Rattle.table_walk.specs.Ways.{problem_of, place, IsWay, told_of, HasBegun, Follows};
+ghost use Rattle.table_walk.specs.Ways.{problem_of, place, IsWay, told_of, AreNext, HasBegun, Follows};
 ghost use Rattle.table_walk.specs.declared.way.Stage.TheVariants.{Standing};
 
 use crate::way::{Stage, Way, add_waiting, go_on, next_set, turn_off};
 use alive_path::AlivePath;
-use rcc5_core::{Position, Rel};
+use rcc5_core::{Position, Rel, RelSet};
 use std::alloc::{AllocError, Global};
 
-// Goes along with a relation, if that leads on; else to the next later place. Whether it went along.
-fn follow(way: &mut Way, rel: Rel) -> Result<bool, AllocError>
+// Goes along with a relation, if it is one of those that lead on; else to the next later place. Whether it went along.
+fn follow(way: &mut Way, set: RelSet, rel: Rel) -> Result<bool, AllocError>
     requires way { IsWay way.old }
     requires standing { way.old.stage ≡ Standing }
     requires ready { way.old.waiting ≡ None }
     requires short { length way.old.ladder.path < pair_count (problem_of way.old) }
+    requires next { AreNext (problem_of way.old) way.old.ladder.path set }
     ensures problem { problem_of way.new ≡ problem_of way.old }
     ensures way { OnOk result (IsWay way.new) }
     ensures untold { OnOk result (told_of way.new ≡ []) }
     ensures follows { IfOk result (Follows way.old way.new rel) }
 {
-    let set = next_set(way)?;
     if set.has(rel) {
         go_on(way, set, rel)?;
         return Ok(true);
@@ -42,7 +42,8 @@ fn go_to(way: &mut Way, from: &Position) -> Result<(), AllocError>
 {
     for rel in from.rels() {
         add_waiting(way)?;
-        if !follow(way, *rel)? {
+        let set = next_set(way)?;
+        if !follow(way, set, *rel)? {
             return Ok(());
         }
     }

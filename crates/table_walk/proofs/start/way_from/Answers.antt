@@ -1,6 +1,9 @@
-use Rattle.std.proofs.Common.{refl, sym, ◌∙◌, subst}
-use Rattle.std.specs.Prelude.{None}
+use Rattle.std.proofs.Common.{◌≡◌, [], refl, sym, ap, ◌∙◌, subst}
+use Rattle.std.specs.Prelude.{IsTrue, None}
 use Rattle.std.proofs.lemmas.Bool.{true≢false}
+use Rattle.world_model.specs.Alive.{IsAlive, problem_at}
+use Rattle.world_model.specs.Problem.{Problem, is_problem}
+use Rattle.point_ladder.specs.Ladders.{LadderState}
 use Rattle.table_walk.specs.declared.way.Stage.TheVariants.{Standing, Past}
 use Rattle.table_walk.specs.Ways.{HasBegun}
 use Rattle.table_walk.proofs.HasBegun.{fresh_way, dead_way}
@@ -9,12 +12,21 @@ use Rattle.table_walk.proofs.start.way_from.Goals.{then-alive+in_ok-go_to, else-
 
 pub go_to-requires-clause-way : goal.go_to-requires-clause-way
 go_to-requires-clause-way c =
-    (fresh_way (record { ladder = c.args.ladder; waiting = None; levels = c.new.result; stage = Standing }) c.requires.valid c.requires.empty refl c.new.ensures.items refl (c.is_alive-alive.ensures.0 c.if-alive.true)).0
+    let same : c.is_alive.new.self ≡ c.args.ladder = c.is_alive.ensures.same in
+    (fresh_way (record { ladder = c.is_alive.new.self; waiting = None; levels = c.new.result; stage = Standing })
+    (subst (λ (l : LadderState). IsTrue (is_problem l.problem)) (sym same) c.requires.valid) (subst (λ (l : LadderState). l.path ≡ []) (sym same) c.requires.empty) refl c.new.ensures.items refl
+    (subst (λ (l : LadderState). IsAlive (problem_at l.problem l.path)) (sym same) (c.in_ok-alive.ensures.alive.0 c.if-alive.true))).0
 
 pub returns : goal.returns
-returns c = elim c.if-alive.branch [
-  | then-alive+in_ok-go_to w ↦ subst (HasBegun c.args.ladder.problem c.args.from.now) (sym w.way'-is) w.in_ok-go_to.ensures
-  | else-alive w ↦
-      subst (HasBegun c.args.ladder.problem c.args.from.now) (sym w.way'-is)
-      (dead_way (record { ladder = c.args.ladder; waiting = None; levels = c.new.result; stage = Past }) c.args.from.now c.requires.valid c.requires.empty refl (λ alive. true≢false (sym (c.is_alive-alive.ensures.1 alive) ∙ w.if-alive.false)))
-]
+returns c =
+    let same : c.is_alive.new.self ≡ c.args.ladder = c.is_alive.ensures.same in
+    let here : c.is_alive.new.self.problem ≡ c.args.ladder.problem = ap (λ (l : LadderState). l.problem) same in
+    elim c.if-alive.branch [
+      | then-alive+in_ok-go_to w ↦ subst (HasBegun c.args.ladder.problem c.args.from.now) (sym w.way'-is) (subst (λ (p : Problem). HasBegun p c.args.from.now w.go_to.new.way) here w.in_ok-go_to.ensures)
+      | else-alive w ↦
+          subst (HasBegun c.args.ladder.problem c.args.from.now) (sym w.way'-is)
+          (subst (λ (p : Problem). HasBegun p c.args.from.now (record { ladder = c.is_alive.new.self; waiting = None; levels = c.new.result; stage = Past })) here
+          (dead_way (record { ladder = c.is_alive.new.self; waiting = None; levels = c.new.result; stage = Past }) c.args.from.now
+          (subst (λ (l : LadderState). IsTrue (is_problem l.problem)) (sym same) c.requires.valid) (subst (λ (l : LadderState). l.path ≡ []) (sym same) c.requires.empty) refl
+          (λ alive. true≢false (sym (c.in_ok-alive.ensures.alive.1 (subst (λ (l : LadderState). IsAlive (problem_at l.problem l.path)) same alive)) ∙ w.if-alive.false))))
+    ]

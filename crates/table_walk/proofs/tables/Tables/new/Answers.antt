@@ -1,5 +1,4 @@
 use Rattle.std.proofs.Common.{sym, subst}
-use Rattle.std.specs.Prelude.{IfSome}
 use Rattle.point_ladder.specs.Ladders.{IsBoundOf}
 use Rattle.table_walk.specs.Tables.{tables_of, IsNewListing}
 use Rattle.table_walk.proofs.HasBegun.{new_listing}
@@ -7,11 +6,11 @@ use Rattle.table_walk.proofs.tables.Tables.new.Goals as goal
 
 pub invariant_of-result : goal.invariant_of-result
 invariant_of-result c =
-    let bound : IsBoundOf c.in_ok-problem.problem c.in-Some.ladder = subst (λ p. IsBoundOf p c.in-Some.ladder) (sym c.in_ok-problem.ensures) (subst (λ o. IfSome o (IsBoundOf c.args.problem.now)) c.in-Some.is c.in_ok-ladder.ensures) in
-    (new_listing c.in_ok-problem.problem c.in-Some.ladder c.args.from.now c.in_ok-way.way bound c.in_ok-way.ensures).0
+    let bound : IsBoundOf c.in_ok-problem.problem c.in_ok-ladder.ladder = subst (λ p. IsBoundOf p c.in_ok-ladder.ladder) (sym c.in_ok-problem.ensures) c.in_ok-ladder.ensures in
+    (new_listing c.in_ok-problem.problem c.in_ok-ladder.ladder c.args.from.now c.in_ok-way.way bound c.in_ok-way.ensures).0
 
 pub returns : goal.returns
 returns c =
-    let bound : IsBoundOf c.in_ok-problem.problem c.in-Some.ladder = subst (λ p. IsBoundOf p c.in-Some.ladder) (sym c.in_ok-problem.ensures) (subst (λ o. IfSome o (IsBoundOf c.args.problem.now)) c.in-Some.is c.in_ok-ladder.ensures) in
+    let bound : IsBoundOf c.in_ok-problem.problem c.in_ok-ladder.ladder = subst (λ p. IsBoundOf p c.in_ok-ladder.ladder) (sym c.in_ok-problem.ensures) c.in_ok-ladder.ensures in
     subst (λ p. IsNewListing p c.args.from.now (tables_of c.in_ok-problem.problem c.in_ok-way.way)) c.in_ok-problem.ensures
-    (new_listing c.in_ok-problem.problem c.in-Some.ladder c.args.from.now c.in_ok-way.way bound c.in_ok-way.ensures).1
+    (new_listing c.in_ok-problem.problem c.in_ok-ladder.ladder c.args.from.now c.in_ok-way.way bound c.in_ok-way.ensures).1
