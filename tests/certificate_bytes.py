@@ -13,9 +13,8 @@ import subprocess
 import sys
 import tempfile
 
-import certificate_writer
-import certificates
-import plain
+from oracle import certificate_writer, certificates, texts
+
 
 HERE = os.path.dirname(os.path.abspath(__file__))
 PROBLEM = b"taxonomy 1\n(A B)\ntaxonomy 2\n(C)\narticulation\n[1.A equals 2.C]\n"
@@ -41,9 +40,9 @@ def changes(data):
 def cases():
     """Problems and their certificates: two that are written down here, and two by certificate_writer.py."""
     for text, data in ((ALONE, LISTED), (TWO_EQUAL, REFUTED)):
-        yield text, plain.read_problem(text, (True, True, True)).finish(), data
+        yield text, texts.read_problem(text, (True, True, True)).finish(), data
     for text, kind, seed in ((PROBLEM, "listing", 10), (CLAIMED, "claims", 3)):
-        problem = plain.read_problem(text, (True, True, True)).finish()
+        problem = texts.read_problem(text, (True, True, True)).finish()
         yield text, problem, getattr(certificate_writer.Writer(problem, random.Random(seed)), kind)()
 
 

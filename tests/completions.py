@@ -17,7 +17,7 @@ import sys
 import tempfile
 from importlib.machinery import SourceFileLoader
 
-from commands import DESK, ROWS
+from oracle.commands import DESK, ROWS
 
 ROOT = os.path.join(os.path.dirname(os.path.abspath(__file__)), "..")
 COMPLETIONS = os.path.join(ROOT, "completions")

@@ -1,5 +1,5 @@
 #!/usr/bin/env python3
-"""Sets the built desk beside the plain one (plain_desk.py): random problems with random scripts, and scripts that nobody would write.
+"""Sets the built desk beside the oracle's (oracle/desk.py): random problems with random scripts, and scripts that nobody would write.
 
     tests/desk.py [--cases N] [--seed S] [--tally] [PROGRAM]
 
@@ -16,10 +16,9 @@ import random
 import sys
 import tempfile
 
-import plain
-import plain_desk
 import random_cases
 from differential import Difference, Runner, switch_words
+from oracle import desk, model, texts
 
 HERE = os.path.dirname(os.path.abspath(__file__))
 WORDS = ["in=p", "script=s"]
@@ -41,11 +40,11 @@ class DeskRunner(Runner):
         os.makedirs(os.path.join(self.folder, "d"), exist_ok=True)
 
     def told(self, name):
-        return plain_desk.bytes_of_file(os.path.join(self.folder, name))
+        return desk.bytes_of_file(os.path.join(self.folder, name))
 
     def compared(self, words):
         """What the program puts; it must be what the plain desk says."""
-        code, text = plain_desk.answer(words, self.told)
+        code, text = desk.answer(words, self.told)
         got = self.run(words)
         for line in text.split("\n")[:-1]:
             self.answers[" ".join([word for word in line.split(" ") if not word.isdigit()][:2 if code else 1])] += 1
@@ -63,7 +62,7 @@ class DeskRunner(Runner):
 
 def random_narrowing(rng, problem):
     left, right = (problem.text_name(c) for c in rng.sample(range(len(problem.names)), 2))
-    letters = rng.choices(plain.LETTERS, k=rng.choice([1, 1, 2, 3, 4, 5]))
+    letters = rng.choices(model.LETTERS, k=rng.choice([1, 1, 2, 3, 4, 5]))
     return f"narrow {left} {right} {''.join(letters)}"
 
 
@@ -143,7 +142,7 @@ def odd_lines(rng, problem):
 
 def check_orders(runner, problem, words, rng):
     """A script, and its requests in another order."""
-    slots = rng.sample(range(1, plain_desk.MOST_SLOTS + 1), rng.choice([0, 1, 1, 2, 2, 3, 3, 4, 7, 16]))
+    slots = rng.sample(range(1, desk.MOST_SLOTS + 1), rng.choice([0, 1, 1, 2, 2, 3, 3, 4, 7, 16]))
     acts = {slot: acts_of_slot(rng, problem, rng.randint(1, 9)) for slot in slots}
     first = runner.script(words, written(dealt(rng, acts)))
     other = dealt(rng, acts)
@@ -155,7 +154,7 @@ def check_orders(runner, problem, words, rng):
 
 def check_interleavings(runner, problem, words, rng):
     """Three requests of each of two slots, in all orders."""
-    one, other = rng.sample(range(1, plain_desk.MOST_SLOTS + 1), 2)
+    one, other = rng.sample(range(1, desk.MOST_SLOTS + 1), 2)
     acts, replies = {slot: acts_of_slot(rng, problem, 3) for slot in (one, other)}, []
     for places in itertools.combinations(range(6), 3):
         requests = in_turns(acts, [one if place in places else other for place in range(6)])
@@ -192,9 +191,9 @@ def check_text(runner, text, rng):
     """A damaged problem, where it has not become too great to list."""
     data = random_cases.damaged(rng, text.encode(), random_cases.TEXT_PIECES)
     try:
-        if len(plain.read_problem(data, (True, True, True)).names) > 6:
+        if len(texts.read_problem(data, (True, True, True)).names) > 6:
             return
-    except plain.Fault:
+    except texts.Fault:
         pass
     runner.hold("p", data)
     # the problem is judged before the script is read
@@ -206,7 +205,7 @@ def case(runner, rng):
     switches = random_cases.random_switches(rng)
     words = switch_words(switches)
     runner.hold("p", text.encode())
-    problem = plain.read_problem(text.encode(), switches).finish()
+    problem = texts.read_problem(text.encode(), switches).finish()
     requests = check_orders(runner, problem, words, rng)
     check_interleavings(runner, problem, words, rng)
     check_damaged(runner, problem, words, requests, rng)
@@ -230,12 +229,12 @@ def filled_to(size, line, last=b""):
 HOSTILE = [
     ("nothing", b""),
     ("blanks", b" \t \n\t\n   \n"),
-    ("as many blanks as may be", filled_to(plain_desk.MOST_BYTES, b"\n")),
-    ("a blank more", filled_to(plain_desk.MOST_BYTES + 1, b"\n")),
-    ("a last request that just fits", filled_to(plain_desk.MOST_BYTES, b" \t\n", LOOKED_AT)),
-    ("a last request that doesn't fit", filled_to(plain_desk.MOST_BYTES + 1, b" \t\n", LOOKED_AT)),
-    ("too long, and no script besides", b"x" * (plain_desk.MOST_BYTES + 1)),
-    ("a word as long as may be", b"x" * plain_desk.MOST_BYTES),
+    ("as many blanks as may be", filled_to(desk.MOST_BYTES, b"\n")),
+    ("a blank more", filled_to(desk.MOST_BYTES + 1, b"\n")),
+    ("a last request that just fits", filled_to(desk.MOST_BYTES, b" \t\n", LOOKED_AT)),
+    ("a last request that doesn't fit", filled_to(desk.MOST_BYTES + 1, b" \t\n", LOOKED_AT)),
+    ("too long, and no script besides", b"x" * (desk.MOST_BYTES + 1)),
+    ("a word as long as may be", b"x" * desk.MOST_BYTES),
     ("a slot of many digits", b"1" * 1_000_000 + b" open\n"),
     ("a slot of many zeros", b"0" * 1_000_000 + b"1 open\n"),
     ("very many words", b"1 " * 500_000 + b"\n"),
@@ -301,7 +300,7 @@ def main():
             for number in range(given.cases):
                 try:
                     case(runner, random.Random(f"{given.seed} {number}"))
-                except plain.TooMany:
+                except model.TooMany:
                     skipped += 1
         except Difference as difference:
             print(f"case {number} of seed {given.seed}: {difference}")

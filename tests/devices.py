@@ -29,9 +29,10 @@ import tempfile
 import threading
 import time
 
-import plain
-import plain_desk
-from commands import ON_DEVICES, ROWS, files_written, names_in, values_of
+import oracle.desk
+from oracle import trials
+from oracle.commands import ROWS, files_written, names_in, values_of
+from small_runs import ON_DEVICES
 
 HERE = os.path.dirname(os.path.abspath(__file__))
 NOBODY = 65534
@@ -41,7 +42,7 @@ READ_FAULT, WRITE_FAULT = (3, "read fault\n"), (4, "")
 
 # a problem with several worlds, and one statement more that makes it a conflict
 SMALL = b"taxonomy 1\n(r b1 s1)\ntaxonomy 2\n(r E F)\narticulation\n[1.r equals 2.r]\n", b"[1.b1 disjoint 2.r]\n"
-LARGER = plain.made_text(7, 40).encode(), SMALL[1]
+LARGER = trials.made_text(7, 40).encode(), SMALL[1]
 # words that make a file that others read, and its name
 MADE = [
     ("align in=p worlds=1 token=r", "r"), ("align in=p worlds=3 token=u", "u"), ("align in=p cert=k", "k"),
@@ -199,7 +200,7 @@ class DeskBench(Bench):
     def judge(self, name, got, fault, changed=(), before=None):
         code, out, told = got
         if out and b" NoMemory\n" in out:
-            why = plain_desk.starved_fault(self.files["s"].decode().splitlines(), code, out.decode(), self.served)
+            why = oracle.desk.starved_fault(self.files["s"].decode().splitlines(), code, out.decode(), self.served)
             if why or self.held() != self.files:
                 raise Failed(why or "a file is changed")
             return

@@ -1,5 +1,5 @@
 #!/usr/bin/env python3
-"""Sets the built program beside the plain ones (plain.py, plain_words.py, certificates.py), on random problems, texts, words, tokens and
+"""Sets the built program beside the plain ones of oracle/, on random problems, texts, words, tokens and
 certificates.
 
     tests/differential.py [--count N] [--seed S] [--program PATH] [--alone] [--tally]
@@ -8,7 +8,7 @@ Each case makes a small problem (two to four taxonomies, sums, all switches), an
 what the plain ones say: listings whole, cut and resumed, their tokens, listings in parts and what joins of the parts, what follows and why,
 what conflicts, all that conflicts (of more statements too), reports, trials, damaged texts, tokens and certificates, and words that are no
 request. Certificates that the program writes must be accepted by the plain checker too, and its own checker must answer what the plain one
-does of any bytes, also where several are joined. What is accepted must be so by plain.py. With --alone no program is
+does of any bytes, also where several are joined. What is accepted must be so by oracle/model.py. With --alone no program is
 run, and the plain ones are set beside each other. It ends with status 1 at the first difference, and shows it.
 """
 
@@ -21,13 +21,9 @@ import signal
 import sys
 import tempfile
 
-import certificate_writer
-import plain
-import plain_lattice
-import plain_parts
-import plain_words
 import random_cases
-from commands import KINDS
+from oracle import certificate_writer, model, parts, reports, statements, texts, trials, usage
+from oracle.commands import KINDS
 
 
 class Difference(Exception):
@@ -81,7 +77,7 @@ class Runner:
         last = text.split("\n")[-2]
         if last.endswith("]"):
             last = text.split("\n")[0]
-        self.answers[" ".join(word for word in last.split(" ") if set(word) - set("0123456789." + plain.LETTERS))] += 1
+        self.answers[" ".join(word for word in last.split(" ") if set(word) - set("0123456789." + model.LETTERS))] += 1
         if got != (code, text):
             raise Difference(f"words: {' '.join(words)}\nwanted: {code}\n{text}\ngot: {got[0]}\n{got[1]}")
 
@@ -105,7 +101,7 @@ def status_of(worlds, start=""):
 
 def same_check(runner, problem, words, data):
     """Both checkers must answer the same of these bytes; it is the answer."""
-    code, text = plain_parts.checked(problem, data)
+    code, text = parts.checked(problem, data)
     runner.hold("d", data)
     try:
         runner.same(["check", "in=p", "cert=d"] + words, code, text)
@@ -117,18 +113,18 @@ def same_check(runner, problem, words, data):
 
 
 def is_so(problem, rows):
-    """Whether what an accepted certificate says is so, by plain.py."""
+    """Whether what an accepted certificate says is so, by its worlds."""
     worlds = problem.worlds()
     if rows[0].startswith("from "):
         start, end = rows[0][5:].replace(".", ""), rows[-2][3:].replace(".", "")
-        between = lambda w: plain.rank(w) >= plain.rank(start) and (end == "-" or plain.rank(w) < plain.rank(end))
+        between = lambda w: model.rank(w) >= model.rank(start) and (end == "-" or model.rank(w) < model.rank(end))
         return rows[1:-2] == [w for w in worlds if between(w)] and rows[-1] == f"accepted {len(rows) - 3}"
     for row in rows[:-1]:
         said, kind, *rest = row.split(" ")
         if kind == "m":
             holds = any(w[int(rest[0])] == rest[1] for w in worlds)
         else:
-            holds = plain.is_consistent(problem, rest[0].replace(".", ""))
+            holds = statements.is_consistent(problem, rest[0].replace(".", ""))
         if holds != (said == "some"):
             return False
     return rows[-1] == f"accepted {len(rows) - 1}"
@@ -150,7 +146,7 @@ def check_other_certificates(runner, problem, words, rng):
     for kind in ("listing", "claims"):
         try:
             data = getattr(certificate_writer.Writer(problem, rng), kind)()
-        except plain.TooMany:
+        except model.TooMany:
             continue
         except certificate_writer.NotShown as fault:
             raise Difference(f"no point lies in a need, which the given clauses don't show: {fault}")
@@ -190,7 +186,7 @@ def check_cuts(runner, problem, words, rng):
         for _ in range(5):
             given = [f"{k}={v}" for k, v in limits.items()] + ["token=t"]
             if start:
-                runner.hold("r", plain.print_token(problem, start).encode())
+                runner.hold("r", texts.print_token(problem, start).encode())
                 given.append("resume=r")
             worlds, cut = problem.listing(start, limits.get("nodes"), limits.get("worlds"))
             runner.drop("t")
@@ -201,8 +197,8 @@ def check_cuts(runner, problem, words, rng):
                 break
             with_certificate = ["cert=c"] if rng.random() < 0.3 else []
             runner.same(["align", "in=p"] + given + with_certificate + words, 5, lines(worlds, f"cut {len(worlds)}"))
-            if runner.bytes_of("t") != plain.print_token(problem, cut).encode():
-                raise Difference(f"another token: {runner.bytes_of('t')}, wanted {plain.print_token(problem, cut)}")
+            if runner.bytes_of("t") != texts.print_token(problem, cut).encode():
+                raise Difference(f"another token: {runner.bytes_of('t')}, wanted {texts.print_token(problem, cut)}")
             if with_certificate:
                 accepted = f"from {start or '.'}\n" + lines(worlds, f"to {cut or '.'}") + f"accepted {len(worlds)}\n"
                 check_written(runner, problem, words, rng, accepted)
@@ -213,7 +209,7 @@ def check_tokens(runner, problem, words, rng):
     for _ in range(2):
         token = random_cases.random_token(rng, problem)
         runner.hold("r", token)
-        start, kind = plain.read_token(problem, token)
+        start, kind = texts.read_token(problem, token)
         if kind:
             runner.same(["align", "in=p", "resume=r"] + words, 7, f"token {kind}\n")
         else:
@@ -227,13 +223,13 @@ def check_tokens(runner, problem, words, rng):
 def check_beginnings(runner, problem, words, rng):
     """Where the parts begin, and their tokens; nothing else is written."""
     count = rng.choice([1, 2, 3, rng.randint(1, 20), rng.randint(1, 200), rng.randint(1, 1000)])
-    positions = plain_parts.beginnings(problem, count)
+    positions = parts.beginnings(problem, count)
     names = [f"t{number}" for number in range(1, len(positions) + 2)]
     for name in names:
         runner.drop(name)
-    runner.same(["parts", "in=p", f"count={count}", "token=t"] + words, 0, text_of(plain_parts.parts_lines(positions)))
+    runner.same(["parts", "in=p", f"count={count}", "token=t"] + words, 0, text_of(parts.parts_lines(positions)))
     for name, position in zip(names, positions + [None]):
-        wanted = None if position is None else plain.print_token(problem, position).encode()
+        wanted = None if position is None else texts.print_token(problem, position).encode()
         if runner.bytes_of(name) != wanted:
             raise Difference(f"another token {name}: {runner.bytes_of(name)}, wanted {wanted}")
     return positions
@@ -247,7 +243,7 @@ def token_of(problem, position, rng):
     """A token of a position, and where it may be one of the older form now and then."""
     if len(problem.taxonomies) == 2 and rng.random() < 0.2:
         return f"token 1 {problem.digest()} {position or '.'}\n".encode()
-    return plain.print_token(problem, position).encode()
+    return texts.print_token(problem, position).encode()
 
 
 def check_part(runner, problem, words, start, end, rng):
@@ -260,14 +256,14 @@ def check_part(runner, problem, words, start, end, rng):
         runner.hold("u", token_of(problem, end, rng))
         given.append("until=u")
     runner.hold("c", b"what it held\n")
-    code, rows = plain_parts.part_answer(problem, start, end)
+    code, rows = parts.part_answer(problem, start, end)
     runner.same(given + words, code, text_of(rows))
     data = runner.bytes_of("c")
     if code != 0:
         if data != b"what it held\n":
             raise Difference(f"an empty part from {start} below {end}, and the certificate is {data}")
         return None
-    node = plain_parts.node_at(problem, end)
+    node = parts.node_at(problem, end)
     wanted = [f"from {start or '.'}", *rows[:-1], f"to {'-' if node is None else node or '.'}", f"accepted {len(rows) - 1}"]
     got = same_check(runner, problem, words, data)
     if got != (0, text_of(wanted)):
@@ -280,9 +276,9 @@ def check_join(runner, problem, words, files, numbers):
     for number in set(numbers):
         runner.hold(f"j{number}", files[number])
     given = [files[number] for number in numbers]
-    code, rows = plain_parts.join_answer(problem, given)
+    code, rows = parts.join_answer(problem, given)
     runner.same(["join", "in=p", "certs=" + ",".join(f"j{number}" for number in numbers)] + words, code, text_of(rows))
-    if code in (0, 6) and {world for data in given for world in plain_parts.part_of(problem, data)[0].worlds} != set(problem.worlds()):
+    if code in (0, 6) and {world for data in given for world in parts.part_of(problem, data)[0].worlds} != set(problem.worlds()):
         raise Difference(f"joined, and not listed by these certificates: {rows}")
     return code
 
@@ -293,7 +289,7 @@ def random_cuts(problem, beginnings, rng):
     chosen = rng.sample(beginnings, min(len(beginnings), rng.randint(0, 2))) + rng.sample(nodes, min(len(nodes), rng.randint(0, 2)))
     chosen += rng.sample(problem.worlds(), min(len(problem.worlds()), rng.randint(0, 1)))
     chosen += [random_cases.random_position(rng, len(problem.pairs)) for _ in range(rng.randint(0, 1))]
-    return sorted(set(chosen) - {""}, key=plain.rank)
+    return sorted(set(chosen) - {""}, key=model.rank)
 
 
 def check_parts(runner, problem, words, rng):
@@ -331,7 +327,7 @@ def other_certificate(problem, data, rng):
         return writer.text()
     try:
         return writer.claims() if draw < 0.8 else writer.listing()
-    except plain.TooMany:
+    except model.TooMany:
         return b""
 
 
@@ -340,8 +336,8 @@ def check_tokens_of_part(runner, problem, words, rng):
     tokens = [random_cases.random_token(rng, problem) for _ in range(2)]
     for name, token in zip("ru", tokens):
         runner.hold(name, token)
-    (start, kind), (end, other) = (plain.read_token(problem, token) for token in tokens)
-    code, rows = (7, [f"token {kind or other}"]) if kind or other else plain_parts.part_answer(problem, start, end)
+    (start, kind), (end, other) = (texts.read_token(problem, token) for token in tokens)
+    code, rows = (7, [f"token {kind or other}"]) if kind or other else parts.part_answer(problem, start, end)
     runner.drop("c")
     runner.same(["part", "in=p", "cert=c", "until=u", "resume=r"] + words, code, text_of(rows))
     if (runner.bytes_of("c") is not None) != (code == 0):
@@ -356,7 +352,7 @@ def check_reports(runner, problem, words, worlds, rng):
     code, text = runner.run(["report", "in=p", "kinds=" + ",".join(kinds)] + words)
     wanted = []
     for kind in kinds:
-        wanted += [f"report {kind}"] + plain.report(problem, kind, worlds)
+        wanted += [f"report {kind}"] + reports.report(problem, kind, worlds)
     wanted.append(f"complete {len(worlds)}")
     # a line of JSON is compared by what it says, and by its having no spaces and its keys in order
     wanted = [json.dumps(x, separators=(",", ":"), ensure_ascii=False) if isinstance(x, dict) else x for x in wanted]
@@ -365,15 +361,15 @@ def check_reports(runner, problem, words, worlds, rng):
 
 
 def check_possible(runner, problem, words, worlds, rng):
-    sets = plain.possible(problem, worlds)
-    text = "".join(row + "\n" for row in plain.possible_lines(problem, sets))
+    sets = reports.possible(problem, worlds)
+    text = "".join(row + "\n" for row in reports.possible_lines(problem, sets))
     runner.same(["mir", "in=p"] + words, status_of(worlds), text)
     runner.drop("c")
     runner.same(["mir", "in=p", "cert=c"] + words, status_of(worlds), text)
     wanted = [
         f"{'some' if r in letters else 'none'} m {k} {r}"
         for k, letters in enumerate(sets)
-        for r in plain.LETTERS
+        for r in model.LETTERS
         if r in problem.allowed[k]
     ]
     claims = check_written(runner, problem, words, rng)
@@ -385,8 +381,8 @@ def check_conflict(runner, problem, words, rng):
     count = len(problem.articulations)
     if count > 6:
         return
-    bits = plain.least_conflict(problem)
-    text = "".join(row + "\n" for row in plain.conflict_lines(problem, bits))
+    bits = statements.least_conflict(problem)
+    text = "".join(row + "\n" for row in statements.conflict_lines(problem, bits))
     code = 10 if bits is None else 0
     runner.same(["conflict", "in=p"] + words, code, text)
     runner.drop("c")
@@ -404,8 +400,8 @@ def check_conflict(runner, problem, words, rng):
 
 
 def check_lattice(runner, problem, words, rng):
-    conflicts, sets = plain_lattice.lattice(problem)
-    text = "".join(row + "\n" for row in plain_lattice.lattice_lines(conflicts, sets))
+    conflicts, sets = statements.lattice(problem)
+    text = "".join(row + "\n" for row in statements.lattice_lines(conflicts, sets))
     runner.same(["lattice", "in=p"] + words, 0, text)
     runner.drop("c")
     runner.same(["lattice", "in=p", "cert=c"] + words, 0, text)
@@ -419,12 +415,12 @@ def check_explanation(runner, problem, words, rng):
     """Why two concepts have one of some relations: mostly those that are possible, and now and then names that are none of a concept."""
     names = [problem.text_name(c) for c in range(len(problem.names))]
     left, right = rng.sample(names, 2) if len(names) > 1 and rng.random() < 0.9 else rng.choices(names + ["1.X", "A0", ".", "1.", ""], k=2)
-    pair, _ = plain_lattice.pair_named(problem, left, right)
-    letters = {r for r in plain.LETTERS if rng.random() < 0.3}
+    pair, _ = statements.pair_named(problem, left, right)
+    letters = {r for r in model.LETTERS if rng.random() < 0.3}
     if pair and rng.random() < 0.7:
         letters |= {world_relation(problem, world, *pair) for world in problem.worlds()}
-    letters = letters or {rng.choice(plain.LETTERS)}
-    code, rows = plain_lattice.explanation(problem, left, right, letters)
+    letters = letters or {rng.choice(model.LETTERS)}
+    code, rows = statements.explanation(problem, left, right, letters)
     if pair and (code == 14) != any(world_relation(problem, world, *pair) not in letters for world in problem.worlds()):
         raise Difference(f"what follows for {left} and {right} is not what all worlds have: {rows}")
     shown = "".join(rng.sample(sorted(letters), len(letters)) + rng.choices(sorted(letters), k=rng.choice([0, 0, 1])))
@@ -433,33 +429,33 @@ def check_explanation(runner, problem, words, rng):
 
 def world_relation(problem, world, x, y):
     letter = world[problem.pairs.index((min(x, y), max(x, y)))]
-    return letter if x < y else plain.CONVERSE[letter]
+    return letter if x < y else model.CONVERSE[letter]
 
 
 def check_crowded(runner, text, switches, rng):
     """All conflicts of a problem with more statements, and why something follows there."""
-    words, problem = switch_words(switches), plain.read_problem(text.encode(), switches)
+    words, problem = switch_words(switches), texts.read_problem(text.encode(), switches)
     text += random_cases.more_statements(rng, problem, 10 if rng.random() < 0.02 else 7)
     runner.hold("p", text.encode())
-    problem = plain.read_problem(text.encode(), switches).finish()
+    problem = texts.read_problem(text.encode(), switches).finish()
     check_lattice(runner, problem, words, rng)
     check_explanation(runner, problem, words, rng)
 
 
 def check_many(runner, text, switches, rng):
     """As many statements as all conflicts are looked for among, and one more: those of the problem again and again."""
-    words, problem = switch_words(switches), plain.read_problem(text.encode(), switches).finish()
+    words, problem = switch_words(switches), texts.read_problem(text.encode(), switches).finish()
     said = [f"{problem.articulation_text(a)}\n" for a in problem.articulations]
     if not said or not problem.worlds():
         return
-    for count, code, rows in ((128, 0, plain_lattice.lattice_lines([], ["1" * 128])), (129, 13, ["too many"])):
+    for count, code, rows in ((128, 0, statements.lattice_lines([], ["1" * 128])), (129, 13, ["too many"])):
         runner.hold("p", (text + "".join(rng.choice(said) for _ in range(count - len(said)))).encode())
         runner.same(["lattice", "in=p"] + words, code, "".join(row + "\n" for row in rows))
 
 
 def check_trial(runner, rng):
     seed, size = rng.choice([0, 1, 7, rng.randrange(2**64)]), rng.choice([14, 16, 18])
-    problem = plain.read_problem(plain.made_text(seed, size).encode(), (True, True, True))
+    problem = texts.read_problem(trials.made_text(seed, size).encode(), (True, True, True))
     pairs = len(problem.names) * (len(problem.names) - 1) // 2
     runner.same(
         ["trial", f"seed={seed}", f"size={size}"],
@@ -473,7 +469,7 @@ def check_trial(runner, rng):
 
 def check_words(runner, rng):
     words = random_cases.random_words(rng)
-    kind = plain_words.usage_of(words)
+    kind = usage.fault_of(words)
     if kind:
         runner.same(words, 2, f"usage {kind}\n")
         return
@@ -486,8 +482,8 @@ def check_text(runner, data, switches):
     runner.hold("p", data)
     words = switch_words(switches)
     try:
-        problem = plain.read_problem(data, switches)
-    except plain.Fault as fault:
+        problem = texts.read_problem(data, switches)
+    except texts.Fault as fault:
         line, kind = fault.args
         runner.same(["align", "in=p"] + words, 1, f"refused {line} {kind}\n")
         return
@@ -501,7 +497,7 @@ def case(runner, rng):
     switches = random_cases.random_switches(rng)
     words = switch_words(switches)
     runner.hold("p", text.encode())
-    problem = plain.read_problem(text.encode(), switches).finish()
+    problem = texts.read_problem(text.encode(), switches).finish()
     worlds = check_listing(runner, problem, words, rng)
     if len(problem.points) <= 10 and len(problem.pairs) <= 6 and worlds != problem.families_by_sets_of_points():
         raise Difference("the plain walk and the sets of points differ")
@@ -534,7 +530,7 @@ class NoProgram(Runner):
 
 def case_alone(runner, rng):
     """What of a case needs no program: the plain ones beside each other."""
-    problem = plain.read_problem(random_cases.random_problem(rng).encode(), random_cases.random_switches(rng)).finish()
+    problem = texts.read_problem(random_cases.random_problem(rng).encode(), random_cases.random_switches(rng)).finish()
     check_other_certificates(runner, problem, [], rng)
 
 
@@ -553,7 +549,7 @@ def main():
             rng = random.Random(f"{given.seed} {number}")
             try:
                 (case_alone if given.alone else case)(runner, rng)
-            except plain.TooMany:
+            except model.TooMany:
                 skipped += 1
             except Difference as difference:
                 print(f"case {number} of seed {given.seed}: {difference}")

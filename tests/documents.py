@@ -27,7 +27,7 @@ import subprocess
 import sys
 import tempfile
 
-from commands import DESK, NONE, ROWS
+from oracle.commands import DESK, NONE, ROWS
 
 ROOT = os.path.join(os.path.dirname(os.path.abspath(__file__)), "..")
 SHOWN = ["README.md", "docs/GUIDE.md", "examples/README.md"]
@@ -266,7 +266,7 @@ def word_faults():
     for name, keys in [*table.items()] + ([("euler_desk", desk)] if desk else []):
         known = DESK if name == "euler_desk" else ROWS.get(name, NONE)
         if (known.required, known.optional, known.reads, known.writes) != keys:
-            faults.append(f"tests/commands.py: {name} has other keys than the program's table")
+            faults.append(f"tests/oracle/commands.py: {name} has other keys than the program's table")
     for name, keys in table.items():
         synopsis, case = rf"^euler_align {name} .*(?:\n    .*)?", rf"^ +(?:\w+ \| )*{name}(?: \| \w+)*\) keys=\"(.*)\""
         faults += key_faults(name, keys[:2], manual, synopsis, completion, case)

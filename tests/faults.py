@@ -8,7 +8,7 @@ a run with a fault puts must be a first part of what is right, and `read fault` 
 tokens must hold what they held, or a first part of what is right; other names must hold what they held. It ends with status 1 at the
 first run that is not so, and shows it.
 
-The desk puts what plain_desk.py says; and a line at a time, so that the lines before the one that fails are there, and no more. It reads a
+The desk puts what oracle/desk.py says; and a line at a time, so that the lines before the one that fails are there, and no more. It reads a
 file in pieces of 4,096 bytes, and once more, which finds the end.
 """
 
@@ -17,8 +17,9 @@ import subprocess
 import sys
 import tempfile
 
-import plain_desk
-from commands import DESK_CALLS, FAILING_CALLS, files_written
+import oracle.desk
+from oracle.commands import files_written
+from small_runs import DESK_CALLS, FAILING_CALLS
 
 HERE = os.path.dirname(os.path.abspath(__file__))
 OLD = {"c": "old c\n", "t": "old t\n", "z": "other\n"}
@@ -118,7 +119,7 @@ def check_desk(program, folder, case):
     """The same for the desk, with what it puts told beforehand."""
     problem, files, words = case
     held = {name: text.encode() for name, text in {"p": problem, **files}.items()}
-    code, text = plain_desk.answer(words.split(), held.get)
+    code, text = oracle.desk.answer(words.split(), held.get)
     lines, count = text.splitlines(keepends=True), 0
     # none is read where the words are at fault, and the problem alone where it is
     read = [held["p"], held.get("s", b"")][: {2: 0, 1: 1}.get(code, 2)]

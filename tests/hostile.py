@@ -5,14 +5,14 @@ the desk.
     tests/hostile.py [PROGRAM] [--quick] [--desk DESK]
 
 Each is made of some number of things: bytes of one word, literals, hints, lines, elements, sets, claims. It is tried with a quarter of
-them and with all; the answer must be that of certificates.py both times, and the processor's time may grow by no more than twice as much
+them and with all; the answer must be that of oracle/certificates.py both times, and the processor's time may grow by no more than twice as much
 as the bytes do (times below a tenth of a second count as a tenth). There are a million things of each, or ten million bytes of one word;
-with `--quick` a tenth of that. So it is with what is joined, by plain_parts.py: there are as many names as a word may have, and 5,000 that
+with `--quick` a tenth of that. So it is with what is joined, by oracle/parts.py: there are as many names as a word may have, and 5,000 that
 are all needed, which is as many as `parts` tells of; with `--quick` a tenth. It ends with status 1 if an answer is another one or a time
 grows too fast.
 
 The desk's scripts are as long as they may be, with `--quick` a tenth of that, and are tried with a quarter of it too. The answer must be
-that of plain_desk.py, or of the program's listing where very many worlds are shown. What has no end must be refused within seconds. All of
+that of oracle/desk.py, or of the program's listing where very many worlds are shown. What has no end must be refused within seconds. All of
 it goes within a limit of memory. Where the desk isn't built, it is left out.
 """
 
@@ -23,9 +23,9 @@ import subprocess
 import sys
 import tempfile
 
-import certificates
-import plain
-import plain_desk
+import oracle.desk
+from oracle import certificates, model, texts
+
 
 HERE = os.path.dirname(os.path.abspath(__file__))
 PROBLEM = b"taxonomy 1\n(A)\ntaxonomy 2\n(B)\n"
@@ -107,7 +107,7 @@ TORN = b"taxonomy 1\n(A)\ntaxonomy 2\n" + b"".join(words(f"(B{k})") for k in ran
 def nodes_of(node=""):
     """The nodes of that problem with six letters at the most, ascending, if each is followed by all letters."""
     yield node
-    for letter in plain.LETTERS if len(node) < 6 else "":
+    for letter in model.LETTERS if len(node) < 6 else "":
         yield from nodes_of(node + letter)
 
 
@@ -192,8 +192,8 @@ def worlds_in_order(program, folder, count):
 
 def replies_again(problem, front, again, times):
     """The replies to requests that come again and again: when they have come twenty times, nothing changes any more."""
-    read = plain.read_problem(problem, (True, True, True)).finish()
-    replies = plain_desk.answer_to(read, front + again * min(times, 20))[1].split("\n")[:-2]
+    read = texts.read_problem(problem, (True, True, True)).finish()
+    replies = oracle.desk.answer_to(read, front + again * min(times, 20))[1].split("\n")[:-2]
     return replies + replies[len(replies) - again.count(b"\n") :] * max(times - 20, 0)
 
 
@@ -227,7 +227,7 @@ def without_end(desk, folder, name, line, request, wanted):
 
 def of_desk(program, desk, folder, part):
     """Whether each try of the desk came to what was wanted."""
-    size = plain_desk.MOST_BYTES // part
+    size = oracle.desk.MOST_BYTES // part
     for name, *case in SCRIPTS:
         yield judged(f"desk, {name}", *(served(program, desk, folder, *case, number) for number in (size // 4, size)))
     hold(folder, "p", TWO_TREES)
@@ -301,7 +301,7 @@ def main():
     parser.add_argument("--desk", default=os.path.join(HERE, "../crates/euler_desk/out/euler_desk"))
     given = parser.parse_args()
     program, desk, part = os.path.abspath(given.program), os.path.abspath(given.desk), 10 if given.quick else 1
-    problem = plain.read_problem(PROBLEM, (True, True, True)).finish()
+    problem = texts.read_problem(PROBLEM, (True, True, True)).finish()
     with tempfile.TemporaryDirectory() as folder:
         hold(folder, "p", PROBLEM)
         came = []

@@ -16,7 +16,7 @@ import subprocess
 import sys
 import tempfile
 
-from commands import ALONE, CROWD, LISTING, PARTINGS, TOKEN
+from small_runs import ALONE, CROWD, LISTING, PARTINGS, TOKEN
 
 ROOT = os.path.join(os.path.dirname(os.path.abspath(__file__)), "..")
 NUMBER = "without a leading zero"

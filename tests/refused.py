@@ -8,7 +8,7 @@ exit code 9 and `no memory` behind a first part of what is right (nothing at all
 hold what they held or a first part of what is right, and other files what they held. With --every N only each N-th call is refused. It
 ends with status 1 at the first run that is not so, and shows it.
 
-The desk may reply NoMemory too, and go on. Then the other replies must be those to the script without these requests: by plain_desk.py, or,
+The desk may reply NoMemory too, and go on. Then the other replies must be those to the script without these requests: by oracle/desk.py, or,
 where the problem is too great for that, by the desk itself without a refusal. Where the desk isn't built, it is left out.
 """
 
@@ -18,9 +18,10 @@ import subprocess
 import sys
 import tempfile
 
-import plain
-import plain_desk
-from commands import DESK_REFUSED, MANY_POINTS, REFUSED_MEMORY, files_written
+import oracle.desk
+from oracle import texts
+from oracle.commands import files_written
+from small_runs import DESK_REFUSED, MANY_POINTS, REFUSED_MEMORY
 
 HERE = os.path.dirname(os.path.abspath(__file__))
 OLD = {"c": b"old c\n", "t": b"old t\n", "z": b"other\n"}
@@ -104,8 +105,8 @@ class Script:
     def served_again(self, script):
         if self.problem == MANY_POINTS:
             return self.bench.run({**self.files, "s": script}, DESK_WORDS, 0)[1].decode()
-        problem = plain.read_problem(self.problem.encode(), (True, True, True)).finish()
-        return plain_desk.answer_to(problem, script)[1]
+        problem = texts.read_problem(self.problem.encode(), (True, True, True)).finish()
+        return oracle.desk.answer_to(problem, script)[1]
 
     def fault_in(self, run):
         """What is wrong with a run of which an allocation was refused, or None. Without its words it puts nothing."""
@@ -114,7 +115,7 @@ class Script:
             return "a file is changed"
         if code == 9 and not put:
             return None
-        return plain_desk.starved_fault(self.requests, code, put.decode(), self.served)
+        return oracle.desk.starved_fault(self.requests, code, put.decode(), self.served)
 
 
 def places_of(count, every):

@@ -5,7 +5,7 @@ explanations of many small problems, tokens that are cut off, and that a problem
 
     tests/rows.py [PROGRAM]
 
-What must come out is written down here, or counted by plain.py where there are too many cases. It ends with status 1 at the first other
+What must come out is written down here, or counted by the oracle where there are too many cases. It ends with status 1 at the first other
 answer, and shows it.
 """
 
@@ -16,8 +16,8 @@ import subprocess
 import sys
 import tempfile
 
-import plain
-import plain_parts
+from oracle import model, parts, texts, trials
+
 
 HERE = os.path.dirname(os.path.abspath(__file__))
 ON = (True, True, True)
@@ -108,7 +108,7 @@ PARTS = "taxonomy 1|(A)|taxonomy 2|(B)|(C)|articulation|"
 TWO_EQUAL = "taxonomy 1|(A B C)|taxonomy 2|(D)|articulation|[1.B equals 2.D]|[1.C equals 2.D]|"
 AGREED = TREES + "[1.A equals 2.D]|[1.B equals 2.E]|"
 PARTED = PAIR + "[1.A equals 2.B]|[1.A disjoint 2.B]|"
-EVERY = "".join(f"[1.A {word} 2.B]|" for word in plain.NAMES.values())
+EVERY = "".join(f"[1.A {word} 2.B]|" for word in model.NAMES.values())
 
 
 def ones(count, *places):
@@ -200,7 +200,7 @@ BEGINNINGS = [
     (TREES + "[1.A equals 2.D]|", 6, (25, 6)),
     (TREES + "[1.A equals 2.D]|", 1000, (35, 15)),
     # no beginning is longer, though the last length has too few
-    (plain.made_text(7, 14), 6, (5, 16)),
+    (trials.made_text(7, 14), 6, (5, 16)),
 ]
 
 # Certificates by hand of the first problem, besides those of its parts, c1 to c5.
@@ -331,10 +331,10 @@ class Walked:
         self.problem, self.nodes = problem, list(problem.walk(""))
 
     def listing(self, start, nodes, worlds):
-        """What plain.py says of a listing, from these nodes."""
+        """What the oracle says of a listing, from these nodes."""
         found, seen = [], 0
         for node, is_world in self.nodes:
-            if plain.rank(node) < plain.rank(start):
+            if model.rank(node) < model.rank(start):
                 continue
             if (nodes is not None and seen >= nodes) or (worlds is not None and len(found) >= worlds):
                 return found, node
@@ -344,12 +344,12 @@ class Walked:
 
 
 def check_cut(runs, walked, words, nodes=None, worlds=None, start="", name="t"):
-    """A run with limits stops where the plain program stops; the cut, or None."""
+    """A run with limits stops where the oracle stops; the cut, or None."""
     problem = walked.problem
     found, cut = walked.listing(start, nodes, worlds)
     given = [f"{key}={value}" for key, value in (("nodes", nodes), ("worlds", worlds)) if value]
     runs.same(f"align in=p token={name} {' '.join(given)}{words}", 0 if cut is None else 5, lines(found, "complete" if cut is None else "cut"))
-    if cut is not None and runs.held(name).decode() != plain.print_token(problem, cut):
+    if cut is not None and runs.held(name).decode() != texts.print_token(problem, cut):
         sys.exit(f"another token: {runs.held(name)}")
     return found, cut
 
@@ -369,11 +369,11 @@ def check_chain(runs, walked, **limits):
 def check_cuts(runs):
     for text in CUT.values():
         runs.hold("p", text.encode())
-        problem = plain.read_problem(text.encode(), ON).finish()
+        problem = texts.read_problem(text.encode(), ON).finish()
         walked = Walked(problem)
         nodes, worlds = len(walked.nodes), len(problem.worlds())
         if any(walked.listing("", count, None) != problem.listing("", count) for count in (1, nodes // 2, nodes, nodes + 1)):
-            sys.exit("plain.py says something else of its own nodes")
+            sys.exit("the oracle says something else of its own nodes")
         for count in range(1, nodes + 2):
             check_cut(runs, walked, "", nodes=count)
         for count in range(1, worlds + 2):
@@ -399,19 +399,19 @@ def check_beginnings(runs, text, count, wanted):
     """Where the parts begin and their tokens; each part; and all of them joined in reverse order, which is what one run lists."""
     runs.clear()
     runs.hold("p", text.replace("|", "\n").encode())
-    problem = plain.read_problem(runs.held("p"), ON).finish()
-    positions = plain_parts.beginnings(problem, count)
+    problem = texts.read_problem(runs.held("p"), ON).finish()
+    positions = parts.beginnings(problem, count)
     shown = " ".join(position or "." for position in positions)
     if wanted not in (shown, (len(positions), len(positions[-1]))):
         sys.exit(f"{count} parts begin at {shown}, and not at {wanted}")
-    runs.same(f"parts in=p count={count} token=t", 0, "".join(row + "\n" for row in plain_parts.parts_lines(positions)))
-    tokens = {f"t{number}": plain.print_token(problem, position).encode() for number, position in enumerate(positions, 1)}
+    runs.same(f"parts in=p count={count} token=t", 0, "".join(row + "\n" for row in parts.parts_lines(positions)))
+    tokens = {f"t{number}": texts.print_token(problem, position).encode() for number, position in enumerate(positions, 1)}
     if runs.all_held() != {"p": runs.held("p"), **tokens}:
         sys.exit(f"other tokens: {runs.all_held()}")
     code, told = runs.run("align in=p")
     worlds = told.split("\n")[:-2]
     for number, (start, end) in enumerate(zip(positions, positions[1:] + [None]), 1):
-        found = [world for world in worlds if not plain_parts.is_below(world, start) and plain_parts.is_below(world, end)]
+        found = [world for world in worlds if not parts.is_below(world, start) and parts.is_below(world, end)]
         until = "" if end is None else f" until=t{number + 1}"
         runs.same(f"part in=p cert=c{number} resume=t{number}{until}", 0, lines(found, "part"))
     certs = ",".join(f"c{number}" for number in range(len(positions), 0, -1))
@@ -423,10 +423,10 @@ def hold_parts(runs):
     runs.clear()
     runs.hold("p", PAIR.replace("|", "\n").encode())
     runs.same("parts in=p count=3 token=t", 0, "part 1 .\npart 2 >\npart 3 <\npart 4 x\npart 5 !\nparts 5\n")
-    for number, world in enumerate(plain.LETTERS, 1):
+    for number, world in enumerate(model.LETTERS, 1):
         until = f" until=t{number + 1}" if number < 5 else ""
         runs.same(f"part in=p cert=c{number} resume=t{number}{until}", 0, f"{world}\npart 1\n")
-    runs.same("align in=p cert=whole", 0, lines(plain.LETTERS, "complete"))
+    runs.same("align in=p cert=whole", 0, lines(model.LETTERS, "complete"))
     runs.same("part in=p cert=front until=t4", 0, lines("=><", "part"))
     runs.same("part in=p cert=rest resume=t2", 0, lines("><x!", "part"))
     for name, text in BY_HAND.items():
@@ -449,11 +449,11 @@ def check_joins(runs):
     same_and_kept(runs, "join in=p certs=whole coverage=off", 16, "refused part 1 1 WrongHeader\n")
     # all orders of all parts, and each choice of them
     for order in itertools.permutations(range(1, 6)):
-        runs.same("join in=p certs=" + ",".join(f"c{number}" for number in order), 0, lines(plain.LETTERS, "joined"))
-    ends = ["", *plain.LETTERS[1:], None]
+        runs.same("join in=p certs=" + ",".join(f"c{number}" for number in order), 0, lines(model.LETTERS, "joined"))
+    ends = ["", *model.LETTERS[1:], None]
     for chosen in itertools.product((False, True), repeat=5):
         numbers = [number for number in (4, 1, 3, 5, 2) if chosen[number - 1]]
-        gap = plain_parts.first_gap([plain_parts.Part(ends[number - 1], ends[number], []) for number in numbers])
+        gap = parts.first_gap([parts.Part(ends[number - 1], ends[number], []) for number in numbers])
         if numbers and gap:
             runs.same("join in=p certs=" + ",".join(f"c{number}" for number in numbers), 17, f"gap {gap[0] or '.'} {gap[1] or '-'}\n")
 
@@ -461,14 +461,14 @@ def check_joins(runs):
 def check_ends_of_parts(runs):
     """Each two positions as the beginning and the end of a part; a part without worlds writes nothing."""
     hold_parts(runs)
-    problem = plain.read_problem(runs.held("p"), ON).finish()
-    for start, end in itertools.product([None, "", *plain.LETTERS], repeat=2):
+    problem = texts.read_problem(runs.held("p"), ON).finish()
+    for start, end in itertools.product([None, "", *model.LETTERS], repeat=2):
         given = ""
         for key, position in (("resume", start), ("until", end)):
             if position is not None:
-                runs.hold(key, plain.print_token(problem, position).encode())
+                runs.hold(key, texts.print_token(problem, position).encode())
                 given += f" {key}={key}"
-        code, rows = plain_parts.part_answer(problem, start or "", end)
+        code, rows = parts.part_answer(problem, start or "", end)
         if code != 0:
             same_and_kept(runs, f"part in=p cert=c{given}", code, "empty part\n")
             continue
@@ -482,7 +482,7 @@ def check_ends_of_parts(runs):
 
 def check_order_of_tokens(runs):
     """The problem is judged first, then the token of the beginning, then that of the end, and all before the certificate is there."""
-    digest = plain.read_problem(PAIR.replace("|", "\n").encode(), ON).finish().digest()
+    digest = texts.read_problem(PAIR.replace("|", "\n").encode(), ON).finish().digest()
     for text, start, end, last in ORDERS:
         runs.clear()
         runs.hold("p", text.replace("|", "\n").encode())
@@ -560,8 +560,8 @@ def check_explanations(runs):
 def check_tokens(runs):
     text = CUT["two alone"]
     runs.hold("p", text.encode())
-    problem = plain.read_problem(text.encode(), ON).finish()
-    old, new = f"token 1 {problem.digest()} <\n", plain.print_token(problem, "<")
+    problem = texts.read_problem(text.encode(), ON).finish()
+    old, new = f"token 1 {problem.digest()} <\n", texts.print_token(problem, "<")
     if (len(old), len(new)) != (75, 79):
         sys.exit(f"tokens of other sizes: {len(old)} and {len(new)}")
     for token in (old, new):
@@ -574,8 +574,8 @@ def check_tokens(runs):
 
 def check_order(runs):
     """A problem is judged before a token or a certificate is read."""
-    texts = (b"taxonomy 1\n(A)\n", 1, "refused 0 TaxonomyCount\n"), (b"taxonomy 1\n(A)\ntaxonomy 2\n(B)\n", 3, "read fault\n")
-    for text, code, last in texts:
+    problems = (b"taxonomy 1\n(A)\n", 1, "refused 0 TaxonomyCount\n"), (b"taxonomy 1\n(A)\ntaxonomy 2\n(B)\n", 3, "read fault\n")
+    for text, code, last in problems:
         runs.hold("p", text)
         for words in ("align in=p resume=absent", "check in=p cert=absent", "part in=p cert=c until=absent", "join in=p certs=absent,absent"):
             runs.same(words, code, last)

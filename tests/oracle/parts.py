@@ -1,10 +1,9 @@
 """Parts of a listing and their join, by the definitions: what docs/FORMATS.md says of `parts`, `part` and `join`, for a problem of a few
-concepts that plain.py has read."""
+concepts."""
 
 import collections
 
-import certificates
-import plain
+from oracle import certificates, model
 
 MOST_RELATIONS = 16
 
@@ -14,7 +13,7 @@ Part = collections.namedtuple("Part", "start end worlds")
 
 def is_below(position, end):
     """Whether a position comes before an end; None is the end of all."""
-    return end is None or plain.rank(position) < plain.rank(end)
+    return end is None or model.rank(position) < model.rank(end)
 
 
 # Where parts begin.
@@ -25,7 +24,7 @@ def levels(problem):
     nodes = [""]
     yield nodes
     for letters in problem.allowed[:MOST_RELATIONS]:
-        nodes = [node + r for node in nodes if problem.is_alive(node) for r in plain.LETTERS if r in letters]
+        nodes = [node + r for node in nodes if problem.is_alive(node) for r in model.LETTERS if r in letters]
         yield nodes
 
 
@@ -94,10 +93,10 @@ def first_gap(parts):
     """The first position that no part covers, which is the front or the end of a part, and the least beginning behind it, or None; None
     where all is covered."""
     ends = [""] + [part.end for part in parts if part.end is not None]
-    start = min((end for end in ends if not any(covers(part, end) for part in parts)), key=plain.rank, default=None)
+    start = min((end for end in ends if not any(covers(part, end) for part in parts)), key=model.rank, default=None)
     if start is None:
         return None
-    return start, min((part.start for part in parts if is_below(start, part.start)), key=plain.rank, default=None)
+    return start, min((part.start for part in parts if is_below(start, part.start)), key=model.rank, default=None)
 
 
 def join_answer(problem, files):
