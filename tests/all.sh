@@ -54,28 +54,28 @@ part "completions" python3 completions.py "$program"
 part "messages" python3 messages.py "$program" "$desk"
 part "figures" python3 figures.py
 part "package" ./package.sh "$program" "$desk"
-part "rows" python3 rows.py "$program"
-part "faults" python3 faults.py "$scenes"
+part "worked_cases" python3 worked_cases.py "$program"
+part "io_faults" python3 io_faults.py "$scenes"
 part "json_names" python3 json_names.py --program "$program"
-part "devices" python3 devices.py "$program" --desk "$desk"
-part "refused, each 9th allocation" python3 refused.py "$program" --every 9 --desk "$desk"
+part "device_faults" python3 device_faults.py "$program" --desk "$desk"
+part "alloc_faults, each 9th allocation" python3 alloc_faults.py "$program" --every 9 --desk "$desk"
 part "certificate_bytes" python3 certificate_bytes.py "$program"
-part "hostile, small" python3 hostile.py "$program" --quick --desk "$desk"
-part "revisions" python3 revisions.py "$program"
-part "killed" python3 killed.py "$program" --count 24
+part "hostile_inputs, small" python3 hostile_inputs.py "$program" --quick --desk "$desk"
+part "two_walks" python3 two_walks.py "$program"
+part "killed_runs" python3 killed_runs.py "$program" --count 24
 part "cluster" python3 cluster.py "$program"
 part "differential, 500 cases" python3 differential.py --program "$program"
 if [ -x "$desk" ]; then
-  part "desk, 200 cases" python3 desk.py --cases 200 "$desk"
+  part "desk_differential, 200 cases" python3 desk_differential.py --cases 200 "$desk"
 else
-  echo "desk: left out, there is no program at $desk"
+  echo "desk_differential: left out, there is no program at $desk"
 fi
 if [ -z "$quick" ]; then
-  part "killed at 200 moments" python3 killed.py "$program" --count 200 --seed 2
-  part "refused" python3 refused.py "$program" --desk "$desk"
-  part "hostile" python3 hostile.py "$program" --desk "$desk"
+  part "killed_runs, 200 moments" python3 killed_runs.py "$program" --count 200 --seed 2
+  part "alloc_faults" python3 alloc_faults.py "$program" --desk "$desk"
+  part "hostile_inputs" python3 hostile_inputs.py "$program" --desk "$desk"
   part "differential, 5,000 other cases" python3 differential.py --count 5000 --seed 2 --program "$program"
-  [ ! -x "$desk" ] || part "desk, 2,000 other cases" python3 desk.py --cases 2000 --seed 2 "$desk"
-  part "breaks" python3 breaks.py --program "$program" --desk "$desk"
+  [ ! -x "$desk" ] || part "desk_differential, 2,000 other cases" python3 desk_differential.py --cases 2000 --seed 2 "$desk"
+  part "oracle_mutants" python3 oracle_mutants.py --program "$program" --desk "$desk"
 fi
 exit $status

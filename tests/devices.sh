@@ -1,12 +1,12 @@
 #!/usr/bin/env bash
-# What the program does at devices, folders and names that can't be read or written, and where memory is scarce: by devices.py, of the
+# What the program does at devices, folders and names that can't be read or written, and where memory is scarce: by device_faults.py, of the
 # program that is given or was built. Where there is none, only what the real store answers is tried, by `rt try`, which runs without a
 # proof: it fails, or it answers bytes, and it always returns.
 set -u
 cd "$(git rev-parse --show-toplevel)" || exit 2
 program=${1:-crates/euler_align/out/euler_align}
 if [ -x "$program" ]; then
-  exec python3 tests/devices.py "$program"
+  exec python3 tests/device_faults.py "$program"
 fi
 cd crates/measure || exit 2
 if ! command -v rt >/dev/null 2>&1; then

@@ -1,7 +1,7 @@
 #!/usr/bin/env python3
 """Allocations of the solver are refused, one in each run, over a formula that takes several thousand conflicts.
 
-    tests/refused_solver.py MEASURE FORMULA [--every N] [--first N]
+    tests/alloc_faults_solver.py MEASURE FORMULA [--every N] [--first N]
 
 The program of crates/measure makes a call of the solver once more where it finds no memory, so the answer must be that of a run
 without a refusal; the number of conflicts may be another, since the search goes on from where it was. Where memory is refused elsewhere, as while the file is read, the run must say so and end. It

@@ -2,7 +2,7 @@
 """Runs that are killed at any moment (SIGKILL), of every command that writes a file: what is left is never taken for whole, and the same
 words again give the same bytes.
 
-    tests/killed.py [PROGRAM] [--count N] [--seed N]
+    tests/killed_runs.py [PROGRAM] [--count N] [--seed N]
 
 What was put must be a first part of what is right, and so must each file that may be written, unless it holds what it held. `check` may
 accept a certificate, and `align` go on from a token, only where it is whole. It ends with status 1 at the first run that is not so, and
@@ -128,9 +128,9 @@ def main():
             killed += early
             wrong = list(kind.faults(put)) + list(kind.again())
             if wrong:
-                print(f"killed: {' '.join(kind.words)}, after {seconds:.3f} s: {wrong[0]}")
+                print(f"killed_runs: {' '.join(kind.words)}, after {seconds:.3f} s: {wrong[0]}")
                 sys.exit(1)
-    print(f"killed: {given.count} runs, {killed} of them killed before they ended; nothing was taken for whole that wasn't")
+    print(f"killed_runs: {given.count} runs, {killed} of them killed before they ended; nothing was taken for whole that wasn't")
 
 
 if __name__ == "__main__":

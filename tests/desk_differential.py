@@ -1,7 +1,7 @@
 #!/usr/bin/env python3
 """Sets the built desk beside the oracle's (oracle/desk.py): random problems with random scripts, and scripts that nobody would write.
 
-    tests/desk.py [--cases N] [--seed S] [--tally] [PROGRAM]
+    tests/desk_differential.py [--cases N] [--seed S] [--tally] [PROGRAM]
 
 PROGRAM is the built desk; where none is given, `crates/euler_desk/out/euler_desk`. Each case makes a small problem, and compares what the
 program puts and its exit code with what the plain desk says: of a script of up to 16 slots, of the same requests dealt in another order
@@ -291,7 +291,7 @@ def main():
     parser.add_argument("program", nargs="?", default=os.path.join(HERE, "../crates/euler_desk/out/euler_desk"))
     given = parser.parse_args()
     if not os.access(given.program, os.X_OK):
-        print(f"desk: there is no program at {given.program}")
+        print(f"desk_differential: there is no program at {given.program}")
         return 2
     with tempfile.TemporaryDirectory() as folder:
         runner, skipped, number = DeskRunner(given.program, folder), 0, "of hostile scripts"
@@ -310,7 +310,7 @@ def main():
         for answer, times in sorted(runner.answers.items()) if given.tally else []:
             print(f"{times} {answer}")
         told = f"{given.cases - skipped} cases, {len(HOSTILE)} hostile scripts, {runner.runs} runs: no difference"
-        print(f"desk: {told} ({skipped} left out, with too many nodes)")
+        print(f"desk_differential: {told} ({skipped} left out, with too many nodes)")
     return 0
 
 

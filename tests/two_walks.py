@@ -3,7 +3,7 @@
 first worlds by the walk along a table beside those by the search that counts its nodes, and `mir` beside the letters of all worlds, where
 these are not too many.
 
-    tests/revisions.py [PROGRAM] [--count N] [--seed N]
+    tests/two_walks.py [PROGRAM] [--count N] [--seed N]
 
 It ends with status 1 at the first difference, and shows it. Problems of which a walk takes over five seconds are left out and counted.
 """

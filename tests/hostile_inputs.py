@@ -2,7 +2,7 @@
 """Certificates that nobody would write in good faith: what `check` answers of them, and `join` of many, and in what time. And scripts for
 the desk.
 
-    tests/hostile.py [PROGRAM] [--quick] [--desk DESK]
+    tests/hostile_inputs.py [PROGRAM] [--quick] [--desk DESK]
 
 Each is made of some number of things: bytes of one word, literals, hints, lines, elements, sets, claims. It is tried with a quarter of
 them and with all; the answer must be that of oracle/certificates.py both times, and the processor's time may grow by no more than twice as much
@@ -316,7 +316,7 @@ def main():
         has_desk = os.access(desk, os.X_OK)
         came += of_desk(program, desk, folder, part) if has_desk else []
     left_out = "" if has_desk else f"; the desk was left out, there is no program at {desk}"
-    print(f"hostile: {sum(came)} passed, {len(came) - sum(came)} failed{left_out}")
+    print(f"hostile_inputs: {sum(came)} passed, {len(came) - sum(came)} failed{left_out}")
     return 0 if all(came) else 1
 
 

@@ -1,7 +1,7 @@
 #!/usr/bin/env python3
 """Every call of the store and of the sink fails once, for each command and for the desk, over objects in memory.
 
-    tests/faults.py [RUN_SCENES]
+    tests/io_faults.py [RUN_SCENES]
 
 Transcripts for crates/run_scenes are made in which the k-th call fails, for each k until a run ends as the run without a fault does. What
 a run with a fault puts must be a first part of what is right, and `read fault` behind it where it read in vain; the certificate and

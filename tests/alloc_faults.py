@@ -1,7 +1,7 @@
 #!/usr/bin/env python3
 """Every allocation of a run is refused once, and then it and all after it, for each command over small problems, and for the desk.
 
-    tests/refused.py [PROGRAM] [--every N] [--desk DESK]
+    tests/alloc_faults.py [PROGRAM] [--every N] [--desk DESK]
 
 The N-th call of malloc or realloc answers NULL, by refuse.c, which gcc builds here. A run must then end as without a refusal, or with
 exit code 9 and `no memory` behind a first part of what is right (nothing at all where it has no words yet); the certificate and tokens

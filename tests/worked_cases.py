@@ -3,7 +3,7 @@
 listings that stop at each number of nodes and of worlds, chains of runs, parts of listings and what joins of them, all conflicts and
 explanations of many small problems, tokens that are cut off, and that a problem is judged first.
 
-    tests/rows.py [PROGRAM]
+    tests/worked_cases.py [PROGRAM]
 
 What must come out is written down here, or counted by the oracle where there are too many cases. It ends with status 1 at the first other
 answer, and shows it.

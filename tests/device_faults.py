@@ -1,7 +1,7 @@
 #!/usr/bin/env python3
 """What the built program does where a file, a folder, a device or standard output fails it, and where memory is scarce.
 
-    tests/devices.py [PROGRAM] [--memory-only | --no-memory] [--verbose] [--desk DESK]
+    tests/device_faults.py [PROGRAM] [--memory-only | --no-memory] [--verbose] [--desk DESK]
 
 For each command, and for the desk, each file that it reads or writes, and standard output: an endless device, a full one, a folder, a file
 or a folder without permission, an absent name, a name in an absent folder, a closed standard output, a pipe whose reader left, a file that
@@ -109,7 +109,7 @@ class Bench:
             held = self.held()
             self.right[name] = code, out, {n: held[n] for n in files_written(words.split()) if n in held}
             if code not in (0, 5) or not all(self.right[name][2].values()) or any(n not in held for _, n in written):
-                raise SystemExit(f"devices: {words} ends with {code}, before anything is tried")
+                raise SystemExit(f"device_faults: {words} ends with {code}, before anything is tried")
 
     def fresh(self):
         shutil.rmtree(self.place, ignore_errors=True)
@@ -592,7 +592,7 @@ def main():
                 came += [report(title, make, given.verbose) for title, make in all_tries(bench, size, given)]
     runs, silent = sum(b.tries for b in benches), sum(b.silent for b in benches)
     left_out = "" if has_desk else f"; the desk was left out, there is no program at {given.desk}"
-    print(f"devices: {sum(came)} passed, {len(came) - sum(came)} failed, {runs} runs; {silent} faults with nothing on standard error{left_out}")
+    print(f"device_faults: {sum(came)} passed, {len(came) - sum(came)} failed, {runs} runs; {silent} faults with nothing on standard error{left_out}")
     return 0 if all(came) else 1
 
 

@@ -1,12 +1,12 @@
 #!/usr/bin/env python3
-"""Shows that differential.py and desk.py find mistakes: each of a list of breaks, planted in the oracle, one at a time.
+"""Shows that differential.py and desk_differential.py find mistakes: each of a list of mistakes, planted in the oracle, one at a time.
 
-    tests/breaks.py [--count N] [--seed S] [--program PATH] [--desk PATH] [NAME ..]
+    tests/oracle_mutants.py [--count N] [--seed S] [--program PATH] [--desk PATH] [NAME ..]
 
-A break is one change of the text of one file: its old text stands there exactly once. For each it is told after how many cases
-differential.py found a difference, or desk.py where the break is one of the plain desk, and it ends with status 1 if one was not found
+A mistake is one change of the text of one file: its old text stands there exactly once. For each it is told after how many cases
+differential.py found a difference, or desk_differential.py where the mistake is one of the desk, and it ends with status 1 if one was not found
 within N cases (5,000 if not given). What the program answers is kept, so that it runs once for the same words and files. Where the desk
-isn't built, the breaks of the plain desk are left out.
+isn't built, those of the desk are left out.
 """
 
 import argparse
@@ -24,7 +24,7 @@ from oracle.commands import files_read, files_written
 HERE = os.path.dirname(os.path.abspath(__file__))
 
 # name, file, old text, new text
-BREAKS = [
+MISTAKES = [
     # what worlds are
     ("a sum is what all parts have in common", "oracle/model", "bits[a[1]] == int(any(bits[part]", "bits[a[1]] == int(all(bits[part]"),
     ("a sum's whole may have more than its parts", "oracle/model", "bits[a[1]] == int(any(bits[part]", "bits[a[1]] >= int(any(bits[part]"),
@@ -187,14 +187,14 @@ def load(folder, file=None, old="", new=""):
         with open(path, encoding="utf-8") as text:
             source = text.read()
         if source.count(old) != 1:
-            raise SystemExit(f"breaks: {old!r} stands {source.count(old)} times in {file}.py")
+            raise SystemExit(f"oracle_mutants: {old!r} stands {source.count(old)} times in {file}.py")
         with open(path, "w", encoding="utf-8") as text:
             text.write(source.replace(old, new))
     names = [name for name, module in sys.modules.items() if (getattr(module, "__file__", None) or "").startswith(sys.path[0] + os.sep)]
     for name in names:
         del sys.modules[name]
     sys.path[0] = folder
-    return importlib.import_module("desk" if file == "oracle/desk" else "differential")
+    return importlib.import_module("desk_differential" if file == "oracle/desk" else "differential")
 
 
 def remembering(base, program, folder, known):
@@ -256,7 +256,7 @@ def main():
     given = parser.parse_args()
     begun, known, missed, tried, has_desk = time.monotonic(), {}, 0, 0, os.access(given.desk, os.X_OK)
     with tempfile.TemporaryDirectory() as folder:
-        for number, (name, file, old, new) in enumerate(BREAKS):
+        for number, (name, file, old, new) in enumerate(MISTAKES):
             if (given.names and name not in given.names) or (file == "oracle/desk" and not has_desk):
                 continue
             tester = load(os.path.join(folder, f"tests{number}"), file, old, new)
@@ -266,8 +266,8 @@ def main():
             tried += 1
             missed += after is None
             print(f"{file}.py, {name}: {'not found' if after is None else f'found after {after}'}", flush=True)
-    left_out = "" if has_desk else "; there is no desk, so those of the plain desk are left out"
-    print(f"breaks: {tried} planted, {missed} not found, {time.monotonic() - begun:.0f} s{left_out}")
+    left_out = "" if has_desk else "; there is no desk, so those of the desk are left out"
+    print(f"oracle_mutants: {tried} planted, {missed} not found, {time.monotonic() - begun:.0f} s{left_out}")
     return 1 if missed or not tried else 0
 
 
