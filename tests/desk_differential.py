@@ -1,26 +1,24 @@
 #!/usr/bin/env python3
 """Sets the built desk beside the oracle's (oracle/desk.py): random problems with random scripts, and scripts that nobody would write.
 
-    tests/desk_differential.py [--cases N] [--seed S] [--tally] [PROGRAM]
+    tests/desk_differential.py [--desk PATH] [--count N] [--seed N] [--jobs N] [--tally]
 
-PROGRAM is the built desk; where none is given, `crates/euler_desk/out/euler_desk`. Each case makes a small problem, and compares what the
-program puts and its exit code with what the plain desk says: of a script of up to 16 slots, of the same requests dealt in another order
-(where besides each slot must have the same replies), of two slots' three requests each in all 20 orders, of damaged scripts and texts, and
-of random words. It ends with status 1 at the first difference, and shows it.
+Each case makes a small problem, and compares what the program puts and its exit code with what the oracle says: of a script of up to 16
+slots, of the same requests dealt in another order (where besides each slot must have the same replies), of two slots' three requests each
+in all 20 orders, of damaged scripts and texts, and of random words. With --jobs several processes share the cases, which are the same for
+any number of them; with --tally it is told how often each reply and last line was compared. It ends with status 1 at the first difference,
+and shows it.
 """
 
-import argparse
 import itertools
 import os
-import random
 import sys
-import tempfile
 
+import harness
 import random_cases
-from differential import Difference, Runner, switch_words
+from comparisons.runner import Difference, Runner, switch_words, tell, try_cases
 from oracle import desk, model, texts
 
-HERE = os.path.dirname(os.path.abspath(__file__))
 WORDS = ["in=p", "script=s"]
 OTHER_WORDS = [
     "in=p", "in=s", "in=", "in=q", "in=d", "in==", "script=s", "script=p", "script=", "script=q", "script=d", "nonempty=off", "nonempty=on", "sibling=off",
@@ -33,23 +31,19 @@ PIECES = [
 
 
 class DeskRunner(Runner):
-    """It tells of all lines that were compared how often each kind came."""
+    """It tells of all lines that were compared how often each kind came. One name is that of a folder."""
 
-    def __init__(self, program, folder):
-        super().__init__(program, folder)
-        os.makedirs(os.path.join(self.folder, "d"), exist_ok=True)
-
-    def told(self, name):
-        return desk.bytes_of_file(os.path.join(self.folder, name))
+    def __init__(self, program, within=None):
+        super().__init__(program, within)
+        os.mkdir(self.at("d"))
 
     def compared(self, words):
-        """What the program puts; it must be what the plain desk says."""
-        code, text = desk.answer(words, self.told)
+        """What the program puts; it must be what the oracle says."""
+        code, text = desk.answer(words, self.held)
         got = self.run(words)
         for line in text.split("\n")[:-1]:
             self.answers[" ".join([word for word in line.split(" ") if not word.isdigit()][:2 if code else 1])] += 1
-        if got != (code, text):
-            raise Difference(f"words: {' '.join(words)}\nwanted: {code}\n{text}\ngot: {got[0]}\n{got[1]}")
+        self.compare(words, (code, text), got)
         return text
 
     def script(self, words, data):
@@ -274,44 +268,26 @@ HOSTILE = [
 ]
 
 
-def check_hostile(runner):
-    runner.hold("p", HOSTILE_PROBLEM)
-    for name, data in HOSTILE:
-        try:
-            runner.script([], data)
-        except Difference as difference:
-            raise Difference(f"{name}: {str(difference)[:2000]}")
+def check_hostile(desk_program):
+    """The difference of the first of these scripts that is answered otherwise, or None."""
+    with DeskRunner(desk_program) as runner:
+        runner.hold("p", HOSTILE_PROBLEM)
+        for name, data in HOSTILE:
+            try:
+                runner.script([], data)
+            except Difference as difference:
+                return f"{name}: {str(difference)[:2000]}"
+    return None
 
 
 def main():
-    parser = argparse.ArgumentParser()
-    parser.add_argument("--cases", type=int, default=500)
-    parser.add_argument("--seed", type=int, default=1)
-    parser.add_argument("--tally", action="store_true", help="tell how often each reply and last line was compared")
-    parser.add_argument("program", nargs="?", default=os.path.join(HERE, "../crates/euler_desk/out/euler_desk"))
-    given = parser.parse_args()
-    if not os.access(given.program, os.X_OK):
-        print(f"desk_differential: there is no program at {given.program}")
-        return 2
-    with tempfile.TemporaryDirectory() as folder:
-        runner, skipped, number = DeskRunner(given.program, folder), 0, "of hostile scripts"
-        try:
-            check_hostile(runner)
-            for number in range(given.cases):
-                try:
-                    case(runner, random.Random(f"{given.seed} {number}"))
-                except model.TooMany:
-                    skipped += 1
-        except Difference as difference:
-            print(f"case {number} of seed {given.seed}: {difference}")
-            for name in ("p", "s"):
-                print(f"{name}:\n{(runner.bytes_of(name) or b'')[:4000].decode('utf-8', 'replace')}")
-            return 1
-        for answer, times in sorted(runner.answers.items()) if given.tally else []:
-            print(f"{times} {answer}")
-        told = f"{given.cases - skipped} cases, {len(HOSTILE)} hostile scripts, {runner.runs} runs: no difference"
-        print(f"desk_differential: {told} ({skipped} left out, with too many nodes)")
-    return 0
+    given = harness.arguments(__doc__, "desk", count=500, seed=1, jobs=1, tally=False)
+    difference = check_hostile(given.desk)
+    if difference:
+        print(difference)
+        return 1
+    answers, told = try_cases(given, lambda folder: DeskRunner(given.desk, folder), case)
+    return tell(given, answers, told, f"{len(HOSTILE)} hostile scripts, ")
 
 
 if __name__ == "__main__":

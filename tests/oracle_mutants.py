@@ -1,27 +1,23 @@
 #!/usr/bin/env python3
 """Shows that differential.py and desk_differential.py find mistakes: each of a list of mistakes, planted in the oracle, one at a time.
 
-    tests/oracle_mutants.py [--count N] [--seed S] [--program PATH] [--desk PATH] [NAME ..]
+    tests/oracle_mutants.py [--program PATH] [--desk PATH] [--count N] [--seed N] [--only TEXT]
 
 A mistake is one change of the text of one file: its old text stands there exactly once. For each it is told after how many cases
-differential.py found a difference, or desk_differential.py where the mistake is one of the desk, and it ends with status 1 if one was not found
-within N cases (5,000 if not given). What the program answers is kept, so that it runs once for the same words and files. Where the desk
-isn't built, those of the desk are left out.
+differential.py found a difference, or desk_differential.py where the mistake is one of the desk. What the program answers is kept, so that
+it runs once for the same words and files. With --only those alone are planted whose name has this text. It ends with status 1 if one was
+not found within N cases (5,000 if not given).
 """
 
-import argparse
 import hashlib
 import importlib
 import os
-import random
 import shutil
 import sys
-import tempfile
 import time
 
+import harness
 from oracle.commands import files_read, files_written
-
-HERE = os.path.dirname(os.path.abspath(__file__))
 
 # name, file, old text, new text
 MISTAKES = [
@@ -179,54 +175,53 @@ MISTAKES = [
 ]
 
 
-def load(folder, file=None, old="", new=""):
-    """What tries the oracle as a new module, from a folder with a copy of these files in which one has a change."""
-    shutil.copytree(HERE, folder, ignore=shutil.ignore_patterns("edits", "__pycache__"))
-    if file:
-        path = os.path.join(folder, file + ".py")
-        with open(path, encoding="utf-8") as text:
-            source = text.read()
-        if source.count(old) != 1:
-            raise SystemExit(f"oracle_mutants: {old!r} stands {source.count(old)} times in {file}.py")
-        with open(path, "w", encoding="utf-8") as text:
-            text.write(source.replace(old, new))
-    names = [name for name, module in sys.modules.items() if (getattr(module, "__file__", None) or "").startswith(sys.path[0] + os.sep)]
-    for name in names:
-        del sys.modules[name]
+def planted(folder, file, old, new):
+    """What tries the oracle as new modules, from a copy of these files in which one has a change: the scripts and what they raise."""
+    shutil.copytree(harness.TESTS, folder, ignore=shutil.ignore_patterns("edits", "__pycache__"))
+    path = os.path.join(folder, file + ".py")
+    with open(path, encoding="utf-8") as text:
+        source = text.read()
+    if source.count(old) != 1:
+        raise SystemExit(f"oracle_mutants: {old!r} stands {source.count(old)} times in {file}.py")
+    with open(path, "w", encoding="utf-8") as text:
+        text.write(source.replace(old, new))
+    before = sys.path[0] + os.sep
+    for name in [name for name, module in sys.modules.items() if (getattr(module, "__file__", None) or "").startswith(before)]:
+        if name != "__main__":
+            del sys.modules[name]
     sys.path[0] = folder
     return importlib.import_module("desk_differential" if file == "oracle/desk" else "differential")
 
 
-def remembering(base, program, folder, known):
+def remembering(base, program, known):
     """A runner whose files are in memory, and which runs the program once for the same words and files."""
 
     class Remembering(base):
         def __init__(self):
-            super().__init__(program, folder)
+            super().__init__(program)
             self.files = {}
 
         def hold(self, name, data):
             self.files[name] = data
 
-        def bytes_of(self, name):
+        def held(self, name):
             return self.files.get(name)
 
         def drop(self, name):
             self.files.pop(name, None)
 
+        def clear(self):
+            self.files.clear()
+
         def run(self, words):
             read, written = files_read(words), files_written(words)
             asked = hashlib.sha256(repr((words, [self.files.get(name) for name in read])).encode()).digest()
             if asked not in known:
+                base.clear(self)
                 for name in read:
                     if name in self.files:
                         base.hold(self, name, self.files[name])
-                    elif name:
-                        base.drop(self, name)
-                for name in written:
-                    if name and name not in read:
-                        base.drop(self, name)
-                known[asked] = base.run(self, words), {name: base.bytes_of(self, name) for name in written if name}
+                known[asked] = base.run(self, words), {name: base.held(self, name) for name in written if name}
             answer, left = known[asked]
             self.files.update({name: data for name, data in left.items() if data is not None})
             return answer
@@ -236,38 +231,25 @@ def remembering(base, program, folder, known):
 
 def found_after(tester, runner, seed, count):
     """After how many cases there was a difference, or None."""
-    for number in range(count):
-        try:
-            tester.case(runner, random.Random(f"{seed} {number}"))
-        except sys.modules["oracle.model"].TooMany:
-            pass
-        except tester.Difference:
-            return number + 1
-    return None
+    comparing = sys.modules["comparisons.runner"]
+    return next((number + 1 for number in range(count) if comparing.came(runner, tester.case, seed, number).difference), None)
 
 
 def main():
-    parser = argparse.ArgumentParser()
-    parser.add_argument("--count", type=int, default=5000)
-    parser.add_argument("--seed", type=int, default=1)
-    parser.add_argument("--program", default=os.path.join(HERE, "../crates/euler_align/out/euler_align"))
-    parser.add_argument("--desk", default=os.path.join(HERE, "../crates/euler_desk/out/euler_desk"))
-    parser.add_argument("names", nargs="*")
-    given = parser.parse_args()
-    begun, known, missed, tried, has_desk = time.monotonic(), {}, 0, 0, os.access(given.desk, os.X_OK)
-    with tempfile.TemporaryDirectory() as folder:
+    given = harness.arguments(__doc__, "program desk?", count=5000, seed=1, only="")
+    begun, known, missed, tried = time.monotonic(), {}, 0, 0
+    with harness.Folder() as folder:
         for number, (name, file, old, new) in enumerate(MISTAKES):
-            if (given.names and name not in given.names) or (file == "oracle/desk" and not has_desk):
+            if given.only not in name or (file == "oracle/desk" and not given.desk):
                 continue
-            tester = load(os.path.join(folder, f"tests{number}"), file, old, new)
+            tester = planted(folder.at(f"tests{number}"), file, old, new)
             # what the desk answers is not kept: its scripts are never the same
-            runner = tester.DeskRunner(given.desk, folder) if file == "oracle/desk" else remembering(tester.Runner, given.program, folder, known)
-            after = found_after(tester, runner, given.seed, given.count)
+            with tester.DeskRunner(given.desk) if file == "oracle/desk" else remembering(tester.Runner, given.program, known) as runner:
+                after = found_after(tester, runner, given.seed, given.count)
             tried += 1
             missed += after is None
             print(f"{file}.py, {name}: {'not found' if after is None else f'found after {after}'}", flush=True)
-    left_out = "" if has_desk else "; there is no desk, so those of the desk are left out"
-    print(f"oracle_mutants: {tried} planted, {missed} not found, {time.monotonic() - begun:.0f} s{left_out}")
+    print(f"oracle_mutants: {tried} planted, {missed} not found, {time.monotonic() - begun:.0f} s{harness.without(given.desk)}")
     return 1 if missed or not tried else 0
 
 

@@ -1,6 +1,21 @@
-"""Small problems and files, and runs of each command over them, which the tests share."""
+"""Small problems and files, and runs of each command over them, which the tests share; and the problems of bench/."""
 
+import importlib.util
+import os
+
+from harness import ROOT
 from oracle.commands import KINDS
+
+# by its file, since the tools have a module of this name too
+SPEC = importlib.util.spec_from_file_location("bench_problems", os.path.join(ROOT, "bench/problems.py"))
+bench = importlib.util.module_from_spec(SPEC)
+SPEC.loader.exec_module(bench)
+
+
+def made(family, one, other):
+    """A problem of a family of bench/problems.py."""
+    return "\n".join(bench.FAMILIES[family](int(one), int(other))) + "\n"
+
 
 # small problems, a certificate of the first one's listing, and a token of it
 ALONE = "taxonomy 1\n(A)\ntaxonomy 2\n(B)\n"

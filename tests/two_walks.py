@@ -3,32 +3,28 @@
 first worlds by the walk along a table beside those by the search that counts its nodes, and `mir` beside the letters of all worlds, where
 these are not too many.
 
-    tests/two_walks.py [PROGRAM] [--count N] [--seed N]
+    tests/two_walks.py [--program PATH] [--count N] [--seed N]
 
 It ends with status 1 at the first difference, and shows it. Problems of which a walk takes over five seconds are left out and counted.
 """
 
-import argparse
-import os
 import random
 import subprocess
 import sys
-import tempfile
 
-HERE = os.path.dirname(os.path.abspath(__file__))
-sys.path.insert(0, os.path.join(HERE, "..", "bench"))
-import problems  # noqa: E402
+import harness
+from small_runs import bench
 
 WORDS = ["", "coverage=off", "nonempty=off", "sibling=off"]
 
 
-def run(program, *words):
+def run(program, folder, *words):
     """The lines that a run prints and its exit code, or none where it takes too long."""
     try:
-        ran = subprocess.run([program, *words], stdout=subprocess.PIPE, stderr=subprocess.DEVNULL, timeout=5)
+        done = harness.run([program, *words], folder.path, seconds=5)
     except subprocess.TimeoutExpired:
         return None
-    return ran.stdout.decode().splitlines(), ran.returncode
+    return done.out.decode().splitlines(), done.code
 
 
 def sets_of(worlds, count):
@@ -40,45 +36,42 @@ def sets_of(worlds, count):
     return ["".join(letter for letter in "=><x!" if letter in letters) for letters in found]
 
 
+def listed_so_far(counted, first):
+    """What a search lists that counts its nodes: where their limit was reached first, what it lists until then begins the same list."""
+    if counted is None or counted[0][-1] == first[0][-1] or counted[0][-1].startswith("complete"):
+        return counted
+    return first if counted[0][:-1] == first[0][: len(counted[0]) - 1] else counted
+
+
 def main():
-    args = argparse.ArgumentParser()
-    args.add_argument("program", nargs="?", default=os.path.join(HERE, "../crates/euler_align/out/euler_align"))
-    args.add_argument("--count", type=int, default=60)
-    args.add_argument("--seed", type=int, default=1)
-    given = args.parse_args()
-    program = os.path.realpath(given.program)
+    given = harness.arguments(__doc__, "program", count=60, seed=1)
     rng = random.Random(given.seed)
     listed = walked = whole = left_out = 0
-    with tempfile.TemporaryDirectory() as folder:
-        path = os.path.join(folder, "p.txt")
+    with harness.Folder() as folder:
         for _ in range(given.count):
             size = rng.choice([8, 10, 12, 16, 20])
-            lines = problems.revision(rng.randrange(10**6), size, rng.randint(1, 8), rng.uniform(0.6, 1.0), rng.uniform(0.2, 0.9))
-            with open(path, "w", encoding="ascii") as file:
-                file.write("\n".join(lines) + "\n")
+            lines = bench.revision(rng.randrange(10**6), size, rng.randint(1, 8), rng.uniform(0.6, 1.0), rng.uniform(0.2, 0.9))
+            folder.hold("p", "\n".join(lines) + "\n")
             switch = [word for word in [rng.choice(WORDS)] if word]
-            limit = ["worlds=2000", f"token={folder}/t"]
-            first = run(program, "align", f"in={path}", *switch, *limit)
+            limit = ["worlds=2000", "token=t"]
+            first = run(given.program, folder, "align", "in=p", *switch, *limit)
             if first is None:
                 left_out += 1
                 continue
             listed += 1
-            counted = run(program, "align", f"in={path}", *switch, *limit, "nodes=300000")
-            if counted is not None and counted[0][-1] == first[0][-1]:
-                walked += 1
-            elif counted is not None:
-                # The limit of nodes was reached first: what was listed until then begins the same list.
-                counted = counted if counted[0][-1].startswith("complete") or counted[0][:-1] != first[0][: len(counted[0]) - 1] else None
+            counted = run(given.program, folder, "align", "in=p", *switch, *limit, "nodes=300000")
+            walked += counted is not None and counted[0][-1] == first[0][-1]
             told = same = None
             if first[0][-1].startswith("complete"):
-                told = run(program, "mir", f"in={path}", *switch)
+                told = run(given.program, folder, "mir", "in=p", *switch)
                 told = told and [line.split(" ")[2].replace(".", "") for line in told[0][:-1]]
                 same = told and sets_of(first[0][:-1], len(told))
                 whole += 1
-            if told != same or counted not in (None, first):
+            if told != same or listed_so_far(counted, first) not in (None, first):
                 print("\n".join(lines), switch, first[0][-1], counted and counted[0][-1], told, same, sep="\n")
                 return 1
-    print(f"{listed} problems, {walked} of them by both walks to the same end, {whole} with the sets of mir, {left_out} left out; no difference")
+    told = f"{walked} of them by both walks to the same end, {whole} with the sets of mir, {left_out} left out"
+    print(f"two_walks: {listed} problems, {told}; no difference")
     return 0 if listed else 1
 
 
