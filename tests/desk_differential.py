@@ -38,13 +38,13 @@ class DeskRunner(Runner):
         os.mkdir(self.at("d"))
 
     def compared(self, words):
-        """What the program puts; it must be what the oracle says."""
+        """The lines that the program puts before the last; they must be what the oracle says."""
         code, text = desk.answer(words, self.held)
         got = self.run(words)
         for line in text.split("\n")[:-1]:
             self.answers[" ".join([word for word in line.split(" ") if not word.isdigit()][:2 if code else 1])] += 1
         self.compare(words, (code, text), got)
-        return text
+        return text.split("\n")[:-2]
 
     def script(self, words, data):
         self.hold("s", data)
@@ -105,10 +105,10 @@ def spaced(rng, requests):
     return "\n".join(lines).encode() + rng.choice([b"", b"\n", b"\n \n"])
 
 
-def by_slot(text):
+def by_slot(rows):
     """The replies to each slot."""
     replies = {}
-    for line in text.split("\n")[:-2]:
+    for line in rows:
         slot, _, said = line.partition(" ")
         replies.setdefault(slot, []).append(said)
     return replies
@@ -142,19 +142,20 @@ def check_orders(runner, problem, words, rng):
     other = dealt(rng, acts)
     second = runner.script(words, written(other) if rng.random() < 0.5 else spaced(rng, other))
     if by_slot(first) != by_slot(second):
-        raise Difference(f"a slot's replies are others in another order:\n{first}\nand\n{second}")
+        raise Difference(f"a slot's replies are others in another order: {first}, and {second}")
     return other
 
 
 def check_interleavings(runner, problem, words, rng):
-    """Three requests of each of two slots, in all orders."""
+    """Three requests of each of two slots, in all orders, one after the other in one script; both slots are closed behind each."""
     one, other = rng.sample(range(1, desk.MOST_SLOTS + 1), 2)
-    acts, replies = {slot: acts_of_slot(rng, problem, 3) for slot in (one, other)}, []
+    acts, requests = {slot: [*acts_of_slot(rng, problem, 3), "close"] for slot in (one, other)}, []
     for places in itertools.combinations(range(6), 3):
-        requests = in_turns(acts, [one if place in places else other for place in range(6)])
-        replies.append(by_slot(runner.script(words, written(requests))))
-        if replies[-1] != replies[0]:
-            raise Difference(f"a slot's replies are others in another order: {replies[-1]}, and {replies[0]}")
+        requests += in_turns(acts, [one if place in places else other for place in range(6)] + [one, other])
+    rows = runner.script(words, written(requests))
+    replies = [by_slot(rows[begin : begin + 8]) for begin in range(0, len(rows), 8)]
+    if any(given != replies[0] for given in replies):
+        raise Difference(f"a slot's replies are others in another order: {replies}")
 
 
 def check_damaged(runner, problem, words, requests, rng):

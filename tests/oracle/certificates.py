@@ -179,7 +179,7 @@ class Tree:
         return sets
 
     def is_shown(self, node):
-        return self.start.startswith(node) or model.rank(node) >= model.rank(self.start)
+        return not self.start or self.start.startswith(node) or model.rank(node) >= model.rank(self.start)
 
     def below(self, node):
         """The nodes that come right below a node."""

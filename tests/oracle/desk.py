@@ -12,6 +12,7 @@ from oracle.texts import Fault, is_number, read_problem
 
 MOST_BYTES = 1048576
 MOST_SLOTS = 16
+WORD = re.compile("[^ \t]+")
 # the words of a request and how many stand behind each
 FORMS = {"open": 0, "keep": 1, "narrow": 3, "next": 0, "close": 0}
 
@@ -138,7 +139,7 @@ def read_script(problem, data):
         raise Fault(0, "TooLong")
     concepts, requests = Concepts(problem), []
     for number, line in enumerate(data.decode("latin-1").split("\n"), 1):
-        words = [word for word in re.split("[ \t]", line) if word]
+        words = WORD.findall(line)
         if words:
             requests.append(read_request(concepts, words, number))
     return requests

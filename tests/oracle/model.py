@@ -29,26 +29,23 @@ class Problem:
         self.articulations = []  # ("pair", left, right, letters) or ("sum", whole, parts)
         self.switches = switches
 
-    def finish(self):
+    def finish(self, points=None):
+        """Makes the rest; points that are given are those of a problem that differs in no sum."""
         concepts = range(len(self.names))
         pairs = [(i, j) for i in concepts for j in concepts if i < j]
         self.cross = [p for p in pairs if self.owners[p[0]] != self.owners[p[1]]]
         self.pairs = self.cross + [p for p in pairs if self.owners[p[0]] == self.owners[p[1]]]
-        self.allowed = []
-        for pair in self.pairs:
-            letters = frozenset(LETTERS)
-            for a in self.articulations:
-                if a[0] == "pair" and (a[1], a[2]) == pair:
-                    letters &= set(a[3])
-            self.allowed.append(letters)
-        self.points = [b for b in itertools.product((0, 1), repeat=len(self.names)) if self.is_point(b)]
-        # which points lie in each region of each pair, and in each concept, as the bits of a number
-        self.in_region = [[self.marks(lambda p: lies(p, (i, j, g))) for g in range(3)] for i, j in self.pairs]
-        self.in_concept = [self.marks(lambda p: p[c]) for c in concepts]
+        allowed = {pair: frozenset(LETTERS) for pair in self.pairs}
+        for a in self.articulations:
+            if a[0] == "pair":
+                allowed[a[1], a[2]] &= set(a[3])
+        self.allowed = [allowed[pair] for pair in self.pairs]
+        self.points = points or [b for b in itertools.product((0, 1), repeat=len(self.names)) if self.is_point(b)]
+        # which points lie in each concept, and in each region of each pair, as the bits of a number
+        self.in_concept = [sum(1 << k for k, p in enumerate(self.points) if p[c]) for c in concepts]
+        both = [(self.in_concept[i], self.in_concept[j]) for i, j in self.pairs]
+        self.in_region = [(x & ~y, x & y, y & ~x) for x, y in both]
         return self
-
-    def marks(self, has):
-        return sum(1 << k for k, p in enumerate(self.points) if has(p))
 
     def is_point(self, bits):
         nonempty, sibling, coverage = self.switches
@@ -120,7 +117,7 @@ class Problem:
 
         def go(prefix):
             alive = is_alive(prefix)
-            if rank(prefix) >= least:
+            if not start or rank(prefix) >= least:
                 yield prefix, alive and len(prefix) == len(self.pairs)
             elif not start.startswith(prefix):
                 return

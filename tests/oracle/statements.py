@@ -12,7 +12,8 @@ def restricted(problem, bits):
     q.taxonomies, q.names, q.owners = problem.taxonomies, problem.names, problem.owners
     q.parents, q.children = problem.parents, problem.children
     q.articulations = [a for a, bit in zip(problem.articulations, bits) if bit == "1"]
-    return q.finish()
+    keeps_sums = all(bit == "1" for a, bit in zip(problem.articulations, bits) if a[0] == "sum")
+    return q.finish(problem.points if keeps_sums else None)
 
 
 def has_world(problem):
