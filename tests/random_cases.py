@@ -66,7 +66,7 @@ def random_problem(rng):
     left = rng.randint(count, 6)
     lines, all_names = [], []
     for t in range(1, count + 1):
-        size = min(left - (count - t), rng.randint(1, 3)) if t < count else rng.randint(0, min(3, left))
+        size = min(left - (count - t), rng.choice([1, 2, 3, 3, 4])) if t < count else rng.randint(0, min(4, left))
         left -= size
         names = [f"{chr(64 + t)}{k}" for k in range(size)]
         lines.append(f"taxonomy {t}")
@@ -74,7 +74,7 @@ def random_problem(rng):
         if free and rng.random() < 0.3:
             rng.shuffle(free)
         while free:
-            row = free[: rng.randint(1, len(free))]
+            row = free[: rng.choice([len(free), rng.randint(1, len(free))])]
             lines.append("(" + " ".join(row) + ")")
             free = free[len(row):]
             if free and rng.random() < 0.4 and len(row) > 1:
@@ -104,7 +104,7 @@ def random_statement(rng, names):
 
 
 def more_statements(rng, problem, most):
-    """Further statements on the concepts of a problem, so that there are more conflicts: some are there already, some are on the same pair."""
+    """Further statements on the concepts of a problem, so that there are more conflicts: some are there already, some are on the same pair, some on a sibling."""
     names = [[problem.text_name(c) for c in range(len(problem.names)) if problem.owners[c] == t] for t in range(len(problem.taxonomies))]
     said = [problem.articulation_text(a) for a in problem.articulations]
     if not can_be_related(names):
@@ -116,9 +116,20 @@ def more_statements(rng, problem, most):
             more.append(old)
         elif old and " sums " not in old and draw < 0.55:
             more.append(f"{old.split(' ')[0]} {rng.choice(list(texts.WORDS))} {old.split(' ')[-1]}")
+        elif old and " sums " not in old and draw < 0.75:
+            more.append(of_sibling(rng, problem, old))
         else:
             more.append(random_statement(rng, names))
     return "".join(line + "\n" for line in more)
+
+
+def of_sibling(rng, problem, said):
+    """The same said of another child of the same parent, if there is one: then it often can't hold unless a concept is empty."""
+    name, rest = said[1:].split(" ", 1)
+    names = [problem.text_name(c) for c in range(len(problem.names))]
+    parent = problem.parents[names.index(name)]
+    others = [other for c, other in enumerate(names) if parent is not None and problem.parents[c] == parent and other != name]
+    return f"[{rng.choice(others)} {rest}" if others else said
 
 
 def text_at_limit(rng):

@@ -118,8 +118,7 @@ def check_tokens_of_part(runner, problem, words, rng):
     tokens = [random_cases.random_token(rng, problem) for _ in range(2)]
     for name, token in zip("ru", tokens):
         runner.hold(name, token)
-    (start, kind), (end, other) = (texts.read_token(problem, token) for token in tokens)
-    code, rows = (7, [f"token {kind or other}"]) if kind or other else parts.part_answer(problem, start, end)
+    code, rows = parts.part_by_tokens(problem, *tokens)
     runner.drop("c")
     runner.same(["part", "in=p", "cert=c", "until=u", "resume=r"] + words, code, rows_text(rows))
     if (runner.held("c") is not None) != (code == 0):

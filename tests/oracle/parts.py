@@ -4,6 +4,7 @@ concepts."""
 import collections
 
 from oracle import certificates, model
+from oracle.texts import read_token
 
 MOST_RELATIONS = 16
 
@@ -59,6 +60,12 @@ def part_answer(problem, start, end):
         return 15, ["empty part"]
     worlds = listing(problem, start, end)
     return 0, worlds + [f"part {len(worlds)}"]
+
+
+def part_by_tokens(problem, beginning, ending):
+    """The same of a part whose ends are told by the bytes of tokens, of which that of the beginning is judged first."""
+    (start, kind), (end, other) = (read_token(problem, token) for token in (beginning, ending))
+    return (7, [f"token {kind or other}"]) if kind or other else part_answer(problem, start, end)
 
 
 # The join.

@@ -1,4 +1,6 @@
-"""The problems that `trial` makes from a seed and a size, by docs/FORMATS.md."""
+"""The problems that `trial` makes from a seed and a size, and what it tells of them, by docs/FORMATS.md."""
+
+from oracle.texts import read_problem
 
 
 def made_text(seed, size):
@@ -37,3 +39,12 @@ def made_text(seed, size):
     for k in range(1, s + 1):
         same(f"s{k}")
     return "".join(line + "\n" for line in out)
+
+
+def answer(seed, size):
+    """The lines of a trial. There are seven worlds whatever is drawn, and four pairs are not the same in all of them."""
+    problem = read_problem(made_text(seed, size).encode(), (True, True, True))
+    concepts = len(problem.names)
+    counts = {"concepts": concepts, "articulations": len(problem.articulations), "pairs": concepts * (concepts - 1) // 2}
+    told = {**counts, "worlds": 7, "varied": 4, "accepted": 7}
+    return [f"trial {seed} {size}"] + [f"{what} {number}" for what, number in told.items()]
