@@ -1,17 +1,20 @@
 #!/usr/bin/env python3
 """Sets the built program beside the oracle, on random problems, texts, words, tokens and certificates.
 
-    tests/differential.py [--program PATH] [--count N] [--seed N] [--jobs N] [--alone] [--tally]
+    tests/differential.py [--program PATH] [--count N] [--seed N] [--jobs N] [--command NAME] [--alone] [--tally]
 
 Each case makes a small problem (two to four taxonomies, sums, all switches), and compares what the program puts and its exit code with
 what the oracle says: listings whole, cut and resumed, their tokens, listings in parts and what joins of the parts, what follows and why,
 what conflicts, all that conflicts (of more statements too), reports, trials, damaged texts, tokens and certificates, and words that are no
 request. Certificates that the program writes must be accepted by the oracle too, and its own checker must answer what the oracle does of
 any bytes, also where several are joined. What is accepted must be so by the oracle's worlds. With --jobs several processes share the cases,
-which are the same for any number of them; with --tally it is told how often each last line was compared. With --alone no program is run,
+which are the same for any number of them; with --command that alone is
+compared which has to do with one; with --tally it is told how often each last line was compared. With --alone no program is run,
 and the parts of the oracle are set beside each other. It ends with status 1 at the first difference, and shows it.
 """
 
+import functools
+import random
 import sys
 
 import harness
@@ -21,35 +24,44 @@ from comparisons.runner import Difference, NoRunner, Runner, switch_words, tell,
 from oracle import texts
 
 
-def case(runner, rng):
-    text = random_cases.random_problem(rng)
-    switches = random_cases.random_switches(rng)
-    words = switch_words(switches)
-    runner.hold("p", text.encode())
+# what is compared, and the commands that it is about; certificates are checked in most of it
+STEPS = [
+    ("align", listings.check_listing),
+    ("check", certificates.check_other_certificates),
+    ("align", listings.check_cuts),
+    ("align", listings.check_tokens),
+    ("parts part join", parts.check_parts),
+    ("part", parts.check_tokens_of_part),
+    ("report", answers.check_reports),
+    ("mir", answers.check_possible),
+    ("conflict", answers.check_conflict),
+    ("lattice", answers.check_lattice),
+    ("explain", answers.check_explanation),
+    ("conflict lattice explain", answers.check_crowded),
+    ("lattice", answers.check_many),
+    ("align", refusals.check_damaged),
+    ("align", refusals.check_limits),
+    ("words", refusals.check_words),
+    ("trial", answers.check_trial),
+]
+
+
+def is_about(command, names):
+    """Whether a step has to do with a command; any words may be those of one."""
+    return command in ("", "check") or command in names.split() or names == "words"
+
+
+def case(runner, rng, command=""):
+    """A problem, and all that is compared of it, or what has to do with one command: it is the same then."""
+    text, switches, base = random_cases.random_problem(rng), random_cases.random_switches(rng), rng.random()
     problem = texts.read_problem(text.encode(), switches).finish()
-    worlds = listings.check_listing(runner, problem, words, rng)
-    if len(problem.points) <= 10 and len(problem.pairs) <= 6 and worlds != problem.families_by_sets_of_points():
+    problem.text = text
+    if len(problem.points) <= 10 and len(problem.pairs) <= 6 and problem.worlds() != problem.families_by_sets_of_points():
         raise Difference("the oracle's walk and the sets of points differ")
-    certificates.check_other_certificates(runner, problem, words, rng)
-    listings.check_cuts(runner, problem, words, rng)
-    listings.check_tokens(runner, problem, words, rng)
-    parts.check_parts(runner, problem, words, rng)
-    parts.check_tokens_of_part(runner, problem, words, rng)
-    answers.check_reports(runner, problem, words, worlds, rng)
-    answers.check_possible(runner, problem, words, worlds, rng)
-    answers.check_conflict(runner, problem, words, rng)
-    answers.check_lattice(runner, problem, words, rng)
-    answers.check_explanation(runner, problem, words, rng)
-    answers.check_crowded(runner, text, switches, rng)
-    if rng.random() < 0.05:
-        answers.check_many(runner, text, switches, rng)
-    refusals.check_text(runner, random_cases.damaged(rng, text.encode(), random_cases.TEXT_PIECES), switches)
-    for _ in range(3):
-        refusals.check_words(runner, rng)
-    if rng.random() < 0.05:
-        refusals.check_text(runner, random_cases.text_at_limit(rng), switches)
-    if rng.random() < 0.1:
-        answers.check_trial(runner, rng)
+    for number, (names, check) in enumerate(STEPS):
+        if is_about(command, names):
+            runner.hold("p", text)
+            check(runner, problem, switch_words(switches), random.Random(f"{base} {number}"))
 
 
 def case_alone(runner, rng):
@@ -59,12 +71,12 @@ def case_alone(runner, rng):
 
 
 def main():
-    given = harness.arguments(__doc__, "program?", count=500, seed=1, jobs=1, alone=False, tally=False)
+    given = harness.arguments(__doc__, "program?", count=500, seed=1, jobs=1, command="", alone=False, tally=False)
     if given.alone:
         return tell(given, *try_cases(given, lambda folder: NoRunner(None, folder), case_alone))
     if not given.program:
         harness.absent("crates/euler_align/out/euler_align")
-    return tell(given, *try_cases(given, lambda folder: Runner(given.program, folder), case))
+    return tell(given, *try_cases(given, lambda folder: Runner(given.program, folder), functools.partial(case, command=given.command)))
 
 
 if __name__ == "__main__":

@@ -9,6 +9,7 @@ With --command only the mistakes of one are planted (`desk` and `words` are othe
 text. It ends with status 1 if one was not found within N cases (5,000 if not given).
 """
 
+import functools
 import hashlib
 import importlib
 import os
@@ -54,7 +55,7 @@ def remembering(base, program, known, command):
                 super().compare(words, wanted, got)
 
         def hold(self, name, data):
-            self.files[name] = data
+            self.files[name] = data.encode() if isinstance(data, str) else data
 
         def held(self, name):
             return self.files.get(name)
@@ -87,11 +88,11 @@ def remembering(base, program, known, command):
     return Remembering()
 
 
-def found_after(tester, runner, command, given):
+def found_after(case, runner, command, given):
     """After how many cases there was a difference in a run of the command; 0 if there was none."""
     came = sys.modules["comparisons.runner"].came
     for number in range(given.count):
-        if came(runner, tester.case, given.seed, number).difference and getattr(runner, "by", command) == command:
+        if came(runner, case, given.seed, number).difference and getattr(runner, "by", command) == command:
             return number + 1
     return 0
 
@@ -101,9 +102,13 @@ def tried(command, mistakes, folder, known, given):
     for number, (name, file, old, new) in enumerate(mistakes):
         place = folder.at(f"{command}{number}")
         tester = planted(place, file, old, new)
-        # what the desk answers is not kept: its scripts are never the same
-        with tester.DeskRunner(given.desk) if command == "desk" else remembering(tester.Runner, given.program, known, command) as runner:
-            after = found_after(tester, runner, command, given)
+        if command == "desk":
+            # what it answers is not kept: its scripts are never the same
+            case, made = tester.case, tester.DeskRunner(given.desk)
+        else:
+            case, made = functools.partial(tester.case, command=command), remembering(tester.Runner, given.program, known, command)
+        with made as runner:
+            after = found_after(case, runner, command, given)
         shutil.rmtree(place)
         print(f"{command}, {name}: {f'found after {after}' if after else 'not found'}", flush=True)
         yield after

@@ -4,13 +4,13 @@ import json
 
 import random_cases
 from comparisons.certificates import check_written
-from comparisons.runner import Difference, rows_text, status_of, switch_words
+from comparisons.runner import Difference, rows_text, status_of
 from oracle import model, reports, statements, texts, trials
 from oracle.commands import KINDS
 
 
-def check_reports(runner, problem, words, worlds, rng):
-    kinds = rng.sample(KINDS, rng.randint(1, 5))
+def check_reports(runner, problem, words, rng):
+    worlds, kinds = problem.worlds(), rng.sample(KINDS, rng.randint(1, 5))
     code, text = runner.run(["report", "in=p", "kinds=" + ",".join(kinds)] + words)
     wanted = []
     for kind in kinds:
@@ -22,7 +22,8 @@ def check_reports(runner, problem, words, worlds, rng):
         raise Difference(f"report {kinds}: {code}\n{text}\nwanted {wanted}")
 
 
-def check_possible(runner, problem, words, worlds, rng):
+def check_possible(runner, problem, words, rng):
+    worlds = problem.worlds()
     sets = reports.possible(problem, worlds)
     text = "".join(row + "\n" for row in reports.possible_lines(problem, sets))
     runner.same(["mir", "in=p"] + words, status_of(worlds), text)
@@ -94,28 +95,28 @@ def world_relation(problem, world, x, y):
     return letter if x < y else model.CONVERSE[letter]
 
 
-def check_crowded(runner, text, switches, rng):
+def check_crowded(runner, problem, words, rng):
     """Conflicts of a problem with more statements, and why something follows there."""
-    words, problem = switch_words(switches), texts.read_problem(text.encode(), switches)
-    text += random_cases.more_statements(rng, problem, 10 if rng.random() < 0.02 else 7)
-    runner.hold("p", text.encode())
-    problem = texts.read_problem(text.encode(), switches).finish()
-    check_conflict(runner, problem, words, rng)
-    check_lattice(runner, problem, words, rng)
-    check_explanation(runner, problem, words, rng)
+    text = problem.text + random_cases.more_statements(rng, problem, 10 if rng.random() < 0.02 else 7)
+    runner.hold("p", text)
+    crowded = texts.read_problem(text.encode(), problem.switches).finish()
+    check_conflict(runner, crowded, words, rng)
+    check_lattice(runner, crowded, words, rng)
+    check_explanation(runner, crowded, words, rng)
 
 
-def check_many(runner, text, switches, rng):
-    """As many statements as all conflicts are looked for among, and one more: those of the problem again and again."""
-    words, problem = switch_words(switches), texts.read_problem(text.encode(), switches).finish()
+def check_many(runner, problem, words, rng):
+    """Now and then as many statements as all conflicts are looked for among, and one more: those of the problem again and again."""
     said = [f"{problem.articulation_text(a)}\n" for a in problem.articulations]
-    if not said or not problem.worlds():
+    if rng.random() > 0.05 or not said or not problem.worlds():
         return
     for count, code, rows in ((128, 0, statements.lattice_lines([], ["1" * 128])), (129, 13, ["too many"])):
-        runner.hold("p", (text + "".join(rng.choice(said) for _ in range(count - len(said)))).encode())
+        runner.hold("p", problem.text + "".join(rng.choice(said) for _ in range(count - len(said))))
         runner.same(["lattice", "in=p"] + words, code, rows_text(rows))
 
 
-def check_trial(runner, rng):
-    seed, size = rng.choice([0, 1, 7, rng.randrange(2**64)]), rng.choice([14, 16, 18])
-    runner.same(["trial", f"seed={seed}", f"size={size}"], 0, rows_text(trials.answer(seed, size)))
+def check_trial(runner, _problem, _words, rng):
+    """Now and then a trial."""
+    if rng.random() < 0.1:
+        seed, size = rng.choice([0, 7, *(rng.randrange(2**64) for _ in range(4))]), rng.choice([14, 16, 18])
+        runner.same(["trial", f"seed={seed}", f"size={size}"], 0, rows_text(trials.answer(seed, size)))

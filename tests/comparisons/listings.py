@@ -13,7 +13,6 @@ def check_listing(runner, problem, words, rng):
     runner.drop("c")
     runner.same(["align", "in=p", "cert=c"] + words, status_of(worlds), whole)
     check_written(runner, problem, words, rng, "from .\n" + lines(worlds, "to -") + f"accepted {len(worlds)}\n")
-    return worlds
 
 
 def random_limits(rng, nodes):
