@@ -92,7 +92,8 @@ def found_after(case, runner, command, given):
     """After how many cases there was a difference in a run of the command; 0 if there was none."""
     came = sys.modules["comparisons.runner"].came
     for number in range(given.count):
-        if came(runner, case, given.seed, number).difference and getattr(runner, "by", command) == command:
+        difference = came(runner, case, given.seed, number).difference
+        if difference and (command == "words" or getattr(runner, "by", command) == command):
             return number + 1
     return 0
 
@@ -106,7 +107,8 @@ def tried(command, mistakes, folder, known, given):
             # what it answers is not kept: its scripts are never the same
             case, made = tester.case, tester.DeskRunner(given.desk)
         else:
-            case, made = functools.partial(tester.case, command=command), remembering(tester.Runner, given.program, known, command)
+            about = "words" if file == "usage" else command
+            case, made = functools.partial(tester.case, command=about), remembering(tester.Runner, given.program, known, command)
         with made as runner:
             after = found_after(case, runner, command, given)
         shutil.rmtree(place)
