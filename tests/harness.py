@@ -45,14 +45,15 @@ def arguments(doc, programs="", **options):
     """What the words say. `programs` has the names of those that the script runs, one that it does without where it isn't built with a ?
     behind it, which is None then. Each option has its usual value: False is a flag, and () any number of words."""
     parser = argparse.ArgumentParser(description=doc, formatter_class=argparse.RawDescriptionHelpFormatter)
-    for name in programs.split():
-        parser.add_argument(f"--{name.rstrip('?')}", metavar="PATH")
+    wanted = {name.rstrip("?"): name.endswith("?") for name in programs.split()}
+    for name in wanted:
+        parser.add_argument(f"--{name}", metavar="PATH")
     for name, usual in options.items():
         kind = {"action": "store_true"} if usual is False else {"nargs": "*"} if usual == () else {"type": type(usual), "default": usual}
         parser.add_argument(f"--{name.replace('_', '-')}", **kind)
     given = parser.parse_args()
-    for name in programs.split():
-        setattr(given, name.rstrip("?"), program_at(getattr(given, name.rstrip("?")), *name.partition("?")[:2]))
+    for name, may_be_absent in wanted.items():
+        setattr(given, name, program_at(getattr(given, name), name, may_be_absent))
     return given
 
 
@@ -137,19 +138,19 @@ class Runs(Folder):
 
     def __init__(self, program, within=None):
         super().__init__(within)
-        self.program, self.count, self.child = program, 0, None
+        self.program, self.count = program, 0
         self.out = os.path.join(self.aside, "out")
         how = os.O_WRONLY | os.O_CREAT | os.O_TRUNC
         self.places = [(os.POSIX_SPAWN_OPEN, 1, self.out, how, 0o600), (os.POSIX_SPAWN_OPEN, 2, os.devnull, os.O_WRONLY, 0)]
-        signal.signal(signal.SIGALRM, lambda *_: os.kill(self.child, signal.SIGKILL))
 
     def run(self, words, seconds=60):
         """The exit code of a run with these words, and its standard output as text."""
         self.count += 1
         os.chdir(self.path)
-        self.child = os.posix_spawn(self.program, [self.program, *words], {}, file_actions=self.places)
+        child = os.posix_spawn(self.program, [self.program, *words], {}, file_actions=self.places)
+        signal.signal(signal.SIGALRM, lambda *_: os.kill(child, signal.SIGKILL))
         signal.alarm(seconds)
-        _, status = os.waitpid(self.child, 0)
+        _, status = os.waitpid(child, 0)
         signal.alarm(0)
         with open(self.out, "rb") as file:
             return os.waitstatus_to_exitcode(status), file.read().decode("utf-8", "replace")

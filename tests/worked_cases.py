@@ -123,7 +123,7 @@ class Walked:
     """A problem with its nodes from the empty position on, each with whether it is a world."""
 
     def __init__(self, problem):
-        self.problem, self.nodes = problem, list(problem.walk(""))
+        self.problem, self.nodes = problem, list(problem.walk())
 
     def listing(self, start, nodes, worlds):
         """What the oracle says of a listing, from these nodes."""

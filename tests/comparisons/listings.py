@@ -26,7 +26,7 @@ def random_limits(rng, nodes):
 
 def check_cuts(runner, problem, words, rng):
     """Two listings that are cut by limits, and gone on with from their tokens, some of them with certificates."""
-    nodes = sum(1 for _ in problem.walk(""))
+    nodes = len(problem.nodes_from(""))
     for _ in range(2):
         limits, start = random_limits(rng, nodes), ""
         for _ in range(5):

@@ -67,7 +67,7 @@ def check_join(runner, problem, words, files, numbers):
 
 def random_cuts(problem, beginnings, rng):
     """Some positions, ascending: where parts begin, nodes, worlds, and others, that no node need have."""
-    nodes = [node for node, _ in problem.walk("")]
+    nodes = [node for node, _ in problem.nodes_from("")]
     chosen = rng.sample(beginnings, min(len(beginnings), rng.randint(0, 2))) + rng.sample(nodes, min(len(nodes), rng.randint(0, 2)))
     chosen += rng.sample(problem.worlds(), min(len(problem.worlds()), rng.randint(0, 1)))
     chosen += [random_cases.random_position(rng, len(problem.pairs)) for _ in range(rng.randint(0, 1))]

@@ -179,7 +179,7 @@ class Writer:
         else:
             bits = "".join(rng.choice("011") for _ in problem.articulations)
             words, subject = ("a", bits or "."), self.subject(bits)
-        world = next((node for node, is_world in subject.walk("") if is_world), None)
+        world = next((node for node, is_world in subject.walk() if is_world), None)
         if world is not None and rng.random() < 0.9:
             self.put("some", *words, *self.family(subject, world))
             return

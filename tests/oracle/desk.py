@@ -21,7 +21,7 @@ class Listing:
     """The worlds of a problem in order, looked for as far as they are asked for."""
 
     def __init__(self, problem):
-        self.found, self.rest = [], (node for node, is_world in problem.walk("") if is_world)
+        self.found, self.rest = [], (node for node, is_world in problem.walk() if is_world)
 
     def __iter__(self):
         at = 0

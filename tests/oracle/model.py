@@ -1,5 +1,6 @@
 """What a problem is and which worlds it has, by docs/DEFINITIONS.md: worlds are listed by trying sets of points."""
 
+import bisect
 import functools
 import hashlib
 import itertools
@@ -102,9 +103,8 @@ class Problem:
                     needs.append(points)
         return all(need & ~empty for need in needs)
 
-    def walk(self, start):
-        """The nodes from a position on, in order, each with whether it is a world."""
-        least = rank(start)
+    def walk(self):
+        """The nodes in order, each with whether it is a world, looked for as far as they are asked for."""
         if not hasattr(self, "alive"):
             self.alive = {}
 
@@ -117,10 +117,7 @@ class Problem:
 
         def go(prefix):
             alive = is_alive(prefix)
-            if not start or rank(prefix) >= least:
-                yield prefix, alive and len(prefix) == len(self.pairs)
-            elif not start.startswith(prefix):
-                return
+            yield prefix, alive and len(prefix) == len(self.pairs)
             if alive and len(prefix) < len(self.pairs):
                 for r in LETTERS:
                     if r in self.allowed[len(prefix)]:
@@ -128,10 +125,17 @@ class Problem:
 
         yield from go("")
 
+    def nodes_from(self, start):
+        """The nodes from a position on, each with whether it is a world."""
+        if not hasattr(self, "nodes"):
+            self.nodes = list(self.walk())
+            self.ranks = [rank(node) for node, _ in self.nodes]
+        return self.nodes[bisect.bisect_left(self.ranks, rank(start)) :]
+
     def listing(self, start, nodes=None, worlds=None):
         """The worlds from a position on, and the node before which a limit stops, or None."""
         found, seen = [], 0
-        for node, is_world in self.walk(start):
+        for node, is_world in self.nodes_from(start):
             if (nodes is not None and seen >= nodes) or (worlds is not None and len(found) >= worlds):
                 return found, node
             seen += 1

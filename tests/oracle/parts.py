@@ -51,7 +51,7 @@ def listing(problem, start, end):
 
 def node_at(problem, end):
     """The least node that isn't below an end, which the certificate of a part names; None where there is none."""
-    return None if end is None else next((node for node, _ in problem.walk(end)), None)
+    return None if end is None else next((node for node, _ in problem.nodes_from(end)), None)
 
 
 def part_answer(problem, start, end):

@@ -21,7 +21,7 @@ def has_world(problem):
     order = sorted(range(len(problem.pairs)), key=lambda k: len(problem.allowed[k]) == len(model.LETTERS))
     for rows in (problem.pairs, problem.allowed, problem.in_region):
         rows[:] = [rows[k] for k in order]
-    return any(is_world for _, is_world in problem.walk(""))
+    return any(is_world for _, is_world in problem.walk())
 
 
 def is_consistent(problem, bits):
