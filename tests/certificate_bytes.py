@@ -1,5 +1,5 @@
 #!/usr/bin/env python3
-"""Every change of a single byte of small certificates, of listings and of claims: what `check` answers is what certificates.py says.
+"""Every change of a single byte of small certificates, of listings and of claims: what `check` answers is what the oracle says.
 
     tests/certificate_bytes.py [--program PATH]
 
@@ -32,7 +32,7 @@ def changes(data):
 
 
 def cases():
-    """Problems and their certificates: two that are written down here, and two by certificate_writer.py."""
+    """Problems and their certificates: two that are written down here, and two by the oracle."""
     for text, data in ((ALONE.encode(), LISTING.encode()), (EQUAL.encode(), REFUTED)):
         yield text, texts.read_problem(text, (True, True, True)).finish(), data
     for text, kind, seed in ((PROBLEM, "listing", 10), (CLAIMED, "claims", 3)):

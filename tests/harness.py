@@ -82,8 +82,8 @@ def without(desk):
 
 
 class Folder:
-    """A folder for the files of runs, in memory if it may be; it is gone when its block ends, or that of the one within which it is. `aside` is beside it, for what is no file of
-    the runs."""
+    """A folder for the files of runs, in memory if it may be. It is gone when its block ends, or that of the one within which it is. `aside`
+    is beside it, for what is no file of the runs."""
 
     def __init__(self, within=None):
         self.aside = tempfile.mkdtemp(prefix="euler_align_", dir=within.aside if within else MEMORY)

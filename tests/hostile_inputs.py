@@ -5,7 +5,7 @@ the desk.
     tests/hostile_inputs.py [--program PATH] [--desk PATH] [--quick]
 
 Each is made of some number of things: bytes of one word, literals, hints, lines, elements, sets, claims. It is tried with a quarter of
-them and with all; the answer must be that of oracle/certificates.py both times, and the processor's time may grow by no more than twice as much
+them and with all; the answer must be that of the oracle both times, and the processor's time may grow by no more than twice as much
 as the bytes do (times below a tenth of a second count as a tenth). There are a million things of each, or ten million bytes of one word;
 with `--quick` a tenth of that. So it is with what is joined, by oracle/parts.py: there are as many names as a word may have, and 5,000 that
 are all needed, which is as many as `parts` tells of; with `--quick` a tenth. It ends with status 1 if an answer is another one or a time

@@ -104,7 +104,8 @@ def random_statement(rng, names):
 
 
 def more_statements(rng, problem, most):
-    """Further statements on the concepts of a problem, so that there are more conflicts: some are there already, some are on the same pair, some on a sibling."""
+    """Further statements on the concepts of a problem, so that there are more conflicts: some are there already, some are on the same pair,
+    some on a sibling."""
     names = [[problem.text_name(c) for c in range(len(problem.names)) if problem.owners[c] == t] for t in range(len(problem.taxonomies))]
     said = [problem.articulation_text(a) for a in problem.articulations]
     if not can_be_related(names):

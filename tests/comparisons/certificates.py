@@ -57,6 +57,6 @@ def check_other_certificates(runner, problem, words, rng):
         except certificate_writer.NotShown as fault:
             raise Difference(f"no point lies in a need, which the given clauses don't show: {fault}")
         if same_check(runner, problem, words, data)[0] != 0:
-            raise Difference(f"a certificate of certificate_writer.py is not accepted:\n{data.decode()}")
+            raise Difference(f"a certificate of the oracle is not accepted:\n{data.decode()}")
         for _ in range(3):
             same_check(runner, problem, words, random_cases.damaged_certificate(rng, data))
