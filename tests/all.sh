@@ -7,7 +7,7 @@
 # With --quick only what takes under three minutes together on one processor. Where the desk isn't built its part is left out.
 set -u
 here=$(cd "$(dirname "$0")" && pwd)
-built=$here/../crates
+built=$(dirname "$here")/crates
 quick= program=$built/euler_align/out/euler_align desk=$built/euler_desk/out/euler_desk scenes=$built/run_scenes/out/run_scenes
 while [ $# -gt 0 ]; do
   case $1 in
@@ -80,14 +80,14 @@ try_both hostile_inputs --quick
 try two_walks
 try killed_runs --count 24
 try cluster
-try differential --count 500
-try_desk desk_differential --count 200
+try differential --count 500 --jobs "$(nproc)"
+try_desk desk_differential --count 200 --jobs "$(nproc)"
 if [ -z "$quick" ]; then
   try killed_runs --count 200 --seed 2
   try_both alloc_faults
   try_both hostile_inputs
-  try differential --count 5000 --seed 2
-  try_desk desk_differential --count 2000 --seed 2
+  try differential --count 5000 --seed 2 --jobs "$(nproc)"
+  try_desk desk_differential --count 2000 --seed 2 --jobs "$(nproc)"
   try_both oracle_mutants
 fi
 exit $status
