@@ -2,26 +2,34 @@
 # Tries the built program from outside, part by part, the quick parts first: a line each, with what it came to and its seconds. What a
 # part prints is kept, and shown where it failed.
 #
-#   tests/all.sh [--quick] [PROGRAM [RUN_SCENES [DESK]]]
+#   tests/all.sh [--quick] [--program PATH] [--desk PATH] [--scenes PATH]
 #
 # With --quick only what takes under three minutes together on one processor. Where the desk isn't built its part is left out.
 set -u
-cd "$(dirname "$0")" || exit 2
-quick=
-if [ "${1:-}" = --quick ]; then
-  quick=1
+here=$(cd "$(dirname "$0")" && pwd)
+built=$(dirname "$here")/crates
+quick= program=$built/euler_align/out/euler_align desk=$built/euler_desk/out/euler_desk scenes=$built/run_scenes/out/run_scenes
+while [ $# -gt 0 ]; do
+  case $1 in
+    --quick) quick=1 ;;
+    --program | --desk | --scenes)
+      [ $# -gt 1 ] || { echo "all: $1 needs a path"; exit 2; }
+      printf -v "${1#--}" %s "$(realpath -m "$2")"
+      shift ;;
+    *) echo "all: $1 is no word of it; see its head"; exit 2 ;;
+  esac
   shift
-fi
-program=$(realpath -m "${1:-../crates/euler_align/out/euler_align}")
-scenes=$(realpath -m "${2:-../crates/run_scenes/out/run_scenes}")
-desk=$(realpath -m "${3:-../crates/euler_desk/out/euler_desk}")
-[ ! -x "$desk" ] || export EULER_DESK="$desk"
-for built in "$program" "$scenes"; do
-  if [ ! -x "$built" ]; then
-    echo "all: there is no program at $built"
-    exit 2
-  fi
 done
+for needed in "$program" "$scenes"; do
+  [ -x "$needed" ] || { echo "all: there is no program at $needed"; exit 2; }
+done
+cd "$here" || exit 2
+with_program=(--program "$program") with_desk=()
+export EULER_ALIGN=$program
+if [ -x "$desk" ]; then
+  with_desk=(--desk "$desk")
+  export EULER_DESK=$desk
+fi
 told=$(mktemp)
 trap 'rm "$told"' EXIT
 status=0
@@ -36,46 +44,50 @@ part() {
     status=1
   fi
 }
-part "documents" python3 documents.py "$program"
-part "wrong_bodies" python3 wrong_bodies.py
-part "tools/draw" python3 ../tools/test_draw.py
-part "tools/lint" python3 ../tools/test_lint.py
-part "tools/page, its parts" python3 ../tools/test_page.py
-part "tools/page" python3 page.py "$program"
-part "tools/from_csv" python3 ../tools/test_from_csv.py
-part "tools: names" python3 ../tools/test_names.py
-part "tools: tables of other programs" python3 ../tools/test_other_tables.py
-part "tools/from_skos" env EULER_ALIGN="$program" python3 ../tools/test_from_skos.py
-part "tools: damaged tables" python3 ../tools/test_damaged.py
-part "tools/to_table" env EULER_ALIGN="$program" python3 ../tools/test_to_table.py
-part "tools/list, tools/watch" env EULER_ALIGN="$program" python3 ../tools/test_long_work.py
-part "tools/desk" python3 ../tools/test_desk.py
-part "completions" python3 completions.py "$program"
-part "messages" python3 messages.py "$program" "$desk"
-part "figures" python3 figures.py
-part "package" ./package.sh "$program" "$desk"
-part "rows" python3 rows.py "$program"
-part "faults" python3 faults.py "$scenes"
-part "json_names" python3 json_names.py --program "$program"
-part "devices" python3 devices.py "$program" --desk "$desk"
-part "refused, each 9th allocation" python3 refused.py "$program" --every 9 --desk "$desk"
-part "certificate_bytes" python3 certificate_bytes.py "$program"
-part "hostile, small" python3 hostile.py "$program" --quick --desk "$desk"
-part "revisions" python3 revisions.py "$program"
-part "killed" python3 killed.py "$program" --count 24
-part "cluster" python3 cluster.py "$program"
-part "differential, 500 cases" python3 differential.py --program "$program"
-if [ -x "$desk" ]; then
-  part "desk, 200 cases" python3 desk.py --cases 200 "$desk"
-else
-  echo "desk: left out, there is no program at $desk"
-fi
+# a script by its name, with words
+try() {
+  part "$*" python3 "$1.py" "${@:2}" "${with_program[@]}"
+}
+try_both() {
+  part "$*" python3 "$1.py" "${@:2}" "${with_program[@]}" "${with_desk[@]}"
+}
+try_desk() {
+  if [ -x "$desk" ]; then
+    part "$*" python3 "$1.py" "${@:2}" "${with_desk[@]}"
+  else
+    echo "$1: left out, there is no program at $desk"
+  fi
+}
+try_both documents
+part wrong_bodies python3 wrong_bodies.py
+part figures python3 figures.py
+for test in ../tools/test_*.py; do
+  part "tools/$(basename "$test")" python3 "$test"
+done
+try page
+try_both completions
+try messages
+try_desk desk_messages
+part package ./package.sh "${with_program[@]}" "${with_desk[@]}"
+try worked_cases
+part io_faults python3 io_faults.py --scenes "$scenes"
+try json_names
+try_both device_faults
+try_both memory_limits
+try_both alloc_faults --every 9
+try certificate_bytes
+try_both hostile_inputs --quick
+try two_walks
+try killed_runs --count 24
+try cluster
+try differential --count 500 --jobs "$(nproc)"
+try_desk desk_differential --count 200 --jobs "$(nproc)"
 if [ -z "$quick" ]; then
-  part "killed at 200 moments" python3 killed.py "$program" --count 200 --seed 2
-  part "refused" python3 refused.py "$program" --desk "$desk"
-  part "hostile" python3 hostile.py "$program" --desk "$desk"
-  part "differential, 5,000 other cases" python3 differential.py --count 5000 --seed 2 --program "$program"
-  [ ! -x "$desk" ] || part "desk, 2,000 other cases" python3 desk.py --cases 2000 --seed 2 "$desk"
-  part "breaks" python3 breaks.py --program "$program" --desk "$desk"
+  try killed_runs --count 200 --seed 2
+  try_both alloc_faults
+  try_both hostile_inputs
+  try differential --count 5000 --seed 2 --jobs "$(nproc)"
+  try_desk desk_differential --count 2000 --seed 2 --jobs "$(nproc)"
+  try_both oracle_mutants
 fi
 exit $status

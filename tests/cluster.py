@@ -1,7 +1,7 @@
 #!/usr/bin/env python3
 """Lists a problem in parts with the files of examples/cluster, by each engine that is installed, and joins the parts.
 
-    tests/cluster.py [PROGRAM]
+    tests/cluster.py [--program PATH]
 
 In each trial a part is killed in the middle, one certificate is cut off, one is of another problem, and two workers make one part; the
 worlds joined must be those of one run. Installs nothing, and says which engines are missing. Slurm runs as one node on this machine,
@@ -14,12 +14,11 @@ import shutil
 import signal
 import socket
 import subprocess
-import sys
-import tempfile
 import time
 
-HERE = os.path.dirname(os.path.abspath(__file__))
-CLUSTER = os.path.join(HERE, "../examples/cluster")
+import harness
+
+CLUSTER = os.path.join(harness.ROOT, "examples/cluster")
 PROBLEM = """taxonomy 1 one
 (A a b c)
 
@@ -39,28 +38,24 @@ exec "{program}" "$@"
 
 
 def run(words, **more):
-    return subprocess.run(words, stdout=subprocess.PIPE, stderr=subprocess.STDOUT, text=True, check=False, **more)
+    return harness.run(words, seconds=600, stderr=subprocess.STDOUT, **more)
 
 
 def worlds_of(program, problem, switches):
     """The lines of one run, but for its last."""
     done = run([program, "align", f"in={problem}", *switches])
-    assert done.returncode == 0, done.stdout
-    return done.stdout.splitlines()[:-1]
+    assert done.code == 0, done.out
+    return done.out.decode().splitlines()[:-1]
 
 
 class Trial:
     """A folder with parts, some of them spoilt, and a program that is killed once."""
 
     def __init__(self, program, folder, worlds, switches):
-        self.folder, self.switches = folder, switches
-        self.problem = os.path.join(folder, "problem.txt")
-        self.parts = os.path.join(folder, "parts")
-        self.wrapper = os.path.join(folder, "program")
-        with open(self.problem, "w", encoding="utf-8") as file:
-            file.write(PROBLEM)
-        with open(self.wrapper, "w", encoding="utf-8") as file:
-            file.write(WRAPPER.format(folder=folder, program=program))
+        self.folder, self.switches = folder.path, switches
+        self.problem, self.parts, self.wrapper = (folder.at(name) for name in ("problem.txt", "parts", "program"))
+        folder.hold("problem.txt", PROBLEM)
+        folder.hold("program", WRAPPER.format(folder=folder.path, program=program))
         os.chmod(self.wrapper, 0o755)
         self.program, self.worlds = program, worlds
         self.environment = dict(os.environ, EULER_ALIGN=self.wrapper)
@@ -70,14 +65,14 @@ class Trial:
 
     def scout(self):
         said = self.script("scout", str(self.worlds), *self.switches)
-        assert said.returncode == 0, said.stdout
-        return int(said.stdout)
+        assert said.code == 0, said.out
+        return int(said.out)
 
     def spoil(self):
         """Leaves a certificate that is cut off and one of another problem, where two parts' certificates should be."""
         for part in (3, 4):
             said = self.script("one_part", str(part), *self.switches)
-            assert said.returncode == 0, said.stdout
+            assert said.code == 0, said.out
         with open(os.path.join(self.parts, "c3"), "rb") as file:
             whole = file.read()
         with open(os.path.join(self.parts, "c3"), "wb") as file:
@@ -87,7 +82,7 @@ class Trial:
             file.write(PROBLEM.replace("equals", "includes"))
         os.remove(os.path.join(self.parts, "c4"))
         done = run([self.program, "align", f"in={other}", f"cert={self.parts}/c4", *self.switches])
-        assert done.returncode == 0, done.stdout
+        assert done.code == 0, done.out
 
     def work_twice(self):
         """Two workers make one part at once."""
@@ -95,7 +90,7 @@ class Trial:
         both = [subprocess.Popen(words, env=self.environment) for _ in range(2)]
         assert [one.wait() for one in both] == [0, 0]
         done = run([self.program, "check", f"in={self.problem}", f"cert={self.parts}/c5", *self.switches])
-        assert done.returncode == 0, done.stdout
+        assert done.code == 0, done.out
 
     def joined(self):
         with open(os.path.join(self.parts, "worlds"), encoding="utf-8") as file:
@@ -109,19 +104,19 @@ def by_hand(trial):
     for part in range(1, trial.count + 1):
         trial.script("one_part", str(part), *trial.switches)
     said = trial.script("join_parts", *trial.switches)
-    assert said.returncode == 0, said.stdout
+    assert said.code == 0, said.out
 
 
 def by_parallel(trial):
     said = trial.script("with_parallel", *trial.switches)
-    assert said.returncode == 0, said.stdout
+    assert said.code == 0, said.out
 
 
 def by_snakemake(trial):
     config = [f"problem={trial.problem}", f"folder={trial.parts}", f"worlds={trial.worlds}", f"switches={' '.join(trial.switches)}"]
     words = ["snakemake", "-s", os.path.join(CLUSTER, "Snakefile"), "--cores", "4", "--directory", trial.folder, "--config", *config]
     said = run(words, env=trial.environment)
-    assert said.returncode == 0, said.stdout
+    assert said.code == 0, said.out
 
 
 SLURM = """ClusterName=trial
@@ -180,13 +175,13 @@ def by_slurm(trial):
     with slurm(os.path.join(trial.folder, "slurm")) as environment:
         trial.environment.update(SLURM_CONF=environment["SLURM_CONF"])
         for _ in range(600):
-            if "idle" in run(["sinfo", "-h", "-o", "%T"], env=trial.environment).stdout:
+            if "idle" in run(["sinfo", "-h", "-o", "%T"], env=trial.environment).out.decode():
                 break
             time.sleep(0.1)
         said = trial.script("with_slurm", *trial.switches)
-        assert said.returncode == 0, said.stdout
+        assert said.code == 0, said.out
         for _ in range(3000):
-            if not run(["squeue", "-h"], env=trial.environment).stdout.strip():
+            if not run(["squeue", "-h"], env=trial.environment).out.strip():
                 break
             time.sleep(0.1)
         with open(os.path.join(trial.parts, "join.log"), encoding="utf-8") as file:
@@ -203,7 +198,7 @@ ENGINES = {
 
 
 def try_engine(program, work, scouts, worlds, switches):
-    with tempfile.TemporaryDirectory() as folder:
+    with harness.Folder() as folder:
         trial = Trial(program, folder, worlds, switches)
         if scouts:
             # Snakemake makes each file itself that it finds unknown, so nothing is spoilt beforehand but the run of a part.
@@ -214,13 +209,13 @@ def try_engine(program, work, scouts, worlds, switches):
             trial.spoil()
             trial.work_twice()
         work(trial)
-        assert os.path.isdir(os.path.join(folder, "killed")), "no part was killed"
+        assert os.path.isdir(folder.at("killed")), "no part was killed"
         assert trial.joined() == worlds_of(program, trial.problem, switches)
         return sum(1 for name in os.listdir(trial.parts) if name.startswith("t") and name[1:].isdigit())
 
 
 def main():
-    program = os.path.realpath(sys.argv[1] if len(sys.argv) > 1 else os.path.join(HERE, "../crates/euler_align/out/euler_align"))
+    given = harness.arguments(__doc__, "program")
     ran, missing = [], []
     for name, (needs, work, scouts) in ENGINES.items():
         lacking = [need for need in needs if not shutil.which(need)]
@@ -228,10 +223,11 @@ def main():
             missing.append(name)
             continue
         begun = time.time()
-        parts = try_engine(program, work, scouts, 500, ["coverage=off"])
+        parts = try_engine(given.program, work, scouts, 500, ["coverage=off"])
         print(f"{name}: {parts} parts, {time.time() - begun:.1f} s")
         ran.append(name)
     print(f"cluster: {', '.join(ran)}; not installed: {', '.join(missing) or 'none'}")
 
 
-main()
+if __name__ == "__main__":
+    main()

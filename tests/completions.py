@@ -1,10 +1,9 @@
 #!/usr/bin/env python3
 """Whether completions/keys.txt is the program's table, and the completions and the manual pages are made from it and work.
 
-    tests/completions.py [PROGRAM]
+    tests/completions.py [--program PATH] [--desk PATH]
 
-The table is compared with the usage lines of PROGRAM (`crates/euler_align/out/euler_align` where none is given), and that of the desk with
-those of the program that EULER_DESK names, or that was built; where there is none, with what the tests know of it. What
+The table is compared with the usage lines of both programs, or, where the desk isn't built, with what the tests know of it. What
 completions/generate would write is compared with what is there. Each shell that is installed (bash, zsh, fish) is asked for the words
 that it offers.
 """
@@ -12,15 +11,13 @@ that it offers.
 import os
 import re
 import shutil
-import subprocess
 import sys
-import tempfile
 from importlib.machinery import SourceFileLoader
 
-from commands import DESK, ROWS
+import harness
+from oracle.commands import DESK, ROWS
 
-ROOT = os.path.join(os.path.dirname(os.path.abspath(__file__)), "..")
-COMPLETIONS = os.path.join(ROOT, "completions")
+COMPLETIONS = os.path.join(harness.ROOT, "completions")
 sys.dont_write_bytecode = True
 generate = SourceFileLoader("generate", os.path.join(COMPLETIONS, "generate")).load_module()
 
@@ -76,7 +73,7 @@ printf '%s\n' "${COMPREPLY[@]}"
 
 
 def usage_of(program):
-    return subprocess.run([program, "--help"], capture_output=True, text=True, check=False).stderr
+    return harness.run([program, "--help"]).err.decode()
 
 
 def row_of(usage):
@@ -90,12 +87,11 @@ def program_table(program):
     return {name: row_of(rest) for name, rest in re.findall(r"^  (\w+) (.*=.*)$", usage_of(program), re.M)}
 
 
-def desk_table():
+def desk_table(desk):
     """What the desk takes, by its usage line where it is built."""
-    program = os.environ.get("EULER_DESK") or os.path.join(ROOT, "crates/euler_desk/out/euler_desk")
-    if not os.path.exists(program):
+    if not desk:
         return {"euler_desk": (DESK.required, DESK.optional, {})}
-    return {"euler_desk": row_of(next((line for line in usage_of(program).split("\n") if "euler_desk " in line and "=" in line), ""))}
+    return {"euler_desk": row_of(next((line for line in usage_of(desk).split("\n") if "euler_desk " in line and "=" in line), ""))}
 
 
 def table_faults(there, rows, keys):
@@ -120,21 +116,19 @@ def offered(shell, line, folder):
         words = ["fish", "--no-config", "-c", script]
     else:
         words = ["bash", "--norc", "-c", BASH] if shell == "bash" else ["zsh", "-f", "-c", ZSH]
-    given = {**os.environ, "LINE": line, "COMPLETION": file, "HOME": folder}
-    done = subprocess.run(words, cwd=folder, env=given, capture_output=True, text=True, timeout=120, check=False)
-    if done.stderr.strip():
-        return [f"(said: {done.stderr.strip()})"]
-    found = [one.split("\t")[0] for one in done.stdout.split("\n") if one.strip()]
+    done = harness.run(words, folder.path, env={**os.environ, "LINE": line, "COMPLETION": file, "HOME": folder.path})
+    if done.err.strip():
+        return [f"(said: {done.err.decode().strip()})"]
+    found = [one.split("\t")[0] for one in done.out.decode().split("\n") if one.strip()]
     before = re.search(r"\S*[=,]", line.rsplit(" ", 1)[-1])
     return [one.replace(before.group(0), "", 1) if before and one.startswith(before.group(0)) else one.rsplit(",", 1)[-1] for one in found]
 
 
 def shell_faults(shell):
     faults = []
-    with tempfile.TemporaryDirectory() as folder:
+    with harness.Folder() as folder:
         for name in ("problem.txt", "other.txt"):
-            with open(os.path.join(folder, name), "w", encoding="utf-8"):
-                pass
+            folder.hold(name, "")
         for line, wanted in CASES:
             got = offered(shell, line, folder)
             # fish offers the two values of a switch at once, as `coverage=on`
@@ -146,12 +140,12 @@ def shell_faults(shell):
 
 
 def main():
-    program = sys.argv[1] if len(sys.argv) > 1 else os.path.join(ROOT, "crates/euler_align/out/euler_align")
+    given = harness.arguments(__doc__, "program desk?")
     programs, faults, told = generate.read_programs(), [], []
-    for one, there in zip(programs, (program_table(program), desk_table())):
+    for one, there in zip(programs, (program_table(given.program), desk_table(given.desk))):
         faults += table_faults(there, one.rows, one.keys)
-    done = subprocess.run([os.path.join(COMPLETIONS, "generate"), "--check"], capture_output=True, text=True, check=False)
-    faults += done.stdout.strip().split("\n") if done.returncode else []
+    done = harness.run([os.path.join(COMPLETIONS, "generate"), "--check"])
+    faults += done.out.decode().strip().split("\n") if done.code else []
     for shell in generate.FILES:
         if shutil.which(shell):
             faults += shell_faults(shell)

@@ -1,10 +1,9 @@
 #!/usr/bin/env python3
 """Whether the pages are true: runs the command lines that they show, and looks up what they link to.
 
-    tests/documents.py [PROGRAM [DESK]]
+    tests/documents.py [--program PATH] [--desk PATH]
 
-PROGRAM is the built program; where none is given, `crates/euler_align/out/euler_align`. Where there is none, no command line is run. DESK is
-the built desk, `crates/euler_desk/out/euler_desk` where none is given.
+Where there is no program, no command line is run.
 
 A command line of README.md, docs/GUIDE.md or examples/README.md stands in a block that is indented by four spaces, behind `$ `; further
 lines of the command stand behind `> `. What follows up to the next `$ ` is what it puts, on standard output and standard error. There,
@@ -23,13 +22,12 @@ import collections
 import os
 import re
 import shutil
-import subprocess
 import sys
-import tempfile
 
-from commands import DESK, NONE, ROWS
+import harness
+from harness import ROOT
+from oracle.commands import DESK, NONE, ROWS
 
-ROOT = os.path.join(os.path.dirname(os.path.abspath(__file__)), "..")
 SHOWN = ["README.md", "docs/GUIDE.md", "examples/README.md"]
 NAMING = ["docs/PROOF.md", "docs/DEFINITIONS.md"]
 MARK = "\x01"
@@ -62,7 +60,7 @@ def commands_of(page):
 def has_rdflib():
     """Whether tools/from_skos can work: by the Python on the path, or else by Debian's, which it takes then."""
     pythons = [python for python in (shutil.which("python3"), "/usr/bin/python3") if python and os.path.exists(python)]
-    return any(subprocess.run([python, "-c", "import rdflib"], capture_output=True, check=False).returncode == 0 for python in pythons)
+    return any(harness.run([python, "-c", "import rdflib"]).code == 0 for python in pythons)
 
 
 def lacking(block, there):
@@ -91,21 +89,19 @@ def first_difference(shown, got):
 def run_page(page, programs, folder, there):
     """How many command lines of a page were run, how many were not for want of what, and what is wrong."""
     for name in ("examples", "tools", "docs", "tests"):
-        os.symlink(os.path.abspath(os.path.join(ROOT, name)), os.path.join(folder, name))
-    path = os.path.join(folder, ".programs")
+        os.symlink(os.path.join(ROOT, name), folder.at(name))
+    path = folder.at(".programs")
     os.mkdir(path)
     for name, program in programs.items():
-        os.symlink(os.path.abspath(program), os.path.join(path, name))
+        os.symlink(program, os.path.join(path, name))
     blocks = [(block, lacking(block, there)) for block in commands_of(page)]
     commands = [command for block, lack in blocks if not lack for command in block]
     script = ["exec 2>&1"]
     for _, words, _ in commands:
         script += [words, f"__code=$?; printf '{MARK}'; (exit $__code)"]
     environment = dict(os.environ, PATH=path + os.pathsep + os.environ["PATH"], LC_ALL="C.UTF-8")
-    done = subprocess.run(
-        ["bash"], input="\n".join(script).encode() + b"\n", stdout=subprocess.PIPE, cwd=folder, env=environment, timeout=600, check=False
-    )
-    pieces = done.stdout.decode().split(MARK)
+    done = harness.run(["bash"], folder.path, "\n".join(script).encode() + b"\n", seconds=600, env=environment)
+    pieces = done.out.decode().split(MARK)
     faults = []
     if len(pieces) != len(commands) + 1:
         faults.append(f"{page}: {len(pieces) - 1} of {len(commands)} command lines came to an end")
@@ -226,8 +222,8 @@ def crate_faults():
 
 
 def reading_faults():
-    done = subprocess.run([sys.executable, os.path.join(ROOT, "tools/reading_list")], stdout=subprocess.PIPE, check=True)
-    rows, told = done.stdout.decode().strip().split("\n"), set(lines_of("docs/PROOF.md"))
+    done = harness.run([sys.executable, os.path.join(ROOT, "tools/reading_list")])
+    rows, told = done.out.decode().strip().split("\n"), set(lines_of("docs/PROOF.md"))
     return len(rows), [f"docs/PROOF.md: the table of what must be read lacks: {row}" for row in rows if row not in told]
 
 
@@ -266,7 +262,7 @@ def word_faults():
     for name, keys in [*table.items()] + ([("euler_desk", desk)] if desk else []):
         known = DESK if name == "euler_desk" else ROWS.get(name, NONE)
         if (known.required, known.optional, known.reads, known.writes) != keys:
-            faults.append(f"tests/commands.py: {name} has other keys than the program's table")
+            faults.append(f"tests/oracle/commands.py: {name} has other keys than the program's table")
     for name, keys in table.items():
         synopsis, case = rf"^euler_align {name} .*(?:\n    .*)?", rf"^ +(?:\w+ \| )*{name}(?: \| \w+)*\) keys=\"(.*)\""
         faults += key_faults(name, keys[:2], manual, synopsis, completion, case)
@@ -278,26 +274,20 @@ def word_faults():
     return len(table), faults
 
 
-def programs_there():
-    """The program and the desk, as far as they are there."""
-    given = sys.argv[1:] + [""] * 2
-    places = {name: path or os.path.join(ROOT, f"crates/{name}/out/{name}") for name, path in zip(("euler_align", "euler_desk"), given)}
-    return places["euler_align"], {name: path for name, path in places.items() if os.path.exists(path)}
-
-
 def main():
-    program, programs = programs_there()
+    given = harness.arguments(__doc__, "program? desk?")
+    programs = {name: path for name, path in (("euler_align", given.program), ("euler_desk", given.desk)) if path}
     faults, told = [], []
     if "euler_align" in programs:
         count, skipped, there = 0, collections.Counter(), [*programs] + ["rdflib"] * has_rdflib()
         for page in SHOWN:
-            with tempfile.TemporaryDirectory() as folder:
+            with harness.Folder() as folder:
                 ran, left, wrong = run_page(page, programs, folder, there)
             count, skipped = count + ran, skipped + left
             faults += wrong
         told += [f"{count} command lines run"] + [f"{times} skipped for want of {thing}" for thing, times in sorted(skipped.items())]
     else:
-        told.append(f"no program at {os.path.relpath(program)}, so no command line was run")
+        told.append("the program isn't built, so no command line was run")
     for name, look in [("links", link_faults), ("quotes", quote_faults), ("crates", crate_faults), ("rows of what must be read", reading_faults), ("commands", word_faults)]:
         count, wrong = look()
         told.append(f"{count} {name}")

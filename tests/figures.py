@@ -13,7 +13,8 @@ import os
 import re
 import sys
 
-ROOT = os.path.join(os.path.dirname(os.path.abspath(__file__)), "..")
+from harness import ROOT, arguments
+
 DOCS = os.path.join(ROOT, "docs")
 # the section, the first cells of the row, the column by its head, and the guide's sentence with # in place of the figure
 ROWS = [
@@ -59,6 +60,7 @@ def told(text, pattern):
 
 
 def main():
+    arguments(__doc__)
     guide, benchmarks, faults = section(read("GUIDE.md"), "How long it takes"), read("BENCHMARKS.md"), []
     pairs = [(cell(benchmarks, *row[:3]), row[3], f"{row[0]}, {row[1][0]}, {row[2]}") for row in ROWS]
     pairs += [(told(benchmarks, sentence), pattern, sentence) for sentence, pattern in SENTENCES]

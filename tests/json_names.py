@@ -3,18 +3,15 @@
 
     tests/json_names.py [--program PATH]
 
-Without a program it is `rt try` that runs `euler_align`. The line of JSON is read by Python, and by `jq` where it is installed.
+The line of JSON is read by Python, and by `jq` where it is installed.
 """
 
-import argparse
 import json
-import os
 import shutil
-import subprocess
 import sys
-import tempfile
 
-HERE = os.path.dirname(os.path.abspath(__file__))
+import harness
+
 # Each is the name of a concept of both taxonomies, and equals itself there.
 NAMES = [
     'a"b', '"', '""', "back\\slash", "\\", "\\\\", '\\"', "\\n", "\\u0041", "/", "</script>", "'", "a,b:c",
@@ -32,41 +29,24 @@ def problem(names):
     return f"taxonomy 1\n{rows}taxonomy 2\n{rows}articulation\n{equal}{apart}"
 
 
-def reported(program, path):
-    words = ["report", f"in={path}", "kinds=json"]
-    if program:
-        command, folder = [os.path.abspath(program)] + words, None
-    else:
-        command, folder = ["rt", "try", "--"] + words, os.path.join(HERE, "../crates/euler_align")
-    done = subprocess.run(command, cwd=folder, stdout=subprocess.PIPE, stderr=subprocess.DEVNULL, timeout=900)
-    found = [line for line in done.stdout.split(b"\n") if line.startswith(b"{")]
+def reported(program, names):
+    with harness.Folder() as folder:
+        folder.hold("p", problem(names))
+        done = harness.run([program, "report", "in=p", "kinds=json"], folder.path)
+    found = [line for line in done.out.split(b"\n") if line.startswith(b"{")]
     if len(found) != 1:
-        raise SystemExit(f"json_names: no line of JSON, or several: {done.stdout!r}")
+        raise SystemExit(f"json_names: no line of JSON, or several: {done}")
     return found[0]
 
 
-def classes_by_jq(line):
-    done = subprocess.run(["jq", "-c", ".classes"], input=line, stdout=subprocess.PIPE, check=True)
-    return json.loads(done.stdout)
-
-
 def main():
-    parser = argparse.ArgumentParser()
-    parser.add_argument("--program")
-    program = parser.parse_args().program
-    if not program and not shutil.which("rt"):
-        print("json_names: rt is missing, skipped")
-        return 0
+    given = harness.arguments(__doc__, "program")
     names = [name for name in NAMES if not any(c in "(){}[]" for c in name)]
     wanted = [[f"1.{name}", f"2.{name}"] for name in names]
-    with tempfile.TemporaryDirectory() as folder:
-        path = os.path.join(folder, "names.txt")
-        with open(path, "wb") as f:
-            f.write(problem(names).encode())
-        line = reported(program, path)
+    line = reported(given.program, names)
     readers = [("Python", json.loads(line)["classes"])]
     if shutil.which("jq"):
-        readers.append(("jq", classes_by_jq(line)))
+        readers.append(("jq", json.loads(harness.run(["jq", "-c", ".classes"], given=line).out)))
     for reader, got in readers:
         if got != wanted:
             print(f"json_names: {reader} reads other names")

@@ -1,19 +1,25 @@
 #!/usr/bin/env bash
 # Whether what is packed works: `make install` and `uninstall`, `make dist`, and `make deb`, whose files are unpacked and run.
 #
-#   tests/package.sh [--install] [PROGRAM [DESK]]
+#   tests/package.sh [--program PATH] [--desk PATH] [--install]
 #
 # With --install the Debian package is installed on this system and removed again; that needs root. Where the desk isn't built, nothing of
 # it is packed.
 set -eu
-cd "$(dirname "$0")/.."
-install=
-if [ "${1:-}" = --install ]; then
-  install=1
+top=$(cd "$(dirname "$0")/.." && pwd)
+install= program=$top/crates/euler_align/out/euler_align desk=$top/crates/euler_desk/out/euler_desk
+while [ $# -gt 0 ]; do
+  case $1 in
+    --install) install=1 ;;
+    --program | --desk)
+      [ $# -gt 1 ] || { echo "package: $1 needs a path"; exit 2; }
+      printf -v "${1#--}" %s "$(realpath -m "$2")"
+      shift ;;
+    *) echo "package: $1 is no word of it; see its head"; exit 2 ;;
+  esac
   shift
-fi
-program=$(realpath -m "${1:-crates/euler_align/out/euler_align}")
-desk=$(realpath -m "${2:-crates/euler_desk/out/euler_desk}")
+done
+cd "$top"
 folder=$(mktemp -d)
 trap 'rm -rf "$folder"' EXIT
 unset EULER_ALIGN EULER_DESK

@@ -1,41 +1,40 @@
 #!/usr/bin/env python3
 """Tests of tools/page: what its pages say, that `tidy` finds no fault in them, and that they work in a browser.
 
-    tests/page.py [PROGRAM] [--pictures FOLDER]
+    tests/page.py [--program PATH] [--pictures FOLDER] [--only TEXT]
 
 Without Debian's `tidy`, `chromium` or Graphviz the parts that need them are left out, and the last line says so. With --pictures the
-screenshots are kept, for people to look at.
+screenshots are kept, for people to look at; with --only the tests alone whose names have this text.
 """
 
-import argparse
 import json
 import os
 import re
 import shutil
-import subprocess
 import sys
 import unittest
 from html import unescape
 
-HERE = os.path.dirname(os.path.abspath(__file__))
-ROOT = os.path.join(HERE, "..")
+import browser
+import harness
+from page_problems import FOLDER, example, pages, wrong, written
+from small_runs import made
+
 sys.dont_write_bytecode = True
-sys.path[:0] = [os.path.join(ROOT, "tools"), HERE]
-import browser  # noqa: E402
+sys.path.insert(0, os.path.join(harness.ROOT, "tools"))
 import taxa  # noqa: E402
 from page_parts import worlds  # noqa: E402
-from page_problems import FOLDER, example, pages, problems, wrong, written  # noqa: E402
 
-PROGRAM = os.path.join(ROOT, "crates/euler_align/out/euler_align")
-PICTURES = None
+TOOL = os.path.join(harness.ROOT, "tools/page")
+PROGRAM = PICTURES = None
 MADE = {}
 
 
 def run_page(path, *words, code=0):
     environment = dict(os.environ, EULER_ALIGN=PROGRAM)
-    done = subprocess.run([sys.executable, os.path.join(ROOT, "tools/page"), path, *words], capture_output=True, env=environment, check=False)
-    assert done.returncode == code, (done.returncode, done.stderr.decode())
-    return done.stdout.decode() if code == 0 else done.stderr.decode()
+    done = harness.run([sys.executable, TOOL, path, *words], env=environment)
+    assert done.code == code, done
+    return done.out.decode() if code == 0 else done.err.decode()
 
 
 def page_of(path, *words):
@@ -67,7 +66,7 @@ class Pages(unittest.TestCase):
     def test_merged_as_the_program_merges(self):
         for name in ("furniture", "genus", "catalogue", "several_worlds", "sum", "five_answers"):
             path = example(name + ".txt")
-            put = lambda *words: subprocess.run([PROGRAM, *words, f"in={path}"], capture_output=True, check=False).stdout.decode().splitlines()
+            put = lambda *words: harness.run([PROGRAM, *words, f"in={path}"]).out.decode().splitlines()
             told = [json.loads(line) for line in put("report", "kinds=json") if line.startswith("{")]
             pairs = worlds.Pairs(taxa.Problem(path))
             self.assertEqual([worlds.merged(pairs, world) for world in put("align")[:-1]], told, name)
@@ -95,7 +94,7 @@ class Pages(unittest.TestCase):
         self.assertTrue(re.search(r'<td class="num"><a [^>]*>18</a></td><td class="stated"><code><bdi dir="ltr">\[2023\.Sofa \{equals includes\}', text_of(wrong())))
 
     def test_independent_questions(self):
-        path = written("three.txt", "\n".join(problems.loose(3, 1)) + "\n")
+        path = written("three.txt", made("loose", 3, 1))
         read = plain(text_of(path))
         self.assertTrue("343 possible worlds: 3 questions with 7 answers each" in read)
         self.assertTrue("alone it leaves 77 of 343 worlds on average" in read)
@@ -124,8 +123,8 @@ class Pages(unittest.TestCase):
     @unittest.skipUnless(shutil.which("tidy"), "tidy is not installed")
     def test_tidy_finds_no_fault(self):
         for name, words in pages().items():
-            done = subprocess.run(["tidy", "-q", "-e", page_of(*words)], capture_output=True, check=False)
-            self.assertEqual((done.returncode, done.stderr.decode()), (0, ""), name)
+            done = harness.run(["tidy", "-q", "-e", page_of(*words)])
+            self.assertEqual((done.code, done.err.decode()), (0, ""), name)
 
     @unittest.skipUnless(shutil.which("dot"), "Graphviz is not installed")
     def test_pictures_and_lists(self):
@@ -133,9 +132,9 @@ class Pages(unittest.TestCase):
         here = {name: os.path.dirname(shutil.which(name)) for name in ("dot", "python3")}
         if here["dot"] != here["python3"]:
             environment = dict(os.environ, EULER_ALIGN=PROGRAM, PATH=here["python3"])
-            done = subprocess.run([sys.executable, os.path.join(ROOT, "tools/page"), example("genus.txt")], capture_output=True, env=environment, check=False)
-            self.assertTrue("Graphviz isn't installed" in plain(done.stdout.decode()), done.stderr.decode())
-            self.assertFalse("<svg" in done.stdout.decode())
+            done = harness.run([sys.executable, TOOL, example("genus.txt")], env=environment)
+            self.assertTrue("Graphviz isn't installed" in plain(done.out.decode()), done.err.decode())
+            self.assertFalse("<svg" in done.out.decode())
 
     def slow(self, command, *words, switch="", problem=example("genus.txt")):
         """A page by a program that takes very long for one command, or for this one with a switch."""
@@ -144,10 +143,10 @@ class Pages(unittest.TestCase):
         path = written(f"slow_{command}", f"#!{sys.executable}\n{text}")
         os.chmod(path, 0o755)
         environment = dict(os.environ, EULER_ALIGN=path)
-        tool = [sys.executable, os.path.join(ROOT, "tools/page"), problem, "--seconds", "3", "--extra", "1", *words]
-        done = subprocess.run(tool, capture_output=True, env=environment, check=False)
-        self.assertEqual((done.returncode, done.stderr.decode()), (0, ""))
-        return plain(done.stdout.decode())
+        tool = [sys.executable, TOOL, problem, "--seconds", "3", "--extra", "1", *words]
+        done = harness.run(tool, env=environment)
+        self.assertEqual((done.code, done.err.decode()), (0, ""))
+        return plain(done.out.decode())
 
     def test_where_the_time_was_over(self):
         read = self.slow("align")
@@ -334,20 +333,17 @@ class InABrowser(unittest.TestCase):
 
 def main():
     global PROGRAM, PICTURES
-    parser = argparse.ArgumentParser(description=__doc__, formatter_class=argparse.RawDescriptionHelpFormatter)
-    parser.add_argument("program", nargs="?", default=PROGRAM)
-    parser.add_argument("--pictures", metavar="FOLDER")
-    words, rest = parser.parse_known_args()
-    PROGRAM, PICTURES = os.path.realpath(words.program), words.pictures
+    given = harness.arguments(__doc__, "program", pictures="", only="")
+    PROGRAM, PICTURES = given.program, given.pictures
     if PICTURES:
         os.makedirs(PICTURES, exist_ok=True)
     try:
-        ran = unittest.main(argv=[sys.argv[0], *rest], exit=False).result
+        ran = unittest.main(argv=[sys.argv[0], *(["-k", given.only] if given.only else [])], exit=False).result
     finally:
         shutil.rmtree(FOLDER, ignore_errors=True)
     missing = [name for name in ("tidy", "dot", "chromium") if not (shutil.which(name) or (name == "chromium" and browser.installed()))]
     left_out = f"; not installed, so left out: {', '.join(missing)}" if missing else ""
-    print(f"{ran.testsRun} tests, {len(ran.failures) + len(ran.errors)} failed{left_out}")
+    print(f"page: {ran.testsRun} tests, {len(ran.failures) + len(ran.errors)} failed{left_out}")
     return 0 if ran.wasSuccessful() else 1
 
 

@@ -1,14 +1,10 @@
 """The problems of which tests/page.py makes pages."""
 
-import importlib.util
 import os
 import tempfile
 
-ROOT = os.path.join(os.path.dirname(os.path.abspath(__file__)), "..")
-# by its file, since the tools may have a module of this name too
-SPEC = importlib.util.spec_from_file_location("bench_problems", os.path.join(ROOT, "bench/problems.py"))
-problems = importlib.util.module_from_spec(SPEC)
-SPEC.loader.exec_module(problems)
+from harness import ROOT
+from small_runs import made
 
 FOLDER = tempfile.mkdtemp(prefix="euler_align_page_test_")
 ODD = """taxonomy a<b Left & "right"
@@ -45,7 +41,7 @@ def wrong():
 
 
 def large():
-    return written("large.txt", "\n".join(problems.generated(7, 512)) + "\n")
+    return written("large.txt", made("generated", 7, 512))
 
 
 def pages():
@@ -58,7 +54,7 @@ def pages():
         "no statements": (example("five_answers.txt"),),
         "a sum": (example("sum.txt"),),
         "one world, a rule off": (example("one_world.txt"), "coverage=off"),
-        "too many worlds": (written("loose.txt", "\n".join(problems.loose(3, 1)) + "\n"), "--worlds", "20"),
+        "too many worlds": (written("loose.txt", made("loose", 3, 1)), "--worlds", "20"),
         "256 beside 256": (large(),),
         "a taxonomy without concepts": (written("with blank.txt", "taxonomy a\ntaxonomy z\n(Z y x)\n"),),
         "long names": (written("long.txt", LONG),),

@@ -2,10 +2,27 @@
 
 import re
 
-import plain
-from commands import KEYS, OTHER_VALUES, OTHER_WORDS, REQUESTS
+from oracle import model, statements, texts
+from oracle.commands import KEYS
 
 SWITCHES = [(a, b, c) for a in (True, False) for b in (True, False) for c in (True, False)]
+# words from which random ones are made
+REQUESTS = [
+    "align in=p", "align in=p cert=c", "align in=p nodes=3 token=t", "align in=p worlds=2 token=t resume=r cert=c sibling=off", "check in=p cert=c",
+    "mir in=p cert=c coverage=off", "conflict in=p nonempty=off", "lattice in=p cert=c sibling=off", "explain in=p left=1.A0 right=2.B0 set==<",
+    "report in=p kinds=count,seen", "parts in=p count=3 token=t", "part in=p cert=c resume=r until=u coverage=off", "join in=p certs=c,d",
+    "trial seed=3 size=14",
+]
+OTHER_WORDS = [
+    "align", "check", "report", "trial", "mir", "conflict", "lattice", "explain", "parts", "part", "join", "solve", "in=p", "in=", "in=c", "cert=c",
+    "cert=p", "cert=", "token=t", "token=p", "token=c", "resume=r", "resume=t", "resume=p", "nodes=1", "nodes=0", "nodes=01", "worlds=2", "worlds=-1",
+    "worlds=18446744073709551616", "nonempty=on", "nonempty=On", "sibling=off", "coverage=1", "kinds=count", "kinds=", "kinds=count,seen",
+    "kinds=count,count", "kinds=seen,x", "kinds=seen,", "seed=3", "seed=+3", "size=14", "size=15", "size=300", "left=1.A0", "left=", "left=p",
+    "right=2.B0", "right=1.A0", "set==", "set=", "set=x!x", "set=o", "set==,<", "set=x ", "count=1", "count=0", "count=1000", "count=1001",
+    "count=01", "count=", "until=u", "until=r", "until=p", "until=c", "until=", "certs=c", "certs=c,c", "certs=d,p", "certs=", "certs=c,,d",
+    "certs=c,", "script=s", "in=t1", "in=t5000", "in=t5001", "in=t0", "in=t01", "in=tt", "in=1", "token=t1", "token=u", "x", "=x", "y=z", "", "In=p", "--help",
+]
+OTHER_VALUES = ["", "", "=", "<x", "o", "on", "7", "count", "1.A0"]
 # names of files in random words, for a key that has one and for a key that has several
 NAMES = {"file": ["p", "c", "t", "r", "u"], "files": ["c", "d", "p", "c,d", "d,c,c", "c,p", "c,", ",c"]}
 
@@ -49,7 +66,7 @@ def random_problem(rng):
     left = rng.randint(count, 6)
     lines, all_names = [], []
     for t in range(1, count + 1):
-        size = min(left - (count - t), rng.randint(1, 3)) if t < count else rng.randint(0, min(3, left))
+        size = min(left - (count - t), rng.choice([1, 2, 3, 3, 4])) if t < count else rng.randint(0, min(4, left))
         left -= size
         names = [f"{chr(64 + t)}{k}" for k in range(size)]
         lines.append(f"taxonomy {t}")
@@ -57,7 +74,7 @@ def random_problem(rng):
         if free and rng.random() < 0.3:
             rng.shuffle(free)
         while free:
-            row = free[: rng.randint(1, len(free))]
+            row = free[: rng.choice([len(free), rng.randint(1, len(free))])]
             lines.append("(" + " ".join(row) + ")")
             free = free[len(row):]
             if free and rng.random() < 0.4 and len(row) > 1:
@@ -75,7 +92,7 @@ def can_be_related(names):
 
 def random_statement(rng, names):
     """A statement on concepts, of which there are the names, taxonomy by taxonomy."""
-    words, places = list(plain.WORDS), [t for t in range(len(names)) if names[t]]
+    words, places = list(texts.WORDS), [t for t in range(len(names)) if names[t]]
     a, b = rng.sample(places, 2)
     x, y = rng.choice(names[a]), rng.choice(names[b])
     others = [n for t in places if t != a for n in names[t]]
@@ -87,7 +104,8 @@ def random_statement(rng, names):
 
 
 def more_statements(rng, problem, most):
-    """Further statements on the concepts of a problem, so that there are more conflicts: some are there already, some are on the same pair."""
+    """Further statements on the concepts of a problem, so that there are more conflicts: some are there already, some are on the same pair,
+    some on a sibling."""
     names = [[problem.text_name(c) for c in range(len(problem.names)) if problem.owners[c] == t] for t in range(len(problem.taxonomies))]
     said = [problem.articulation_text(a) for a in problem.articulations]
     if not can_be_related(names):
@@ -98,10 +116,21 @@ def more_statements(rng, problem, most):
         if old and draw < 0.15:
             more.append(old)
         elif old and " sums " not in old and draw < 0.55:
-            more.append(f"{old.split(' ')[0]} {rng.choice(list(plain.WORDS))} {old.split(' ')[-1]}")
+            more.append(f"{old.split(' ')[0]} {rng.choice(list(texts.WORDS))} {old.split(' ')[-1]}")
+        elif old and " sums " not in old and draw < 0.75:
+            more.append(of_sibling(rng, problem, old))
         else:
             more.append(random_statement(rng, names))
     return "".join(line + "\n" for line in more)
+
+
+def of_sibling(rng, problem, said):
+    """The same said of another child of the same parent, if there is one: then it often can't hold unless a concept is empty."""
+    name, rest = said[1:].split(" ", 1)
+    names = [problem.text_name(c) for c in range(len(problem.names))]
+    parent = problem.parents[names.index(name)]
+    others = [other for c, other in enumerate(names) if parent is not None and problem.parents[c] == parent and other != name]
+    return f"[{rng.choice(others)} {rest}" if others else said
 
 
 def text_at_limit(rng):
@@ -145,7 +174,7 @@ def damaged(rng, data, pieces):
 
 
 def random_position(rng, most):
-    return "".join(rng.choice(plain.LETTERS) for _ in range(rng.randint(0, most)))
+    return "".join(rng.choice(model.LETTERS) for _ in range(rng.randint(0, most)))
 
 
 def random_token(rng, problem):
@@ -154,7 +183,7 @@ def random_token(rng, problem):
     if rng.random() < 0.3:
         token = f"token 1 {problem.digest()} {position}\n"
     else:
-        token = plain.print_token(problem, "" if position == "." else position)
+        token = texts.print_token(problem, "" if position == "." else position)
     draw = rng.random()
     if draw < 0.4:
         return token.encode()
@@ -168,7 +197,7 @@ def random_token(rng, problem):
         del words[place]
     else:
         # the digest under other switches
-        other = plain.restricted(problem, "1" * len(problem.articulations))
+        other = statements.restricted(problem, "1" * len(problem.articulations))
         other.switches = rng.choice(SWITCHES)
         words[-2] = other.digest()
     return (" ".join(words) + "\n").encode()
@@ -256,7 +285,7 @@ def change_meaning(rng, words, lines):
         # an earlier change took its words
         change_words(rng, words, lines)
         return
-    letter = lambda: rng.choice(plain.LETTERS)
+    letter = lambda: rng.choice(model.LETTERS)
     ids = [line.split(" ")[1] for line in lines if line.startswith("d ")] + [str(rng.choice([0, rng.randint(1, 30)]))]
     if kind in ("certificate", "claims"):
         place = rng.randrange(2, len(words))
@@ -297,7 +326,7 @@ def change_meaning(rng, words, lines):
 
 def change_subject(rng, words):
     if words[1] == "m" and len(words) > 3:
-        words[2:4] = [str(rng.randrange(8)), rng.choice(plain.LETTERS)]
+        words[2:4] = [str(rng.randrange(8)), rng.choice(model.LETTERS)]
     elif len(words) > 2:
         words[2] = "".join(rng.choice("01") for _ in range(len(words[2]) + rng.choice([0, 0, 0, 1, -1]))) or "."
 

@@ -1,4 +1,4 @@
-/* Refuses allocations, for tests/refused.py: loaded before the C library, it lets the call of malloc or realloc with the number in
+/* Refuses allocations, for tests/alloc_faults.py: loaded before the C library, it lets the call of malloc or realloc with the number in
    REFUSE_AT answer NULL, and each N-th after it too where REFUSE_REST is a number N. How many calls there were goes into the file in
    REFUSE_COUNT. */
 #include <stdio.h>

@@ -4,11 +4,12 @@ import contextlib
 import io
 import os
 import sys
-import tempfile
 from importlib.machinery import SourceFileLoader
 from importlib.util import module_from_spec, spec_from_loader
 
-TOOLS = os.path.join(os.path.dirname(os.path.abspath(__file__)), "../tools")
+import harness
+
+TOOLS = os.path.join(harness.ROOT, "tools")
 LOADED = {}
 sys.path.insert(0, TOOLS)
 
@@ -38,26 +39,20 @@ def standing(folder, words, given):
         sys.argv, sys.stdin, sys.stdout, sys.stderr = before[1:]
 
 
-class Folder:
+class Folder(harness.Folder):
     """A folder of files for a test, which goes when the test ends."""
 
     def __init__(self, test):
-        there = tempfile.TemporaryDirectory()
-        test.addCleanup(there.cleanup)
-        self.path = there.name
-
-    def at(self, name):
-        return os.path.join(self.path, name)
+        super().__init__()
+        test.addCleanup(self.__exit__)
 
     def write(self, files):
         for name, text in files.items():
             os.makedirs(os.path.dirname(self.at(name)), exist_ok=True)
-            with open(self.at(name), "wb") as file:
-                file.write(text if isinstance(text, bytes) else text.encode())
+            self.hold(name, text)
 
     def read(self, name):
-        with open(self.at(name), encoding="utf-8", newline="") as file:
-            return file.read()
+        return self.held(name).decode()
 
     def run(self, tool, *words, given=b""):
         """The exit code of a tool, and what it put on standard output and standard error."""

@@ -17,7 +17,8 @@ import subprocess
 import sys
 import tempfile
 
-ROOT = os.path.realpath(os.path.join(os.path.dirname(os.path.abspath(__file__)), ".."))
+from harness import ROOT, arguments
+
 EDITS = os.path.join(ROOT, "tests", "edits")
 
 
@@ -81,5 +82,10 @@ def tried(crates):
         return subprocess.run(["rt", "must-fail", *crates], cwd=folder, check=False).returncode
 
 
+def main():
+    crates = vars(arguments(__doc__, **{"try": ()}))["try"]
+    return applied() if crates is None else tried(crates)
+
+
 if __name__ == "__main__":
-    sys.exit(tried(sys.argv[2:]) if sys.argv[1:2] == ["--try"] else applied())
+    sys.exit(main())

@@ -14,7 +14,7 @@ import zipfile
 
 HERE = os.path.dirname(os.path.abspath(__file__))
 sys.path.insert(0, os.path.join(HERE, "../tests"))
-import plain  # noqa: E402
+from oracle import texts  # noqa: E402
 import tool_runs  # noqa: E402
 import rdf_files  # noqa: E402
 
@@ -88,7 +88,7 @@ class Damaged(unittest.TestCase):
             self.assertIn(code, ends, f"{SEED} {number}")
             ends[code] += 1
             if code == 0:
-                plain.read_problem(out.encode(), (True, True, True))
+                texts.read_problem(out.encode(), (True, True, True))
             else:
                 self.assertEqual(out, "")
                 self.assertRegex(err, PLACED, f"{SEED} {number}")

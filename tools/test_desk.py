@@ -3,8 +3,8 @@
 
     python3 tools/test_desk.py
 
-The desk's program is the one that the variable EULER_DESK names, or that was built or is on the path; where there is none, the plain desk of
-tests/plain_desk.py stands in for it.
+The desk's program is the one that the variable EULER_DESK names, or that was built or is on the path; where there is none,
+tests/desk_stand_in.py stands in for it.
 """
 
 import os
@@ -23,7 +23,7 @@ sys.path.insert(0, os.path.join(HERE, "../tests"))
 import tool_runs  # noqa: E402
 from tables import Fault  # noqa: E402
 
-PROGRAM = tool_runs.program("euler_desk") or os.path.join(HERE, "../tests/plain_desk.py")
+PROGRAM = tool_runs.program("euler_desk") or os.path.join(HERE, "../tests/desk_stand_in.py")
 DESK = tool_runs.loaded("desk")
 SEVERAL = "# two divisions of the same\ntaxonomy old Old\n(Chairs Wooden Padded)\ntaxonomy new New\n(Seats Single Shared)\narticulation\n"
 SEVERAL += "[old.Chairs equals new.Seats]  # agreed\n[old.Wooden {equals includes overlaps} new.Single]\n"

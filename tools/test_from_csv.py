@@ -1,5 +1,5 @@
 #!/usr/bin/env python3
-"""Tests of tools/from_csv. What it puts is read back by the plain program of tests/.
+"""Tests of tools/from_csv. What it puts is read back by the oracle of tests/.
 
     python3 tools/test_from_csv.py
 """
@@ -10,7 +10,7 @@ import unittest
 
 HERE = os.path.dirname(os.path.abspath(__file__))
 sys.path.insert(0, os.path.join(HERE, "../tests"))
-import plain  # noqa: E402
+from oracle import texts  # noqa: E402
 import tool_runs  # noqa: E402
 
 OLD = "child,parent,note\nSeating,Furniture,\nChair,Seating,\"with, a comma\"\n\nSofa,Seating\nFurniture,,\nMirror,,alone\n"
@@ -39,7 +39,7 @@ class FromCsv(unittest.TestCase):
             "[1.Furniture equals 2.Goods]  # links row 2\n[1.Chair {is_included_in equals} 2.Seats]  # links row 3\n"
             "[2.Seats sums 1.Chair 1.Sofa]  # links row 4\n",
         )
-        problem = plain.read_problem(out.encode(), (True, True, True))
+        problem = texts.read_problem(out.encode(), (True, True, True))
         self.assertEqual(len(problem.names), 7)
         self.assertEqual(len(problem.articulations), 3)
 
@@ -52,7 +52,7 @@ class FromCsv(unittest.TestCase):
         self.assertEqual((code, err), (0, ""))
         self.assertIn('(Seat Arm_"chair")\n', out)
         self.assertIn("[1.Seat sums 2.Dining_chair 2.Easy_chair]  # links row 2\n", out)
-        plain.read_problem(out.encode(), (True, True, True))
+        texts.read_problem(out.encode(), (True, True, True))
         code, out, _ = self.make("1=old", "2=new", "--delimiter", "tab", old="child\tparent\na\tb\nb\t\n", new="child\tparent\nc\t\n")
         self.assertEqual((code, out), (0, "taxonomy 1\n(b a)\ntaxonomy 2\n(c)\narticulation\n"))
 

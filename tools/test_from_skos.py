@@ -16,7 +16,7 @@ if __name__ == "__main__" and importlib.util.find_spec("rdflib") is None and sys
     if subprocess.run([DEBIAN, "-c", "import rdflib"], capture_output=True, check=False).returncode == 0:
         os.execv(DEBIAN, [DEBIAN, os.path.abspath(__file__), *sys.argv[1:]])
 sys.path.insert(0, os.path.join(HERE, "../tests"))
-import plain  # noqa: E402
+from oracle import texts  # noqa: E402
 import tool_runs  # noqa: E402
 
 THERE = importlib.util.find_spec("rdflib") is not None
@@ -55,7 +55,7 @@ class FromSkos(unittest.TestCase):
         self.assertIn("[library.Mechanik is_included_in school.Forces_and_light]  # mappings.nt, skos:broadMatch\n", out)
         self.assertIn("1 statement was left out for skos:relatedMatch", err)
         self.assertIn("library\tOptik\tOptik\thttps://example.org/library/optics\n", self.folder.read("names"))
-        plain.read_problem(out.encode(), (True, True, True))
+        texts.read_problem(out.encode(), (True, True, True))
         with open(f"{SUBJECTS}/problem.txt", encoding="utf-8") as file:
             self.assertEqual(self.make(*words, "--language", "en")[1], file.read())
         more = self.make(*words, "--predicate", "skos:relatedMatch=overlaps", "--language", "en")[1]
@@ -173,7 +173,7 @@ class FromSkos(unittest.TestCase):
         links = HEAD + "".join(f"e:a{k} skos:exactMatch e:b{k} .\n" for k in range(512))
         code, out, err = self.make("x=x.ttl", "y=y.ttl", "mappings=m.ttl", x__ttl=scheme("a"), y__ttl=scheme("b"), m__ttl=links)
         self.assertEqual(code, 0, err)
-        problem = plain.read_problem(out.encode(), (True, True, True))
+        problem = texts.read_problem(out.encode(), (True, True, True))
         self.assertEqual((len(problem.names), len(problem.articulations)), (1024, 512))
 
 

@@ -12,7 +12,7 @@ import zipfile
 
 HERE = os.path.dirname(os.path.abspath(__file__))
 sys.path.insert(0, os.path.join(HERE, "../tests"))
-import plain  # noqa: E402
+from oracle import texts  # noqa: E402
 import tool_runs  # noqa: E402
 
 WILLOWS = os.path.join(HERE, "../examples/tables/willows")
@@ -52,7 +52,7 @@ class Case(unittest.TestCase):
     def made(self, *words, **files):
         code, out, err = self.make(*words, **files)
         self.assertEqual(code, 0, err)
-        plain.read_problem(out.encode(), (True, True, True))
+        texts.read_problem(out.encode(), (True, True, True))
         return out, err
 
     def refused(self, says, *words, **files):
@@ -126,7 +126,7 @@ class DarwinCore(Case):
         links = "subject_id\tpredicate_id\tobject_id\n" + "".join(f"x:t{k}\tskos:exactMatch\ty:t{k}\n" for k in range(512))
         out, err = self.made("x=old", "y=old", "statements=links", old=TAXA + rows + more, links=links)
         self.assertIn("x: 2000 synonyms were left out", err)
-        problem = plain.read_problem(out.encode(), (True, True, True))
+        problem = texts.read_problem(out.encode(), (True, True, True))
         self.assertEqual((len(problem.names), len(problem.articulations)), (1024, 512))
         broken = TAXA + rows.replace("t300\tt99\t", "t300\tt9999\t")
         self.refused("old:302:6: no row has the id t9999 of this parent; give --loose to take such concepts for roots", "x=old", "y=old", old=broken)

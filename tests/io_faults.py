@@ -1,26 +1,24 @@
 #!/usr/bin/env python3
 """Every call of the store and of the sink fails once, for each command and for the desk, over objects in memory.
 
-    tests/faults.py [RUN_SCENES]
+    tests/io_faults.py [--scenes PATH]
 
 Transcripts for crates/run_scenes are made in which the k-th call fails, for each k until a run ends as the run without a fault does. What
 a run with a fault puts must be a first part of what is right, and `read fault` behind it where it read in vain; the certificate and
 tokens must hold what they held, or a first part of what is right; other names must hold what they held. It ends with status 1 at the
 first run that is not so, and shows it.
 
-The desk puts what plain_desk.py says; and a line at a time, so that the lines before the one that fails are there, and no more. It reads a
+The desk puts what oracle/desk.py says; and a line at a time, so that the lines before the one that fails are there, and no more. It reads a
 file in pieces of 4,096 bytes, and once more, which finds the end.
 """
 
-import os
-import subprocess
 import sys
-import tempfile
 
-import plain_desk
-from commands import DESK_CALLS, FAILING_CALLS, files_written
+import harness
+import oracle.desk
+from oracle.commands import files_written
+from small_runs import DESK_CALLS, FAILING_CALLS
 
-HERE = os.path.dirname(os.path.abspath(__file__))
 OLD = {"c": "old c\n", "t": "old t\n", "z": "other\n"}
 
 
@@ -63,10 +61,11 @@ def parts(out, sign, names):
 def played(program, folder, problem, files, words, kind, most):
     """The runs in which no call fails, and then each call of the store (kind 0) or of the sink (kind 1) up to a number."""
     blocks = "".join(block(files, words, *(number if at == kind else 0 for at in range(2))) for number in range(most + 1))
-    with open(os.path.join(folder, "t.txt"), "w") as file:
-        file.write(file_of("p", problem) + blocks)
-    done = subprocess.run([program, "t.txt"], cwd=folder, stdout=subprocess.PIPE, timeout=100, check=True)
-    return list(parts("\n" + done.stdout.decode(), sign_of(words), sorted({**OLD, **files})))
+    folder.hold("t.txt", file_of("p", problem) + blocks)
+    done = harness.run([program, "t.txt"], folder.path)
+    if done.code != 0:
+        sys.exit(f"{words}: the transcript isn't played: {done}")
+    return list(parts("\n" + done.out.decode(), sign_of(words), sorted({**OLD, **files})))
 
 
 def is_first_part(text, whole):
@@ -118,7 +117,7 @@ def check_desk(program, folder, case):
     """The same for the desk, with what it puts told beforehand."""
     problem, files, words = case
     held = {name: text.encode() for name, text in {"p": problem, **files}.items()}
-    code, text = plain_desk.answer(words.split(), held.get)
+    code, text = oracle.desk.answer(words.split(), held.get)
     lines, count = text.splitlines(keepends=True), 0
     # none is read where the words are at fault, and the problem alone where it is
     read = [held["p"], held.get("s", b"")][: {2: 0, 1: 1}.get(code, 2)]
@@ -136,11 +135,11 @@ def check_desk(program, folder, case):
 
 
 def main():
-    program = os.path.abspath(sys.argv[1] if len(sys.argv) > 1 else os.path.join(HERE, "../crates/run_scenes/out/run_scenes"))
-    with tempfile.TemporaryDirectory() as folder:
-        count = sum(check_case(program, folder, (problem, as_lines(files), words)) for problem, files, words in FAILING_CALLS)
-        of_desk = sum(check_desk(program, folder, (problem, as_lines(files), words)) for problem, files, words in DESK_CALLS)
-    print(f"{len(FAILING_CALLS)} runs, {count} calls that fail, and of the desk {len(DESK_CALLS)} runs, {of_desk} calls, nothing wrong")
+    given = harness.arguments(__doc__, "scenes")
+    with harness.Folder() as folder:
+        count = sum(check_case(given.scenes, folder, (problem, as_lines(files), words)) for problem, files, words in FAILING_CALLS)
+        of_desk = sum(check_desk(given.scenes, folder, (problem, as_lines(files), words)) for problem, files, words in DESK_CALLS)
+    print(f"io_faults: {len(FAILING_CALLS)} runs, {count} calls that fail, and of the desk {len(DESK_CALLS)} runs, {of_desk} calls, nothing wrong")
 
 
 if __name__ == "__main__":

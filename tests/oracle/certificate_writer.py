@@ -5,8 +5,9 @@ a certificate leaves free is drawn: ids, the order of literals, hints behind a c
 reason or a branch would do, where a listing ends, and trees that are left unfinished.
 """
 
-import plain
-from certificates import LETTERS, forced, given_clauses, is_whole, region_literals, region_selector, sum_selector
+from oracle import model, statements
+from oracle.certificates import forced, given_clauses, is_whole, region_literals, region_selector, sum_selector
+from oracle.model import LETTERS
 
 MOST_LINES = 1500
 
@@ -26,7 +27,7 @@ class Writer:
     def put(self, *words):
         self.lines.append(" ".join(map(str, words)))
         if len(self.lines) > MOST_LINES:
-            raise plain.TooMany()
+            raise model.TooMany()
 
     def text(self):
         return "".join(line + "\n" for line in self.lines).encode()
@@ -79,11 +80,11 @@ class Writer:
             self.put("k", *dropped, 0)
             self.used -= set(dropped)
 
-    # Trees. A subject is a plain problem whose allowed sets are narrowed, with the numbers of its sums among all.
+    # Trees. A subject is a problem whose allowed sets are narrowed, with the numbers of its sums among all.
 
     def subject(self, bits=None, pair=None, letter=None):
         whole = "1" * len(self.problem.articulations)
-        subject = plain.restricted(self.problem, whole if bits is None else bits)
+        subject = statements.restricted(self.problem, whole if bits is None else bits)
         kinds = [(a[0], bit) for a, bit in zip(self.problem.articulations, whole if bits is None else bits)]
         sums = [bit for kind, bit in kinds if kind == "sum"]
         subject.sums = [j for j, bit in enumerate(sums) if bit == "1"]
@@ -99,7 +100,7 @@ class Writer:
         found = [("e", k, None) for k, letters in enumerate(sets) if not letters]
         n, count = len(subject.names), len(sets)
         empty = [(k, g) for k in range(count) for g in range(3) if forced(sets[k], g) == 0]
-        points = [p for p in subject.points if not any(plain.lies(p, (*subject.pairs[k], g)) for k, g in empty)]
+        points = [p for p in subject.points if not any(model.lies(p, (*subject.pairs[k], g)) for k, g in empty)]
         needs = [(3 * k + g, region_literals(*subject.pairs[k], g)) for k in range(count) for g in range(3) if forced(sets[k], g) == 1]
         if subject.switches[0]:
             needs += [(3 * count + c, [c + 1]) for c in range(n)]
@@ -130,15 +131,15 @@ class Writer:
 
     def family(self, subject, table):
         """The words of a family with a table, made of the points that it leaves."""
-        empty = [(*pair, g) for pair, r in zip(subject.pairs, table) for g in range(3) if plain.ROWS[r][g] == 0]
-        points = [p for p in subject.points if not any(plain.lies(p, e) for e in empty)]
+        empty = [(*pair, g) for pair, r in zip(subject.pairs, table) for g in range(3) if model.ROWS[r][g] == 0]
+        points = [p for p in subject.points if not any(model.lies(p, e) for e in empty)]
         spread = self.rng.choice([1, 1, 3])
         sets = [[str(spread * k) for k, p in enumerate(points) if p[c]] for c in range(len(subject.names))]
         return [spread * len(points)] + [",".join(members) or "-" for members in sets]
 
     def tree(self, subject, order, start, node=""):
         """Puts the lines of a tree from a node on; yields each node before its line."""
-        if not start.startswith(node) and plain.rank(node) < plain.rank(start):
+        if not start.startswith(node) and model.rank(node) < model.rank(start):
             return
         yield node
         self.forget()
@@ -178,7 +179,7 @@ class Writer:
         else:
             bits = "".join(rng.choice("011") for _ in problem.articulations)
             words, subject = ("a", bits or "."), self.subject(bits)
-        world = next((node for node, is_world in subject.walk("") if is_world), None)
+        world = next((node for node, is_world in subject.walk() if is_world), None)
         if world is not None and rng.random() < 0.9:
             self.put("some", *words, *self.family(subject, world))
             return

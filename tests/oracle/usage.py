@@ -1,10 +1,11 @@
 """What the words of the command line come to: their first usage fault, as docs/FORMATS.md has it."""
 
-import plain
-from commands import DESK, KEYS, KINDS, LIMIT, MOST_PARTS, ROWS, names_in
+from oracle.commands import DESK, KEYS, KINDS, LIMIT, MOST_PARTS, ROWS, names_in
+from oracle.model import LETTERS
+from oracle.texts import is_number
 
 
-def usage_of(words):
+def fault_of(words):
     """The first usage fault of words, or None."""
     if not words:
         return "NoCommand"
@@ -21,7 +22,7 @@ def usage_of(words):
     return None
 
 
-def desk_usage_of(words):
+def desk_fault_of(words):
     """The first usage fault of the words of the desk's program, or None."""
     given = {}
     return operands_fault(DESK, words, given) or ("SameName" if is_name_twice(given) else None)
@@ -41,9 +42,9 @@ def operands_fault(row, words, given):
         if kind == "switch" and value not in ("on", "off"):
             return "BadSwitch"
         least, most, step = LIMIT if kind == "limit" else kind if isinstance(kind, tuple) else (0, 0, 0)
-        if step and (not plain.is_number(value, least, most) or int(value) % step):
+        if step and (not is_number(value, least, most) or int(value) % step):
             return "BadNumber"
-        if kind == "letters" and (not value or any(c not in plain.LETTERS for c in value)):
+        if kind == "letters" and (not value or any(c not in LETTERS for c in value)):
             return "BadSet"
         if kind == "limit" and value == "0":
             return "ZeroBudget"
@@ -68,4 +69,4 @@ def is_name_twice(given):
 def is_token_of_part(given):
     """Whether the problem's name is that of the token of a part with a number that parts may have."""
     token, file = given["token"], given["in"]
-    return file.startswith(token) and plain.is_number(file[len(token) :], 1, MOST_PARTS)
+    return file.startswith(token) and is_number(file[len(token) :], 1, MOST_PARTS)

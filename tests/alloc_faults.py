@@ -1,55 +1,39 @@
 #!/usr/bin/env python3
 """Every allocation of a run is refused once, and then it and all after it, for each command over small problems, and for the desk.
 
-    tests/refused.py [PROGRAM] [--every N] [--desk DESK]
+    tests/alloc_faults.py [--program PATH] [--desk PATH] [--every N]
 
 The N-th call of malloc or realloc answers NULL, by refuse.c, which gcc builds here. A run must then end as without a refusal, or with
 exit code 9 and `no memory` behind a first part of what is right (nothing at all where it has no words yet); the certificate and tokens
 hold what they held or a first part of what is right, and other files what they held. With --every N only each N-th call is refused. It
 ends with status 1 at the first run that is not so, and shows it.
 
-The desk may reply NoMemory too, and go on. Then the other replies must be those to the script without these requests: by plain_desk.py, or,
+The desk may reply NoMemory too, and go on. Then the other replies must be those to the script without these requests: by oracle/desk.py, or,
 where the problem is too great for that, by the desk itself without a refusal. Where the desk isn't built, it is left out.
 """
 
-import argparse
-import os
-import subprocess
 import sys
-import tempfile
 
-import plain
-import plain_desk
-from commands import DESK_REFUSED, MANY_POINTS, REFUSED_MEMORY, files_written
+import harness
+import oracle.desk
+from oracle import texts
+from oracle.commands import files_written
+from small_runs import DESK_REFUSED, MANY_POINTS, REFUSED_MEMORY
 
-HERE = os.path.dirname(os.path.abspath(__file__))
 OLD = {"c": b"old c\n", "t": b"old t\n", "z": b"other\n"}
 
 
-class Bench:
-    def __init__(self, program, folder):
-        self.program, self.folder = os.path.abspath(program), folder
-        self.shim = os.path.join(folder, "refuse.so")
-        subprocess.run(["gcc", "-O1", "-shared", "-fPIC", "-o", self.shim, os.path.join(HERE, "refuse.c")], check=True)
+class Bench(harness.Refusals):
+    def __init__(self, program):
+        super().__init__()
+        self.program = program
 
-    def path(self, name):
-        return os.path.join(self.folder, name)
-
-    def run(self, files, words, at, rest=0):
+    def outcome(self, files, words, at, rest=0):
         """The exit code, what is put, what the files hold, and how many calls there were. One call is refused, and each so many-th after it."""
         for name, data in files.items():
-            with open(self.path(name), "wb") as file:
-                file.write(data)
-        given = {**os.environ, "LD_PRELOAD": self.shim, "REFUSE_AT": str(at), "REFUSE_COUNT": self.path("count")}
-        if rest:
-            given["REFUSE_REST"] = str(rest)
-        done = subprocess.run([self.program, *words.split(" ")], cwd=self.folder, stdout=subprocess.PIPE, stderr=subprocess.PIPE, env=given, timeout=60)
-        held = {}
-        for name in files:
-            with open(self.path(name), "rb") as file:
-                held[name] = file.read()
-        with open(self.path("count")) as file:
-            return done.returncode, done.stdout, held, int(file.read())
+            self.hold(name, data)
+        answer, calls = self.run([self.program, *words.split(" ")], at, rest)
+        return answer.code, answer.out, {name: self.held(name) for name in files}, calls
 
 
 def fault_in(words, files, right, run):
@@ -71,11 +55,11 @@ def fault_in(words, files, right, run):
 def check_case(bench, case, every):
     problem, given, words = case
     files = {**OLD, "p": problem.encode(), **{name: text.encode() for name, text in given.items()}}
-    right = bench.run(files, words, 0)
+    right = bench.outcome(files, words, 0)
     runs = refused = 0
     for at in range(1, right[3] + 1, every):
         for rest in (0, 1):
-            run = bench.run(files, words, at, rest)
+            run = bench.outcome(files, words, at, rest)
             runs, refused = runs + 1, refused + (run[0] == 9)
             why = fault_in(words, files, right, run)
             if why:
@@ -103,9 +87,9 @@ class Script:
 
     def served_again(self, script):
         if self.problem == MANY_POINTS:
-            return self.bench.run({**self.files, "s": script}, DESK_WORDS, 0)[1].decode()
-        problem = plain.read_problem(self.problem.encode(), (True, True, True)).finish()
-        return plain_desk.answer_to(problem, script)[1]
+            return self.bench.outcome({**self.files, "s": script}, DESK_WORDS, 0)[1].decode()
+        problem = texts.read_problem(self.problem.encode(), (True, True, True)).finish()
+        return oracle.desk.answer_to(problem, script)[1]
 
     def fault_in(self, run):
         """What is wrong with a run of which an allocation was refused, or None. Without its words it puts nothing."""
@@ -114,7 +98,7 @@ class Script:
             return "a file is changed"
         if code == 9 and not put:
             return None
-        return plain_desk.starved_fault(self.requests, code, put.decode(), self.served)
+        return oracle.desk.starved_fault(self.requests, code, put.decode(), self.served)
 
 
 def places_of(count, every):
@@ -127,13 +111,13 @@ def places_of(count, every):
 def check_script(bench, problem, text, every):
     """How many runs there were, how many of them ended without memory, and how many replied so to a request."""
     script = Script(bench, problem, text)
-    right = bench.run(script.files, DESK_WORDS, 0)
+    right = bench.outcome(script.files, DESK_WORDS, 0)
     if (right[0], right[1].decode()) != (0, script.served(script.requests)):
         sys.exit(f"the desk, with no allocation refused: {right[:2]}")
     runs = refused = starved = 0
     for at in places_of(right[3], every):
         for rest in (0, 1, 100):
-            run = bench.run(script.files, DESK_WORDS, at, rest)
+            run = bench.outcome(script.files, DESK_WORDS, at, rest)
             runs, refused, starved = runs + 1, refused + (run[0] == 9), starved + (run[0] == 0 and b" NoMemory\n" in run[1])
             why = script.fault_in(run)
             if why:
@@ -141,27 +125,21 @@ def check_script(bench, problem, text, every):
     return runs, refused, starved
 
 
-def desk_told(desk, folder, every):
+def desk_told(desk, every):
     """The sentence of what the scripts came to."""
-    if not os.access(desk, os.X_OK):
-        return f"the desk was left out, there is no program at {desk}"
-    bench = Bench(desk, folder)
-    runs, refused, starved = (sum(numbers) for numbers in zip(*(check_script(bench, *case, every) for case in DESK_REFUSED)))
-    return f"the desk: {runs} runs, {refused} of them out of memory, {starved} with a request for which it was wanting, the others right"
+    if not desk:
+        return harness.without(desk)
+    with Bench(desk) as bench:
+        runs, refused, starved = (sum(numbers) for numbers in zip(*(check_script(bench, *case, every) for case in DESK_REFUSED)))
+    return f"; of the desk {runs} runs, {refused} of them out of memory, {starved} with a request for which it was wanting, the others right"
 
 
 def main():
-    parser = argparse.ArgumentParser()
-    parser.add_argument("program", nargs="?", default=os.path.join(HERE, "../crates/euler_align/out/euler_align"))
-    parser.add_argument("--every", type=int, default=1)
-    parser.add_argument("--desk", default=os.path.join(HERE, "../crates/euler_desk/out/euler_desk"))
-    given = parser.parse_args()
-    with tempfile.TemporaryDirectory() as folder:
-        bench = Bench(given.program, folder)
+    given = harness.arguments(__doc__, "program desk?", every=1)
+    with Bench(given.program) as bench:
         told = [check_case(bench, case, given.every) for case in REFUSED_MEMORY]
-        desk = desk_told(given.desk, folder, given.every)
     runs, refused = sum(t[0] for t in told), sum(t[1] for t in told)
-    print(f"{runs} runs, {refused} of them out of memory, the others right; {desk}")
+    print(f"alloc_faults: {runs} runs, {refused} of them out of memory, the others right{desk_told(given.desk, given.every)}")
 
 
 if __name__ == "__main__":

@@ -2,33 +2,31 @@
 """Certificates that nobody would write in good faith: what `check` answers of them, and `join` of many, and in what time. And scripts for
 the desk.
 
-    tests/hostile.py [PROGRAM] [--quick] [--desk DESK]
+    tests/hostile_inputs.py [--program PATH] [--desk PATH] [--quick]
 
 Each is made of some number of things: bytes of one word, literals, hints, lines, elements, sets, claims. It is tried with a quarter of
-them and with all; the answer must be that of certificates.py both times, and the processor's time may grow by no more than twice as much
+them and with all; the answer must be that of the oracle both times, and the processor's time may grow by no more than twice as much
 as the bytes do (times below a tenth of a second count as a tenth). There are a million things of each, or ten million bytes of one word;
-with `--quick` a tenth of that. So it is with what is joined, by plain_parts.py: there are as many names as a word may have, and 5,000 that
+with `--quick` a tenth of that. So it is with what is joined, by oracle/parts.py: there are as many names as a word may have, and 5,000 that
 are all needed, which is as many as `parts` tells of; with `--quick` a tenth. It ends with status 1 if an answer is another one or a time
 grows too fast.
 
 The desk's scripts are as long as they may be, with `--quick` a tenth of that, and are tried with a quarter of it too. The answer must be
-that of plain_desk.py, or of the program's listing where very many worlds are shown. What has no end must be refused within seconds. All of
+that of oracle/desk.py, or of the program's listing where very many worlds are shown. What has no end must be refused within seconds. All of
 it goes within a limit of memory. Where the desk isn't built, it is left out.
 """
 
-import argparse
 import itertools
 import os
 import subprocess
 import sys
-import tempfile
 
-import certificates
-import plain
-import plain_desk
+import harness
+import oracle.desk
+from oracle import certificates, model, texts
+from small_runs import ALONE, LISTING as WHOLE_LISTING
 
-HERE = os.path.dirname(os.path.abspath(__file__))
-PROBLEM = b"taxonomy 1\n(A)\ntaxonomy 2\n(B)\n"
+PROBLEM, WHOLE = ALONE.encode(), WHOLE_LISTING.encode()
 # its given clauses, as the page numbers them: 1 is -3 -1 2, 2 is -4 -1 -2, 3 is -5 1 -2
 LAST_ID, LAST_LITERAL = 2**64 - 1, 2**31
 LISTING, CLAIMS, ROOT = b"certificate 1 on on on .\n", b"claims 1 on on on\n", b"b 0 .\n"
@@ -97,7 +95,6 @@ CASES = [
     ("the greatest pair of a subject", lambda n: CLAIMS + b"k 0\n" * n + words("none", "m", 2**32 - 1, "="), 1),
 ]
 
-WHOLE = LISTING + ROOT + b"w 1 = 1 0 0\nw 1 > 2 0,1 0\nw 1 < 2 0 0,1\nw 1 x 3 0,1 0,2\nw 1 ! 2 0 1\nend -\n"
 NOTHING = b"certificate 1 on on on !\nend .\n"
 ALL = (0, "=\n>\n<\nx\n!\njoined 5\n")
 # nothing holds together, which only the seventh pair shows
@@ -107,7 +104,7 @@ TORN = b"taxonomy 1\n(A)\ntaxonomy 2\n" + b"".join(words(f"(B{k})") for k in ran
 def nodes_of(node=""):
     """The nodes of that problem with six letters at the most, ascending, if each is followed by all letters."""
     yield node
-    for letter in plain.LETTERS if len(node) < 6 else "":
+    for letter in model.LETTERS if len(node) < 6 else "":
         yield from nodes_of(node + letter)
 
 
@@ -192,16 +189,16 @@ def worlds_in_order(program, folder, count):
 
 def replies_again(problem, front, again, times):
     """The replies to requests that come again and again: when they have come twenty times, nothing changes any more."""
-    read = plain.read_problem(problem, (True, True, True)).finish()
-    replies = plain_desk.answer_to(read, front + again * min(times, 20))[1].split("\n")[:-2]
+    read = texts.read_problem(problem, (True, True, True)).finish()
+    replies = oracle.desk.answer_to(read, front + again * min(times, 20))[1].split("\n")[:-2]
     return replies + replies[len(replies) - again.count(b"\n") :] * max(times - 20, 0)
 
 
 def served(program, desk, folder, problem, front, again, size):
     """How many bytes a script has, in which time it is served, the last line, and what is wrong with the answer."""
     times = (size - len(front)) // len(again)
-    hold(folder, "p", problem)
-    hold(folder, "c", front + again * times)
+    folder.hold("p", problem)
+    folder.hold("c", front + again * times)
     got, seconds = answered(*under_limit(desk, "in=p", "script=c"), folder=folder)
     replies = ["1 opened"] + worlds_in_order(program, folder, times) if problem == VERY_MANY else replies_again(problem, front, again, times)
     last = f"served {len(replies)}"
@@ -213,7 +210,7 @@ def without_end(desk, folder, name, line, request, wanted):
     writer = subprocess.Popen(["yes", line or ""], stdout=subprocess.PIPE, stderr=subprocess.DEVNULL)
     try:
         pipes = {"stdin": writer.stdout, "stdout": subprocess.PIPE, "stderr": subprocess.DEVNULL}
-        done = subprocess.run(under_limit(desk, *request), cwd=folder, timeout=10, **pipes)
+        done = subprocess.run(under_limit(desk, *request), cwd=folder.path, timeout=10, **pipes)
         fault = fault_of((done.returncode, done.stdout.decode()), wanted)
     except subprocess.TimeoutExpired:
         fault = "it has not ended after ten seconds"
@@ -227,27 +224,22 @@ def without_end(desk, folder, name, line, request, wanted):
 
 def of_desk(program, desk, folder, part):
     """Whether each try of the desk came to what was wanted."""
-    size = plain_desk.MOST_BYTES // part
+    size = oracle.desk.MOST_BYTES // part
     for name, *case in SCRIPTS:
         yield judged(f"desk, {name}", *(served(program, desk, folder, *case, number) for number in (size // 4, size)))
-    hold(folder, "p", TWO_TREES)
+    folder.hold("p", TWO_TREES)
     for case in WITHOUT_END:
         yield without_end(desk, folder, *case)
 
 
 def answered(program, *request, folder):
     """The exit code and standard output of a run, and its processor seconds."""
-    with open(os.path.join(folder, "out"), "wb") as out:
-        run = subprocess.Popen([program, *request], cwd=folder, stdout=out, stderr=subprocess.DEVNULL)
+    with open(os.path.join(folder.aside, "out"), "w+b") as out:
+        run = subprocess.Popen([program, *request], cwd=folder.path, stdout=out, stderr=subprocess.DEVNULL)
         _, status, used = os.wait4(run.pid, 0)
         run.returncode = os.waitstatus_to_exitcode(status)
-    with open(os.path.join(folder, "out"), "rb") as out:
+        out.seek(0)
         return (run.returncode, out.read().decode("utf-8", "replace")), used.ru_utime + used.ru_stime
-
-
-def hold(folder, name, data):
-    with open(os.path.join(folder, name), "wb") as f:
-        f.write(data)
 
 
 def fault_of(got, wanted):
@@ -257,7 +249,7 @@ def fault_of(got, wanted):
 def checked(program, folder, problem, make, count):
     """How many bytes are checked, in which time, the last line, and what is wrong with the answer."""
     data = make(count)
-    hold(folder, "c", data)
+    folder.hold("c", data)
     got, seconds = answered(program, "check", "in=p", "cert=c", folder=folder)
     wanted = certificates.check(problem, data)
     return len(data), seconds, wanted[1].split("\n")[-2], fault_of(got, wanted)
@@ -266,15 +258,15 @@ def checked(program, folder, problem, make, count):
 def joined(program, folder, make, count):
     files, names, wanted = make(count)
     for name, data in files.items():
-        hold(folder, name, data)
+        folder.hold(name, data)
     got, seconds = answered(program, "join", "in=p", "certs=" + ",".join(names), folder=folder)
     return sum(len(files.get(name, name)) + 1 for name in names), seconds, wanted[1].split("\n")[-2], fault_of(got, wanted)
 
 
 def limited(program, folder, name, front, zeros, behind, wanted):
     """Tells of a check under the limit; whether its answer is as wanted."""
-    path = os.path.join(folder, "c")
-    hold(folder, "c", front)
+    path = folder.at("c")
+    folder.hold("c", front)
     os.truncate(path, len(front) + zeros)
     with open(path, "ab") as f:
         f.write(behind)
@@ -295,28 +287,22 @@ def judged(name, few, many):
 
 
 def main():
-    parser = argparse.ArgumentParser()
-    parser.add_argument("program", nargs="?", default=os.path.join(HERE, "../crates/euler_align/out/euler_align"))
-    parser.add_argument("--quick", action="store_true")
-    parser.add_argument("--desk", default=os.path.join(HERE, "../crates/euler_desk/out/euler_desk"))
-    given = parser.parse_args()
-    program, desk, part = os.path.abspath(given.program), os.path.abspath(given.desk), 10 if given.quick else 1
-    problem = plain.read_problem(PROBLEM, (True, True, True)).finish()
-    with tempfile.TemporaryDirectory() as folder:
-        hold(folder, "p", PROBLEM)
+    given = harness.arguments(__doc__, "program desk?", quick=False)
+    part = 10 if given.quick else 1
+    problem = texts.read_problem(PROBLEM, (True, True, True)).finish()
+    with harness.Folder() as folder:
+        folder.hold("p", PROBLEM)
         came = []
         for name, make, times in CASES:
             count = times * 1_000_000 // part
-            came.append(judged(name, *(checked(program, folder, problem, make, number) for number in (count // 4, count))))
+            came.append(judged(name, *(checked(given.program, folder, problem, make, number) for number in (count // 4, count))))
         for case in UNKEPT:
-            came.append(limited(program, folder, *case))
+            came.append(limited(given.program, folder, *case))
         for name, text, make, count in JOINS:
-            hold(folder, "p", text)
-            came.append(judged(f"join, {name}", *(joined(program, folder, make, number // part) for number in (count // 4, count))))
-        has_desk = os.access(desk, os.X_OK)
-        came += of_desk(program, desk, folder, part) if has_desk else []
-    left_out = "" if has_desk else f"; the desk was left out, there is no program at {desk}"
-    print(f"hostile: {sum(came)} passed, {len(came) - sum(came)} failed{left_out}")
+            folder.hold("p", text)
+            came.append(judged(f"join, {name}", *(joined(given.program, folder, make, number // part) for number in (count // 4, count))))
+        came += of_desk(given.program, given.desk, folder, part) if given.desk else []
+    print(f"hostile_inputs: {sum(came)} passed, {len(came) - sum(came)} failed{harness.without(given.desk)}")
     return 0 if all(came) else 1
 
 

@@ -1,8 +1,8 @@
 """The text of certificates, line by line, as docs/FORMATS.md has it: its forms and its faults. See certificates.py."""
 
-import plain
+from oracle.model import LETTERS
+from oracle.texts import is_number
 
-LETTERS = plain.LETTERS
 MOST_BYTES = 68719476736
 SMALL, LARGE, MOST_LITERAL = 2**32 - 1, 2**64 - 1, 2**31
 
@@ -112,7 +112,7 @@ class Words:
 
 def number_in(word, low, high):
     # the length is looked at first, since Python refuses to read numbers of many thousand digits
-    if not word.isascii() or len(word) > 20 or not plain.is_number(word, low, high):
+    if not word.isascii() or len(word) > 20 or not is_number(word, low, high):
         raise TextFault("BadNumber")
     return int(word)
 

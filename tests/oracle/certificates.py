@@ -1,16 +1,15 @@
-"""A plain checker of certificates, written from docs/FORMATS.md, for problems of a few concepts (plain.py).
+"""A plain checker of certificates, written from docs/FORMATS.md, for problems of a few concepts.
 
 `check(problem, data)` is the exit code and the standard output that `euler_align check` has for these bytes, whatever they are. It keeps
 each rule of the page as one short definition, in the page's order; it is not fast. It knows nothing of the solver, and shares with
-plain.py only what a problem and a relation are. The forms of lines are in certificate_lines.py.
+model.py only what a problem and a relation are. The forms of lines are in certificate_lines.py.
 """
 
 import functools
 
-import plain
-from certificate_lines import Text, TextFault, read_line
-
-LETTERS = plain.LETTERS
+from oracle import model
+from oracle.certificate_lines import Text, TextFault, read_line
+from oracle.model import LETTERS
 
 
 class Rejected(Exception):
@@ -146,19 +145,19 @@ class Subject:
         return all(sets[every[j][0]] == set().union(*(sets[part] for part in every[j][1])) for j in self.sums)
 
     def table(self, sets):
-        return "".join(plain.relation(set(sets[x]), set(sets[y])) for x, y in self.problem.pairs)
+        return "".join(model.relation(set(sets[x]), set(sets[y])) for x, y in self.problem.pairs)
 
 
 @functools.cache
 def forced(letters, region):
     """0 where the letters force a region empty, 1 where they force it occupied, else None."""
-    words = {plain.ROWS[r][region] for r in letters}
+    words = {model.ROWS[r][region] for r in letters}
     return words.pop() if len(words) == 1 else None
 
 
 def is_whole(letters):
     return letters == {
-        r for r in LETTERS if all(forced(letters, g) in (None, plain.ROWS[r][g]) for g in range(3))
+        r for r in LETTERS if all(forced(letters, g) in (None, model.ROWS[r][g]) for g in range(3))
     }
 
 
@@ -180,7 +179,7 @@ class Tree:
         return sets
 
     def is_shown(self, node):
-        return self.start.startswith(node) or plain.rank(node) >= plain.rank(self.start)
+        return not self.start or self.start.startswith(node) or model.rank(node) >= model.rank(self.start)
 
     def below(self, node):
         """The nodes that come right below a node."""
@@ -193,7 +192,7 @@ class Tree:
         while node:
             up = node[:-1]
             for other in self.below(up):
-                if plain.rank(other) > plain.rank(node):
+                if model.rank(other) > model.rank(node):
                     return other
             node = up
         return None

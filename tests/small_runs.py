@@ -1,86 +1,20 @@
-"""The commands, as the tests know them: a row for each, and runs of each with small files. A command is added here and nowhere else."""
+"""Small problems and files, and runs of each command over them, which the tests share; and the problems of bench/."""
 
-import re
+import importlib.util
+import os
 
-SWITCHES = ["nonempty", "sibling", "coverage"]
-KINDS = ["count", "tally", "seen", "merge", "json"]
+from harness import ROOT
+from oracle.commands import KINDS
 
-# what the value of a key is: a switch, the name of a file, names of files, names of reports, any text, letters of relations, a limit, or a
-# number from the least to the most by steps
-LIMIT = (0, 2**64 - 1, 1)
-MOST_PARTS = 5000
-KEYS = {
-    **{key: "switch" for key in SWITCHES},
-    **{key: "file" for key in ("in", "cert", "token", "resume", "until", "script")},
-    "certs": "files",
-    "kinds": "reports",
-    "left": "text",
-    "right": "text",
-    "set": "letters",
-    "nodes": "limit",
-    "worlds": "limit",
-    "seed": LIMIT,
-    "size": (14, 256, 2),
-    "count": (1, 1000, 1),
-}
+# by its file, since the tools have a module of this name too
+SPEC = importlib.util.spec_from_file_location("bench_problems", os.path.join(ROOT, "bench/problems.py"))
+bench = importlib.util.module_from_spec(SPEC)
+SPEC.loader.exec_module(bench)
 
 
-class Row:
-    """A command: the keys that must be given, those that may be, and of these the ones whose file it reads and writes."""
-
-    def __init__(self, required, optional, reads, writes):
-        self.required, self.optional = required.split(), optional.split()
-        self.reads, self.writes = reads.split(), writes.split()
-
-
-ROWS = {
-    "align": Row("in", "cert nonempty sibling coverage nodes worlds token resume", "in resume", "cert token"),
-    "check": Row("in cert", "nonempty sibling coverage", "in cert", ""),
-    "mir": Row("in", "cert nonempty sibling coverage", "in", "cert"),
-    "conflict": Row("in", "cert nonempty sibling coverage", "in", "cert"),
-    "lattice": Row("in", "cert nonempty sibling coverage", "in", "cert"),
-    "explain": Row("in left right set", "nonempty sibling coverage", "in", ""),
-    "report": Row("in kinds", "nonempty sibling coverage", "in", ""),
-    "parts": Row("in count token", "nonempty sibling coverage", "in", ""),
-    "part": Row("in cert", "nonempty sibling coverage resume until", "in resume until", "cert"),
-    "join": Row("in certs", "nonempty sibling coverage", "in certs", ""),
-    "trial": Row("seed size", "", "", ""),
-}
-
-# the program of the desk has no commands: all its words are operands
-DESK = Row("in script", "nonempty sibling coverage", "in script", "")
-NONE = Row("", "", "", "")
-
-
-def row_of(words):
-    """The row of the command of words; an empty one where the first is none."""
-    return ROWS.get(words[0], NONE) if words else NONE
-
-
-def values_of(words):
-    """The values of the keys of words."""
-    return dict(word.split("=", 1) for word in words[1:] if "=" in word)
-
-
-def names_in(key, value):
-    """The names of files that the value of a key gives."""
-    return {"file": [value], "files": value.split(",")}.get(KEYS.get(key), [])
-
-
-def files_read(words):
-    """The names of the files that a request reads."""
-    values = values_of(words)
-    return [name for key in row_of(words).reads if key in values for name in names_in(key, values[key])]
-
-
-def files_written(words):
-    """The names of the files that it may write. Those of the tokens of parts are numbered, at most five times as many as are asked for."""
-    values = values_of(words)
-    if words[:1] == ["parts"]:
-        count = values.get("count", "")
-        most = 5 * int(count) if re.fullmatch("[1-9][0-9]{0,3}", count) else 0
-        return [f"{values.get('token', '')}{number}" for number in range(1, min(most, MOST_PARTS) + 1)]
-    return [values[key] for key in row_of(words).writes if key in values]
+def made(family, one, other):
+    """A problem of a family of bench/problems.py."""
+    return "\n".join(bench.FAMILIES[family](int(one), int(other))) + "\n"
 
 
 # small problems, a certificate of the first one's listing, and a token of it
@@ -224,21 +158,3 @@ ON_DEVICES = {
     "join": "join in=p certs=l,m",
     "trial": "trial seed=7 size=14",
 }
-
-# words from which random ones are made
-REQUESTS = [
-    "align in=p", "align in=p cert=c", "align in=p nodes=3 token=t", "align in=p worlds=2 token=t resume=r cert=c sibling=off", "check in=p cert=c",
-    "mir in=p cert=c coverage=off", "conflict in=p nonempty=off", "lattice in=p cert=c sibling=off", "explain in=p left=1.A0 right=2.B0 set==<",
-    "report in=p kinds=count,seen", "parts in=p count=3 token=t", "part in=p cert=c resume=r until=u coverage=off", "join in=p certs=c,d",
-    "trial seed=3 size=14",
-]
-OTHER_WORDS = [
-    "align", "check", "report", "trial", "mir", "conflict", "lattice", "explain", "parts", "part", "join", "solve", "in=p", "in=", "in=c", "cert=c",
-    "cert=p", "cert=", "token=t", "token=p", "token=c", "resume=r", "resume=t", "resume=p", "nodes=1", "nodes=0", "nodes=01", "worlds=2", "worlds=-1",
-    "worlds=18446744073709551616", "nonempty=on", "nonempty=On", "sibling=off", "coverage=1", "kinds=count", "kinds=", "kinds=count,seen",
-    "kinds=count,count", "kinds=seen,x", "kinds=seen,", "seed=3", "seed=+3", "size=14", "size=15", "size=300", "left=1.A0", "left=", "left=p",
-    "right=2.B0", "right=1.A0", "set==", "set=", "set=x!x", "set=o", "set==,<", "set=x ", "count=1", "count=0", "count=1000", "count=1001",
-    "count=01", "count=", "until=u", "until=r", "until=p", "until=c", "until=", "certs=c", "certs=c,c", "certs=d,p", "certs=", "certs=c,,d",
-    "certs=c,", "script=s", "in=t1", "in=t5000", "in=t5001", "in=t0", "in=t01", "in=tt", "in=1", "token=t1", "token=u", "x", "=x", "y=z", "", "In=p", "--help",
-]
-OTHER_VALUES = ["", "", "=", "<x", "o", "on", "7", "count", "1.A0"]

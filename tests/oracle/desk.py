@@ -1,22 +1,18 @@
-#!/usr/bin/env python3
-"""A plain desk: what `euler_desk` puts, and its exit code, by docs/FORMATS.md, for problems of a few concepts.
+"""The desk: what `euler_desk` puts, and its exit code, by docs/FORMATS.md, for problems of a few concepts.
 
-    tests/plain_desk.py in=PROBLEM script=SCRIPT [nonempty=on|off] [sibling=on|off] [coverage=on|off]
-
-It shares no code with the program. The worlds of a slot are taken from the listing of plain.py: those of the problem with the slot's
-statements kept in which each narrowed pair has one of its relations. So it can stand in for the program where that isn't built, too.
+The worlds of a slot are taken from the listing of model.py: those of the problem with the slot's statements kept in which each narrowed pair
+has one of its relations.
 """
 
-import os
 import re
-import sys
 
-import plain
-import plain_words
-from commands import SWITCHES
+from oracle import model, statements, usage
+from oracle.commands import SWITCHES
+from oracle.texts import Fault, is_number, read_problem
 
 MOST_BYTES = 1048576
 MOST_SLOTS = 16
+WORD = re.compile("[^ \t]+")
 # the words of a request and how many stand behind each
 FORMS = {"open": 0, "keep": 1, "narrow": 3, "next": 0, "close": 0}
 
@@ -25,7 +21,7 @@ class Listing:
     """The worlds of a problem in order, looked for as far as they are asked for."""
 
     def __init__(self, problem):
-        self.found, self.rest = [], (node for node, is_world in problem.walk("") if is_world)
+        self.found, self.rest = [], (node for node, is_world in problem.walk() if is_world)
 
     def __iter__(self):
         at = 0
@@ -53,14 +49,14 @@ class Desk:
     def worlds(self, slot):
         """The worlds of a slot's problem, in order."""
         if slot.bits not in self.listings:
-            self.listings[slot.bits] = Listing(plain.restricted(self.problem, slot.bits))
+            self.listings[slot.bits] = Listing(statements.restricted(self.problem, slot.bits))
         for world in self.listings[slot.bits]:
             if all(world[pair] in letters for pair, letters in slot.narrowings):
                 yield world
 
     def next_world(self, slot):
         """The least world above the last one, or None."""
-        above = lambda world: slot.last is None or plain.rank(world) > plain.rank(slot.last)
+        above = lambda world: slot.last is None or model.rank(world) > model.rank(slot.last)
         return next((world for world in self.worlds(slot) if above(world)), None)
 
     def reply(self, number, act, *given):
@@ -104,21 +100,21 @@ def read_bits(concepts, word, line):
     if concepts.statements == 0 and word == ".":
         return ""
     if len(word) != concepts.statements or set(word) - set("01"):
-        raise plain.Fault(line, "BadBits")
+        raise Fault(line, "BadBits")
     return word
 
 
 def read_narrowing(concepts, left, right, letters, line):
     """The number of a pair, and letters for the concept that comes first among the two."""
     if left not in concepts.numbers or right not in concepts.numbers:
-        raise plain.Fault(line, "UnknownConcept")
+        raise Fault(line, "UnknownConcept")
     if left == right:
-        raise plain.Fault(line, "SameConcept")
-    if set(letters) - set(plain.LETTERS):
-        raise plain.Fault(line, "BadLetters")
+        raise Fault(line, "SameConcept")
+    if set(letters) - set(model.LETTERS):
+        raise Fault(line, "BadLetters")
     pair, letters = (concepts.numbers[left], concepts.numbers[right]), set(letters)
     if pair not in concepts.pairs:
-        pair, letters = pair[::-1], {plain.CONVERSE[letter] for letter in letters}
+        pair, letters = pair[::-1], {model.CONVERSE[letter] for letter in letters}
     return concepts.pairs[pair], letters
 
 
@@ -126,9 +122,9 @@ def read_request(concepts, words, line):
     """A request as the slot, the act, and what belongs to it."""
     slot, *rest = words
     if not rest or FORMS.get(rest[0]) != len(rest) - 1:
-        raise plain.Fault(line, "BadLine")
-    if not plain.is_number(slot, 1, MOST_SLOTS):
-        raise plain.Fault(line, "BadSlot")
+        raise Fault(line, "BadLine")
+    if not is_number(slot, 1, MOST_SLOTS):
+        raise Fault(line, "BadSlot")
     act, *given = rest
     if act == "keep":
         given = [read_bits(concepts, *given, line)]
@@ -140,10 +136,10 @@ def read_request(concepts, words, line):
 def read_script(problem, data):
     """The requests of a script; its first fault is raised."""
     if len(data) > MOST_BYTES:
-        raise plain.Fault(0, "TooLong")
+        raise Fault(0, "TooLong")
     concepts, requests = Concepts(problem), []
     for number, line in enumerate(data.decode("latin-1").split("\n"), 1):
-        words = [word for word in re.split("[ \t]", line) if word]
+        words = WORD.findall(line)
         if words:
             requests.append(read_request(concepts, words, number))
     return requests
@@ -161,14 +157,14 @@ def answer_to(problem, script):
     """The exit code and the text for the bytes of a script."""
     try:
         return 0, served(problem, read_script(problem, script))
-    except plain.Fault as fault:
+    except Fault as fault:
         line, kind = fault.args
         return 7, f"script {line} {kind}\n"
 
 
 def answer(words, bytes_of):
     """The exit code and the text of a run; `bytes_of` gives what a file holds, or None where it can't be read."""
-    kind = plain_words.desk_usage_of(words)
+    kind = usage.desk_fault_of(words)
     if kind:
         return 2, f"usage {kind}\n"
     given = dict(word.split("=", 1) for word in words)
@@ -176,8 +172,8 @@ def answer(words, bytes_of):
     if data is None:
         return 3, "read fault\n"
     try:
-        problem = plain.read_problem(data, tuple(given.get(name) != "off" for name in SWITCHES)).finish()
-    except plain.Fault as fault:
+        problem = read_problem(data, tuple(given.get(name) != "off" for name in SWITCHES)).finish()
+    except Fault as fault:
         line, kind = fault.args
         return 1, f"refused {line} {kind}\n"
     script = bytes_of(given["script"])
@@ -205,26 +201,3 @@ def starved_fault(requests, code, text, served):
     if [reply for _, reply in kept] != served([request for request, _ in kept]).split("\n")[:-2]:
         return "the replies are not those to the requests for which memory was not wanting"
     return None
-
-
-def bytes_of_file(name):
-    try:
-        with open(name, "rb") as file:
-            return file.read()
-    except (OSError, ValueError):
-        return None
-
-
-def main():
-    plain.MOST_PREFIXES = sys.maxsize
-    try:
-        words = [os.fsencode(word).decode() for word in sys.argv[1:]]
-    except UnicodeDecodeError:
-        return 2
-    code, text = answer(words, bytes_of_file)
-    sys.stdout.buffer.write(text.encode())
-    return code
-
-
-if __name__ == "__main__":
-    sys.exit(main())

@@ -1,10 +1,10 @@
 """Parts of a listing and their join, by the definitions: what docs/FORMATS.md says of `parts`, `part` and `join`, for a problem of a few
-concepts that plain.py has read."""
+concepts."""
 
 import collections
 
-import certificates
-import plain
+from oracle import certificates, model
+from oracle.texts import read_token
 
 MOST_RELATIONS = 16
 
@@ -14,7 +14,7 @@ Part = collections.namedtuple("Part", "start end worlds")
 
 def is_below(position, end):
     """Whether a position comes before an end; None is the end of all."""
-    return end is None or plain.rank(position) < plain.rank(end)
+    return end is None or model.rank(position) < model.rank(end)
 
 
 # Where parts begin.
@@ -25,7 +25,7 @@ def levels(problem):
     nodes = [""]
     yield nodes
     for letters in problem.allowed[:MOST_RELATIONS]:
-        nodes = [node + r for node in nodes if problem.is_alive(node) for r in plain.LETTERS if r in letters]
+        nodes = [node + r for node in nodes if problem.is_alive(node) for r in model.LETTERS if r in letters]
         yield nodes
 
 
@@ -51,7 +51,7 @@ def listing(problem, start, end):
 
 def node_at(problem, end):
     """The least node that isn't below an end, which the certificate of a part names; None where there is none."""
-    return None if end is None else next((node for node, _ in problem.walk(end)), None)
+    return None if end is None else next((node for node, _ in problem.nodes_from(end)), None)
 
 
 def part_answer(problem, start, end):
@@ -60,6 +60,12 @@ def part_answer(problem, start, end):
         return 15, ["empty part"]
     worlds = listing(problem, start, end)
     return 0, worlds + [f"part {len(worlds)}"]
+
+
+def part_by_tokens(problem, beginning, ending):
+    """The same of a part whose ends are told by the bytes of tokens, of which that of the beginning is judged first."""
+    (start, kind), (end, other) = (read_token(problem, token) for token in (beginning, ending))
+    return (7, [f"token {kind or other}"]) if kind or other else part_answer(problem, start, end)
 
 
 # The join.
@@ -94,10 +100,10 @@ def first_gap(parts):
     """The first position that no part covers, which is the front or the end of a part, and the least beginning behind it, or None; None
     where all is covered."""
     ends = [""] + [part.end for part in parts if part.end is not None]
-    start = min((end for end in ends if not any(covers(part, end) for part in parts)), key=plain.rank, default=None)
+    start = min((end for end in ends if not any(covers(part, end) for part in parts)), key=model.rank, default=None)
     if start is None:
         return None
-    return start, min((part.start for part in parts if is_below(start, part.start)), key=plain.rank, default=None)
+    return start, min((part.start for part in parts if is_below(start, part.start)), key=model.rank, default=None)
 
 
 def join_answer(problem, files):

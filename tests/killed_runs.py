@@ -2,23 +2,22 @@
 """Runs that are killed at any moment (SIGKILL), of every command that writes a file: what is left is never taken for whole, and the same
 words again give the same bytes.
 
-    tests/killed.py [PROGRAM] [--count N] [--seed N]
+    tests/killed_runs.py [--program PATH] [--count N] [--seed N]
 
 What was put must be a first part of what is right, and so must each file that may be written, unless it holds what it held. `check` may
 accept a certificate, and `align` go on from a token, only where it is whole. It ends with status 1 at the first run that is not so, and
 shows it.
 """
 
-import argparse
-import os
+import contextlib
 import random
 import subprocess
 import sys
-import tempfile
 import time
 
-HERE = os.path.dirname(os.path.abspath(__file__))
-BENCH = os.path.join(HERE, "..", "bench", "problems.py")
+import harness
+from small_runs import made
+
 OLD = b"what it held\n"
 REFUSED_TOKEN = 7
 # the words of the problem, those of the run, and what may be written: certificates and tokens
@@ -32,67 +31,54 @@ KINDS = [
 ]
 
 
-def content(path):
-    """What a file holds; none where there is no such file."""
-    try:
-        with open(path, "rb") as file:
-            return file.read()
-    except FileNotFoundError:
-        return None
-
-
-class Kind:
+class Kind(harness.Folder):
     """A run in a folder of its own, and what is right."""
 
-    def __init__(self, program, folder, problem, words, certificates, tokens):
-        self.program, self.folder, self.words = program, folder, words.split()
+    def __init__(self, program, problem, words, certificates, tokens):
+        super().__init__()
+        self.program, self.words = program, words.split()
         self.certificates, self.tokens = certificates, tokens
-        made = subprocess.run([sys.executable, BENCH, *problem.split()], stdout=subprocess.PIPE, check=True).stdout
-        with open(os.path.join(folder, "p"), "wb") as file:
-            file.write(made)
+        self.hold("p", made(*problem.split()))
         if "until=to" in self.words:
             self.run("align", "in=p", "worlds=2000", "token=from")
             self.run("align", "in=p", "worlds=9000", "resume=from", "token=to")
         begun = time.monotonic()
         self.code, self.put = self.run(*self.words)
         self.seconds = time.monotonic() - begun
-        self.right = {name: content(os.path.join(folder, name)) for name in certificates + tokens}
+        self.right = {name: self.held(name) for name in certificates + tokens}
 
     def run(self, *words):
         """The exit code of a run and what it puts."""
-        ran = subprocess.run([self.program, *words], cwd=self.folder, stdout=subprocess.PIPE, stderr=subprocess.DEVNULL, check=False)
-        return ran.returncode, ran.stdout
+        return harness.run([self.program, *words], self.path)[:2]
 
     def kill(self, seconds):
         """Kills a run after so many seconds: what it put, and whether it was killed before it ended."""
         for name in self.right:
-            with open(os.path.join(self.folder, name), "wb") as file:
-                file.write(OLD)
-        out = os.path.join(self.folder, "out")
-        with open(out, "wb") as file:
-            ran = subprocess.Popen([self.program, *self.words], cwd=self.folder, stdout=file, stderr=subprocess.DEVNULL)
+            self.hold(name, OLD)
+        with open(self.at("out"), "wb") as file:
+            ran = subprocess.Popen([self.program, *self.words], cwd=self.path, stdout=file, stderr=subprocess.DEVNULL)
         try:
             ran.wait(seconds)
         except subprocess.TimeoutExpired:
             ran.kill()
-        return content(out), ran.wait() < 0
+        return self.held("out"), ran.wait() < 0
 
     def faults(self, put):
         """What is wrong after a run was killed that had put this."""
         if not self.put.startswith(put):
             yield "what was put is no first part of what is right"
         for name, right in self.right.items():
-            left = content(os.path.join(self.folder, name))
+            left = self.held(name)
             if left in (right, OLD):
                 continue
             if right is None or left is None or not right.startswith(left):
                 yield f"{name} holds neither what it held nor a first part of what is right"
         for name in self.certificates:
             code, _ = self.run("check", "in=p", f"cert={name}")
-            if code == 0 and content(os.path.join(self.folder, name)) != self.right[name]:
+            if code == 0 and self.held(name) != self.right[name]:
                 yield f"{name} is accepted, and isn't whole"
         for name in random.sample(self.tokens, min(3, len(self.tokens))):
-            whole = content(os.path.join(self.folder, name)) == self.right[name]
+            whole = self.held(name) == self.right[name]
             if not whole and self.run("align", "in=p", f"resume={name}", "worlds=1", "token=next")[0] != REFUSED_TOKEN:
                 yield f"{name} is taken, and isn't whole"
 
@@ -101,26 +87,17 @@ class Kind:
         if self.run(*self.words) != (self.code, self.put):
             yield "the same words put something else"
         for name, right in self.right.items():
-            left = content(os.path.join(self.folder, name))
+            left = self.held(name)
             if left != right and not (right is None and left == OLD):
                 yield f"the same words write something else to {name}"
 
 
 def main():
-    args = argparse.ArgumentParser()
-    args.add_argument("program", nargs="?", default=os.path.join(HERE, "../crates/euler_align/out/euler_align"))
-    args.add_argument("--count", type=int, default=60)
-    args.add_argument("--seed", type=int, default=1)
-    given = args.parse_args()
-    program = os.path.realpath(given.program)
+    given = harness.arguments(__doc__, "program", count=60, seed=1)
     random.seed(given.seed)
     killed = 0
-    with tempfile.TemporaryDirectory() as top:
-        kinds = []
-        for number, kind in enumerate(KINDS):
-            folder = os.path.join(top, str(number))
-            os.mkdir(folder)
-            kinds.append(Kind(program, folder, *kind))
+    with contextlib.ExitStack() as folders:
+        kinds = [folders.enter_context(Kind(given.program, *kind)) for kind in KINDS]
         for number in range(given.count):
             kind = kinds[number % len(kinds)]
             seconds = random.uniform(0, kind.seconds)
@@ -128,10 +105,11 @@ def main():
             killed += early
             wrong = list(kind.faults(put)) + list(kind.again())
             if wrong:
-                print(f"killed: {' '.join(kind.words)}, after {seconds:.3f} s: {wrong[0]}")
-                sys.exit(1)
-    print(f"killed: {given.count} runs, {killed} of them killed before they ended; nothing was taken for whole that wasn't")
+                print(f"killed_runs: {' '.join(kind.words)}, after {seconds:.3f} s: {wrong[0]}")
+                return 1
+    print(f"killed_runs: {given.count} runs, {killed} of them killed before they ended; nothing was taken for whole that wasn't")
+    return 0
 
 
 if __name__ == "__main__":
-    main()
+    sys.exit(main())

@@ -1,27 +1,24 @@
 #!/usr/bin/env python3
-"""Sets the built desk beside the plain one (plain_desk.py): random problems with random scripts, and scripts that nobody would write.
+"""Sets the built desk beside the oracle's (oracle/desk.py): random problems with random scripts, and scripts that nobody would write.
 
-    tests/desk.py [--cases N] [--seed S] [--tally] [PROGRAM]
+    tests/desk_differential.py [--desk PATH] [--count N] [--seed N] [--jobs N] [--tally]
 
-PROGRAM is the built desk; where none is given, `crates/euler_desk/out/euler_desk`. Each case makes a small problem, and compares what the
-program puts and its exit code with what the plain desk says: of a script of up to 16 slots, of the same requests dealt in another order
-(where besides each slot must have the same replies), of two slots' three requests each in all 20 orders, of damaged scripts and texts, and
-of random words. It ends with status 1 at the first difference, and shows it.
+Each case makes a small problem, and compares what the program puts and its exit code with what the oracle says: of a script of up to 16
+slots, of the same requests dealt in another order (where besides each slot must have the same replies), of two slots' three requests each
+in all 20 orders, of damaged scripts and texts, and of random words. With --jobs several processes share the cases, which are the same for
+any number of them; with --tally it is told how often each reply and last line was compared. It ends with status 1 at the first difference,
+and shows it.
 """
 
-import argparse
 import itertools
 import os
-import random
 import sys
-import tempfile
 
-import plain
-import plain_desk
+import harness
 import random_cases
-from differential import Difference, Runner, switch_words
+from comparisons.runner import Difference, Runner, switch_words, tell, try_cases
+from oracle import desk, model, texts
 
-HERE = os.path.dirname(os.path.abspath(__file__))
 WORDS = ["in=p", "script=s"]
 OTHER_WORDS = [
     "in=p", "in=s", "in=", "in=q", "in=d", "in==", "script=s", "script=p", "script=", "script=q", "script=d", "nonempty=off", "nonempty=on", "sibling=off",
@@ -34,24 +31,20 @@ PIECES = [
 
 
 class DeskRunner(Runner):
-    """It tells of all lines that were compared how often each kind came."""
+    """It tells of all lines that were compared how often each kind came. One name is that of a folder."""
 
-    def __init__(self, program, folder):
-        super().__init__(program, folder)
-        os.makedirs(os.path.join(self.folder, "d"), exist_ok=True)
-
-    def told(self, name):
-        return plain_desk.bytes_of_file(os.path.join(self.folder, name))
+    def __init__(self, program, within=None):
+        super().__init__(program, within)
+        os.mkdir(self.at("d"))
 
     def compared(self, words):
-        """What the program puts; it must be what the plain desk says."""
-        code, text = plain_desk.answer(words, self.told)
+        """The lines that the program puts before the last; they must be what the oracle says."""
+        code, text = desk.answer(words, self.held)
         got = self.run(words)
         for line in text.split("\n")[:-1]:
             self.answers[" ".join([word for word in line.split(" ") if not word.isdigit()][:2 if code else 1])] += 1
-        if got != (code, text):
-            raise Difference(f"words: {' '.join(words)}\nwanted: {code}\n{text}\ngot: {got[0]}\n{got[1]}")
-        return text
+        self.compare(words, (code, text), got)
+        return text.split("\n")[:-2]
 
     def script(self, words, data):
         self.hold("s", data)
@@ -63,7 +56,7 @@ class DeskRunner(Runner):
 
 def random_narrowing(rng, problem):
     left, right = (problem.text_name(c) for c in rng.sample(range(len(problem.names)), 2))
-    letters = rng.choices(plain.LETTERS, k=rng.choice([1, 1, 2, 3, 4, 5]))
+    letters = rng.choices(model.LETTERS, k=rng.choice([1, 1, 2, 3, 4, 5]))
     return f"narrow {left} {right} {''.join(letters)}"
 
 
@@ -112,10 +105,10 @@ def spaced(rng, requests):
     return "\n".join(lines).encode() + rng.choice([b"", b"\n", b"\n \n"])
 
 
-def by_slot(text):
+def by_slot(rows):
     """The replies to each slot."""
     replies = {}
-    for line in text.split("\n")[:-2]:
+    for line in rows:
         slot, _, said = line.partition(" ")
         replies.setdefault(slot, []).append(said)
     return replies
@@ -143,25 +136,26 @@ def odd_lines(rng, problem):
 
 def check_orders(runner, problem, words, rng):
     """A script, and its requests in another order."""
-    slots = rng.sample(range(1, plain_desk.MOST_SLOTS + 1), rng.choice([0, 1, 1, 2, 2, 3, 3, 4, 7, 16]))
+    slots = rng.sample(range(1, desk.MOST_SLOTS + 1), rng.choice([0, 1, 1, 2, 2, 3, 3, 4, 7, 16]))
     acts = {slot: acts_of_slot(rng, problem, rng.randint(1, 9)) for slot in slots}
     first = runner.script(words, written(dealt(rng, acts)))
     other = dealt(rng, acts)
     second = runner.script(words, written(other) if rng.random() < 0.5 else spaced(rng, other))
     if by_slot(first) != by_slot(second):
-        raise Difference(f"a slot's replies are others in another order:\n{first}\nand\n{second}")
+        raise Difference(f"a slot's replies are others in another order: {first}, and {second}")
     return other
 
 
 def check_interleavings(runner, problem, words, rng):
-    """Three requests of each of two slots, in all orders."""
-    one, other = rng.sample(range(1, plain_desk.MOST_SLOTS + 1), 2)
-    acts, replies = {slot: acts_of_slot(rng, problem, 3) for slot in (one, other)}, []
+    """Three requests of each of two slots, in all orders, one after the other in one script; both slots are closed behind each."""
+    one, other = rng.sample(range(1, desk.MOST_SLOTS + 1), 2)
+    acts, requests = {slot: [*acts_of_slot(rng, problem, 3), "close"] for slot in (one, other)}, []
     for places in itertools.combinations(range(6), 3):
-        requests = in_turns(acts, [one if place in places else other for place in range(6)])
-        replies.append(by_slot(runner.script(words, written(requests))))
-        if replies[-1] != replies[0]:
-            raise Difference(f"a slot's replies are others in another order: {replies[-1]}, and {replies[0]}")
+        requests += in_turns(acts, [one if place in places else other for place in range(6)] + [one, other])
+    rows = runner.script(words, written(requests))
+    replies = [by_slot(rows[begin : begin + 8]) for begin in range(0, len(rows), 8)]
+    if any(given != replies[0] for given in replies):
+        raise Difference(f"a slot's replies are others in another order: {replies}")
 
 
 def check_damaged(runner, problem, words, requests, rng):
@@ -192,9 +186,9 @@ def check_text(runner, text, rng):
     """A damaged problem, where it has not become too great to list."""
     data = random_cases.damaged(rng, text.encode(), random_cases.TEXT_PIECES)
     try:
-        if len(plain.read_problem(data, (True, True, True)).names) > 6:
+        if len(texts.read_problem(data, (True, True, True)).names) > 6:
             return
-    except plain.Fault:
+    except texts.Fault:
         pass
     runner.hold("p", data)
     # the problem is judged before the script is read
@@ -206,7 +200,7 @@ def case(runner, rng):
     switches = random_cases.random_switches(rng)
     words = switch_words(switches)
     runner.hold("p", text.encode())
-    problem = plain.read_problem(text.encode(), switches).finish()
+    problem = texts.read_problem(text.encode(), switches).finish()
     requests = check_orders(runner, problem, words, rng)
     check_interleavings(runner, problem, words, rng)
     check_damaged(runner, problem, words, requests, rng)
@@ -230,12 +224,12 @@ def filled_to(size, line, last=b""):
 HOSTILE = [
     ("nothing", b""),
     ("blanks", b" \t \n\t\n   \n"),
-    ("as many blanks as may be", filled_to(plain_desk.MOST_BYTES, b"\n")),
-    ("a blank more", filled_to(plain_desk.MOST_BYTES + 1, b"\n")),
-    ("a last request that just fits", filled_to(plain_desk.MOST_BYTES, b" \t\n", LOOKED_AT)),
-    ("a last request that doesn't fit", filled_to(plain_desk.MOST_BYTES + 1, b" \t\n", LOOKED_AT)),
-    ("too long, and no script besides", b"x" * (plain_desk.MOST_BYTES + 1)),
-    ("a word as long as may be", b"x" * plain_desk.MOST_BYTES),
+    ("as many blanks as may be", filled_to(desk.MOST_BYTES, b"\n")),
+    ("a blank more", filled_to(desk.MOST_BYTES + 1, b"\n")),
+    ("a last request that just fits", filled_to(desk.MOST_BYTES, b" \t\n", LOOKED_AT)),
+    ("a last request that doesn't fit", filled_to(desk.MOST_BYTES + 1, b" \t\n", LOOKED_AT)),
+    ("too long, and no script besides", b"x" * (desk.MOST_BYTES + 1)),
+    ("a word as long as may be", b"x" * desk.MOST_BYTES),
     ("a slot of many digits", b"1" * 1_000_000 + b" open\n"),
     ("a slot of many zeros", b"0" * 1_000_000 + b"1 open\n"),
     ("very many words", b"1 " * 500_000 + b"\n"),
@@ -275,44 +269,26 @@ HOSTILE = [
 ]
 
 
-def check_hostile(runner):
-    runner.hold("p", HOSTILE_PROBLEM)
-    for name, data in HOSTILE:
-        try:
-            runner.script([], data)
-        except Difference as difference:
-            raise Difference(f"{name}: {str(difference)[:2000]}")
+def check_hostile(desk_program):
+    """The difference of the first of these scripts that is answered otherwise, or None."""
+    with DeskRunner(desk_program) as runner:
+        runner.hold("p", HOSTILE_PROBLEM)
+        for name, data in HOSTILE:
+            try:
+                runner.script([], data)
+            except Difference as difference:
+                return f"{name}: {str(difference)[:2000]}"
+    return None
 
 
 def main():
-    parser = argparse.ArgumentParser()
-    parser.add_argument("--cases", type=int, default=500)
-    parser.add_argument("--seed", type=int, default=1)
-    parser.add_argument("--tally", action="store_true", help="tell how often each reply and last line was compared")
-    parser.add_argument("program", nargs="?", default=os.path.join(HERE, "../crates/euler_desk/out/euler_desk"))
-    given = parser.parse_args()
-    if not os.access(given.program, os.X_OK):
-        print(f"desk: there is no program at {given.program}")
-        return 2
-    with tempfile.TemporaryDirectory() as folder:
-        runner, skipped, number = DeskRunner(given.program, folder), 0, "of hostile scripts"
-        try:
-            check_hostile(runner)
-            for number in range(given.cases):
-                try:
-                    case(runner, random.Random(f"{given.seed} {number}"))
-                except plain.TooMany:
-                    skipped += 1
-        except Difference as difference:
-            print(f"case {number} of seed {given.seed}: {difference}")
-            for name in ("p", "s"):
-                print(f"{name}:\n{(runner.bytes_of(name) or b'')[:4000].decode('utf-8', 'replace')}")
-            return 1
-        for answer, times in sorted(runner.answers.items()) if given.tally else []:
-            print(f"{times} {answer}")
-        told = f"{given.cases - skipped} cases, {len(HOSTILE)} hostile scripts, {runner.runs} runs: no difference"
-        print(f"desk: {told} ({skipped} left out, with too many nodes)")
-    return 0
+    given = harness.arguments(__doc__, "desk", count=500, seed=1, jobs=1, tally=False)
+    difference = check_hostile(given.desk)
+    if difference:
+        print(difference)
+        return 1
+    answers, told = try_cases(given, lambda folder: DeskRunner(given.desk, folder), case)
+    return tell(given, answers, told, f"{len(HOSTILE)} hostile scripts, ")
 
 
 if __name__ == "__main__":

@@ -1,0 +1,79 @@
+#!/usr/bin/env python3
+"""Revisions of small taxonomies, in which many statements leave relations open, so that a listing has to retreat: each problem's
+first worlds by the walk along a table beside those by the search that counts its nodes, and `mir` beside the letters of all worlds, where
+these are not too many.
+
+    tests/two_walks.py [--program PATH] [--count N] [--seed N]
+
+It ends with status 1 at the first difference, and shows it. Problems of which a walk takes over five seconds are left out and counted.
+"""
+
+import random
+import subprocess
+import sys
+
+import harness
+from small_runs import bench
+
+WORDS = ["", "coverage=off", "nonempty=off", "sibling=off"]
+
+
+def run(program, folder, *words):
+    """The lines that a run prints and its exit code, or none where it takes too long."""
+    try:
+        done = harness.run([program, *words], folder.path, seconds=5)
+    except subprocess.TimeoutExpired:
+        return None
+    return done.out.decode().splitlines(), done.code
+
+
+def sets_of(worlds, count):
+    """The relations that some world has, for each of the first pairs, in their order."""
+    found = [set() for _ in range(count)]
+    for world in worlds:
+        for pair in range(count):
+            found[pair].add(world[pair])
+    return ["".join(letter for letter in "=><x!" if letter in letters) for letters in found]
+
+
+def listed_so_far(counted, first):
+    """What a search lists that counts its nodes: where their limit was reached first, what it lists until then begins the same list."""
+    if counted is None or counted[0][-1] == first[0][-1] or counted[0][-1].startswith("complete"):
+        return counted
+    return first if counted[0][:-1] == first[0][: len(counted[0]) - 1] else counted
+
+
+def main():
+    given = harness.arguments(__doc__, "program", count=60, seed=1)
+    rng = random.Random(given.seed)
+    listed = walked = whole = left_out = 0
+    with harness.Folder() as folder:
+        for _ in range(given.count):
+            size = rng.choice([8, 10, 12, 16, 20])
+            lines = bench.revision(rng.randrange(10**6), size, rng.randint(1, 8), rng.uniform(0.6, 1.0), rng.uniform(0.2, 0.9))
+            folder.hold("p", "\n".join(lines) + "\n")
+            switch = [word for word in [rng.choice(WORDS)] if word]
+            limit = ["worlds=2000", "token=t"]
+            first = run(given.program, folder, "align", "in=p", *switch, *limit)
+            if first is None:
+                left_out += 1
+                continue
+            listed += 1
+            counted = run(given.program, folder, "align", "in=p", *switch, *limit, "nodes=300000")
+            walked += counted is not None and counted[0][-1] == first[0][-1]
+            told = same = None
+            if first[0][-1].startswith("complete"):
+                told = run(given.program, folder, "mir", "in=p", *switch)
+                told = told and [line.split(" ")[2].replace(".", "") for line in told[0][:-1]]
+                same = told and sets_of(first[0][:-1], len(told))
+                whole += 1
+            if told != same or listed_so_far(counted, first) not in (None, first):
+                print("\n".join(lines), switch, first[0][-1], counted and counted[0][-1], told, same, sep="\n")
+                return 1
+    told = f"{walked} of them by both walks to the same end, {whole} with the sets of mir, {left_out} left out"
+    print(f"two_walks: {listed} problems, {told}; no difference")
+    return 0 if listed else 1
+
+
+if __name__ == "__main__":
+    sys.exit(main())
