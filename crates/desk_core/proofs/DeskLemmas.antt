@@ -5,8 +5,6 @@ use Rattle.std.proofs.lemmas.List.{get_or-set_same, get_or-set_other, set-get_or
 use Rattle.std.proofs.lemmas.Bool.{cases_eq}
 use Rattle.world_model.specs.Problem.{Problem, pair_count}
 use Rattle.constraint_set.specs.Shape.{SameShape}
-use Rattle.point_query.specs.Asking.{AskerState}
-use Rattle.world_walk.specs.Walks.{FitsAsker}
 use Rattle.desk_script.specs.declared.requests.Act.{Act}
 use Rattle.desk_script.specs.declared.requests.Act.TheVariants.{Open, Keep, Narrow, Next, Close}
 use Rattle.desk_core.specs.declared.reply.Reply.{Reply}
@@ -64,10 +62,9 @@ module _ (p : Problem) (slots : List Slot) (k : ℕ) (act : Act) (reply : Reply)
     starved = λ starved. ap (λ (ss : List Slot). record { problem = p; slots = ss }) (ap (set slots k) (answer.starved starved) ∙ set-get_or slots k None);
   }
 
-  pub still_desk : (asker other : Option AskerState) → IsDesk p asker slots → k < length slots → FitsAsker p other → IsDesk p other (set slots k new)
-  still_desk asker other desk within fits = record {
+  pub still_desk : IsDesk p slots → k < length slots → IsDesk p (set slots k new)
+  still_desk desk within = record {
     counted = length-set slots k new ∙ desk.counted;
-    asker_fits = fits;
     shapes = λ i. by i (cases_eq i k);
   }
     where

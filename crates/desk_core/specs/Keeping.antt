@@ -4,10 +4,9 @@ use Rattle.rcc5_core.specs.declared.Rel.{Rel}
 use Rattle.world_model.specs.Problem.{Problem}
 use Rattle.world_model.specs.Family.{IsPossibleWorld}
 use Rattle.constraint_set.specs.Shape.{SameShape}
-use Rattle.point_query.specs.Asking.{AskerState}
 use Rattle.world_walk.specs.declared.walk.Walk.{Walk}
 use Rattle.world_walk.specs.ToCome.{IsFirstToCome, NoneToCome}
-use Rattle.world_walk.specs.Walks.{FitsAsker, IsWalk, StandsBehind}
+use Rattle.world_walk.specs.Walks.{IsWalk, StandsBehind}
 use Rattle.desk_core.specs.Slots.{OpenSlot, Slot}
 
 -- a walk for a problem that stands behind the last world
@@ -25,10 +24,9 @@ abbrev pub HasShape : Problem → Slot → Type 0
 HasShape p None = Unit {0}
 HasShape p (Some s) = SameShape s.problem p
 
--- a number for none and for each of sixteen slots, whose problems are of one shape, and the asker's too
-pub record IsDesk (p : Problem) (asker : Option AskerState) (slots : List Slot) : Type 0 where
+-- a number for none and for each of sixteen slots, whose problems are of one shape
+pub record IsDesk (p : Problem) (slots : List Slot) : Type 0 where
   pub counted : length slots ≡ 17
-  pub asker_fits : FitsAsker p asker
   pub shapes : (k : ℕ) → HasShape p (slice_index_or slots k None)
 
 -- the next world came, and is the last one now; or none is to come, and the slot stays

@@ -1,7 +1,6 @@
 //! What each act does to a slot.
 ghost use Rattle.std.specs.Prelude.{◌≡◌, ◌<◌, length, Some, None};
 ghost use Rattle.world_model.specs.Problem.{Problem, pair_count};
-ghost use Rattle.world_walk.specs.Walks.{FitsAsker};
 ghost use Rattle.desk_script.specs.Requests.{IsAct};
 ghost use Rattle.desk_script.specs.declared.requests.Act.TheVariants.{Open, Keep, Narrow, Next};
 ghost use Rattle.desk_core.specs.Desks.{IsAnswer};
@@ -11,7 +10,6 @@ use crate::reply::Reply;
 use crate::slot::OpenSlot;
 use constraint_set::Problem;
 use desk_script::{Act, Flags};
-use point_query::Asker;
 use rcc5_core::RelSet;
 use std::alloc::Global;
 
@@ -75,13 +73,11 @@ fn narrow(alloc: Global, slot: OpenSlot, pair: u32, set: RelSet) -> Answer
 }
 
 // An open slot shows the next world.
-fn show(alloc: Global, asker: &mut Option<Asker>, slot: OpenSlot) -> Answer
-    requires { FitsAsker slot.problem asker.old }
-    ensures asker { FitsAsker slot.problem asker.new }
-    ensures answer { (p : Problem) → IsAnswer p (Some slot) Next result.reply result.slot }
+fn show(alloc: Global, slot: OpenSlot) -> Answer
+    ensures { (p : Problem) → IsAnswer p (Some slot) Next result.reply result.slot }
 {
     let mut slot = slot;
-    match slot.next(alloc, asker) {
+    match slot.next(alloc) {
         Ok(Some(table)) => Answer {
             reply: Reply::World(table),
             slot: Some(slot),
@@ -114,15 +110,12 @@ fn at_closed(problem: &Problem, act: &Act) -> Answer
 fn at_open(
     alloc: Global,
     problem: &Problem,
-    asker: &mut Option<Asker>,
     slot: OpenSlot,
     act: &Act,
 ) -> Answer
     requires shape { HasShape problem.now (Some slot) }
     requires act { IsAct problem.now act.now }
-    requires asker { FitsAsker problem.now asker.old }
-    ensures asker { FitsAsker problem.now asker.new }
-    ensures answer { IsAnswer problem.now (Some slot) act.now result.reply result.slot }
+    ensures { IsAnswer problem.now (Some slot) act.now result.reply result.slot }
 {
     match act {
         Act::Open => Answer {
@@ -131,7 +124,7 @@ fn at_open(
         },
         Act::Keep(flags) => keep(alloc, slot, flags),
         Act::Narrow { pair, set } => narrow(alloc, slot, *pair, *set),
-        Act::Next => show(alloc, asker, slot),
+        Act::Next => show(alloc, slot),
         Act::Close => Answer {
             reply: Reply::Closed,
             slot: None,
@@ -143,18 +136,15 @@ fn at_open(
 pub(crate) fn act_on(
     alloc: Global,
     problem: &Problem,
-    asker: &mut Option<Asker>,
     slot: Option<OpenSlot>,
     act: &Act,
 ) -> Answer
     requires shape { HasShape problem.now slot }
     requires act { IsAct problem.now act.now }
-    requires asker { FitsAsker problem.now asker.old }
-    ensures asker { FitsAsker problem.now asker.new }
-    ensures answer { IsAnswer problem.now slot act.now result.reply result.slot }
+    ensures { IsAnswer problem.now slot act.now result.reply result.slot }
 {
     match slot {
         None => at_closed(problem, act),
-        Some(slot) => at_open(alloc, problem, asker, slot, act),
+        Some(slot) => at_open(alloc, problem, slot, act),
     }
 }

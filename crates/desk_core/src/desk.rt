@@ -8,7 +8,6 @@ use crate::reply::Reply;
 use crate::slot::OpenSlot;
 use constraint_set::Problem;
 use desk_script::DeskRequest;
-use point_query::Asker;
 use std::alloc::{AllocError, Global};
 use std::marker::Model;
 use std::mem;
@@ -18,10 +17,9 @@ const LAST_SLOT: usize = 16;
 
 /// Sixteen slots over one problem.
 ///
-/// They share the problem's concepts and statements, and an asker, which is made where a problem has too many points for a table.
+/// They share the problem's concepts and statements.
 pub struct Desk {
     problem: Problem,
-    asker: Option<Asker>,
     // By number; none has the number 0.
     slots: Vec<Option<OpenSlot>>,
     alloc: Global,
@@ -32,7 +30,6 @@ impl Drop for Desk {
     fn drop(self) {
         let Desk {
             problem: _,
-            asker: _,
             slots: _,
             alloc: _,
         } = self;
@@ -48,7 +45,7 @@ impl Model for Desk {
 
     ghost view = { λ s. record { problem = s.problem; slots = s.slots.items } };
 
-    ghost invariant = { λ s. IsDesk s.problem s.asker s.slots.items };
+    ghost invariant = { λ s. IsDesk s.problem s.slots.items };
 }
 
 // Puts a slot in a place, and gives the one that was there.
@@ -83,7 +80,6 @@ impl Desk {
         let slots = closed(alloc, LAST_SLOT + 1)?;
         Ok(Desk {
             problem,
-            asker: None,
             slots,
             alloc,
         })
@@ -96,13 +92,7 @@ impl Desk {
     {
         let place = request.slot as usize;
         let slot = exchange(&mut self.slots, place, None);
-        let Answer { reply, slot } = act_on(
-            self.alloc,
-            &self.problem,
-            &mut self.asker,
-            slot,
-            &request.act,
-        );
+        let Answer { reply, slot } = act_on(self.alloc, &self.problem, slot, &request.act);
         let _ = exchange(&mut self.slots, place, slot);
         reply
     }

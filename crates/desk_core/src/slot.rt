@@ -2,11 +2,9 @@
 ghost use Rattle.std.specs.Prelude.{◌≡◌, ◌<◌, length, None, IfOk, OnOk, OnErr};
 ghost use Rattle.world_model.specs.Problem.{pair_count, restricted, narrowed};
 ghost use Rattle.world_model.specs.Node.{pair_at};
-ghost use Rattle.world_walk.specs.Walks.{FitsAsker};
 ghost use Rattle.desk_core.specs.Keeping.{IsShown, IsWalkBehind};
 
 use constraint_set::Problem;
-use point_query::Asker;
 use rcc5_core::{Position, RelSet};
 use std::alloc::{AllocError, Global};
 use std::marker::Model;
@@ -80,19 +78,13 @@ impl OpenSlot {
     }
 
     /// Goes to the next world, if one is to come.
-    pub(crate) fn next(
-        &mut self,
-        alloc: Global,
-        asker: &mut Option<Asker>,
-    ) -> Result<Option<Position>, AllocError>
-        requires { FitsAsker self.old.problem asker.old }
-        ensures asker { FitsAsker self.old.problem asker.new }
+    pub(crate) fn next(&mut self, alloc: Global) -> Result<Option<Position>, AllocError>
         ensures shown { IfOk result (IsShown self.old self.new) }
         ensures starved { OnErr result (self.new ≡ self.old) }
     {
         // Without memory the walk is not put back, and the next one begins at the last world.
-        let mut walk = self.take_walk(alloc, asker)?;
-        match walk.next(alloc, &self.problem, asker)? {
+        let mut walk = self.take_walk(alloc)?;
+        match walk.next(alloc, &self.problem)? {
             Some(table) => {
                 let last = table.copy(alloc)?;
                 self.last = Some(last);
@@ -107,15 +99,13 @@ impl OpenSlot {
     }
 
     // The walk that was kept, or a new one behind the last world. The slot keeps none.
-    fn take_walk(&mut self, alloc: Global, asker: &mut Option<Asker>) -> Result<Walk, AllocError>
-        requires { FitsAsker self.old.problem asker.old }
-        ensures asker { FitsAsker self.old.problem asker.new }
+    fn take_walk(&mut self, alloc: Global) -> Result<Walk, AllocError>
         ensures same { self.new ≡ self.old }
         ensures walk { IfOk result (IsWalkBehind self.old.problem self.old.last) }
     {
         match self.walk.take() {
             Some(walk) => Ok(walk),
-            None => Walk::behind(alloc, &self.problem, asker, &self.last),
+            None => Walk::behind(alloc, &self.problem, &self.last),
         }
     }
 }

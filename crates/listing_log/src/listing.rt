@@ -1,5 +1,5 @@
-//! The listing of worlds on a sink, within a budget: by a table of all points where nobody counts nodes and nothing ends it, and
-//! else by the search.
+//! The listing of worlds on a sink, within a budget: along alive prefixes where nobody counts nodes and nothing ends it, and else by
+//! the search.
 ghost use Rattle.std.specs.Prelude.{◌≡◌, [], Some, IfOk, OnOk};
 ghost use Rattle.point_query.specs.Asking.{IsNewAsker};
 ghost use Rattle.world_search.specs.Searching.{begun};
@@ -188,8 +188,7 @@ pub(crate) fn put_logged_worlds<W: Sink, L: TreeLog>(
     put_found_worlds(alloc, out, plan, &mut asker, &mut search, log)
 }
 
-/// Puts the worlds of a plan with no log. Where nobody counts nodes, nothing ends the plan, and the problem has not too many points,
-/// a table of all points lists them.
+/// Puts the worlds of a plan with no log. Where nobody counts nodes and nothing ends the plan, a walk along alive prefixes lists them.
 #[tactic(auto, using(crate::proofs::ListingLemmas::partly_nothing))]
 pub(crate) fn put_worlds<W: Sink>(
     alloc: Global,

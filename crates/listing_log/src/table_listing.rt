@@ -1,4 +1,4 @@
-//! The listing of worlds by a table of all points, where nobody counts nodes and nothing ends the listing.
+//! The listing of worlds along alive prefixes, where nobody counts nodes and nothing ends the listing.
 ghost use Rattle.std.specs.Prelude.{◌≡◌, ◌≤◌, length, map, take, IfOk, IfSome, IfNone, OnOk};
 ghost use Rattle.rcc5_core.specs.Relation.{letter_of};
 ghost use Rattle.world_model.specs.Family.{IsPossibleWorld};
@@ -16,7 +16,7 @@ use std::alloc::{AllocError, Global};
 use table_walk::Tables;
 use world_search::{is_spent, node_behind, one_less};
 
-/// A table for a plan, if nothing ends it, nobody counts nodes, a world may be put, and the problem has not too many points.
+/// The worlds of a plan, if nothing ends it, nobody counts nodes, and a world may be put.
 pub(crate) fn tables_for(alloc: Global, plan: &ListingPlan) -> Result<Option<Tables>, AllocError>
     requires { IsPlan plan.now }
     ensures { IfOk result (λ found. IfSome found (AreTablesFor plan.now)) }
@@ -24,7 +24,8 @@ pub(crate) fn tables_for(alloc: Global, plan: &ListingPlan) -> Result<Option<Tab
     if plan.end.is_some() || plan.nodes.is_some() || is_spent(plan.worlds) {
         return Ok(None);
     }
-    Tables::new(alloc, &plan.problem, &plan.start)
+    let tables = Tables::new(alloc, &plan.problem, &plan.start)?;
+    Ok(Some(tables))
 }
 
 // Makes the line of a world from one that begins with so many of its letters.

@@ -1,4 +1,4 @@
-//! The possible worlds of a problem one after the other, along the prefixes that a table of all points shows to be alive.
+//! The possible worlds of a problem one after the other, along prefixes that are alive.
 #![tactic(auto)]
 
 mod retreat;

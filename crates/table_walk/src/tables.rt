@@ -11,7 +11,7 @@ use rcc5_core::{Position, Rel};
 use std::alloc::{AllocError, Global};
 use std::marker::Model;
 
-/// The possible worlds of a problem, one after the other, by a table of all its points.
+/// The possible worlds of a problem, one after the other, by a table of all its points, or by questions where these are too many.
 ///
 /// It stands at one world at a time. Neither nodes nor families are told; what a step costs depends on the pairs that it
 /// passes, and on the points that a relation takes away.
@@ -33,20 +33,15 @@ impl Model for Tables {
 }
 
 impl Tables {
-    /// Stands before the first world from a position on. None where the problem has too many points for a table, or they take
-    /// too long to find.
-    pub fn new(
-        alloc: Global,
-        problem: &Problem,
-        from: &Position,
-    ) -> Result<Option<Tables>, AllocError>
+    /// Stands before the first world from a position on.
+    pub fn new(alloc: Global, problem: &Problem, from: &Position) -> Result<Tables, AllocError>
         requires { length from.now ≤ pair_count problem.now }
-        ensures { IfOk result (λ o. IfSome o (IsNewListing problem.now from.now)) }
+        ensures { IfOk result (IsNewListing problem.now from.now) }
     {
         let ladder = AlivePath::new(alloc, problem)?;
         let way = way_from(alloc, ladder, from)?;
         let problem = problem.copy()?;
-        Ok(Some(Tables { problem, way }))
+        Ok(Tables { problem, way })
     }
 
     /// Goes to the next world, if there is one, and tells how many of its first relations are those of the world that was told

@@ -1,4 +1,4 @@
--- What the steps of either kind of walk give.
+-- What the steps of a walk give.
 use Rattle.std.proofs.Common.{◌≡◌, ℕ, not, List, [], ◌∷◌, sym, ap, ◌∙◌, subst, IsTrue}
 use Rattle.std.specs.Prelude.{◌↔◌, Option, Some, None}
 use Rattle.std.proofs.lemmas.Bool.{not_from_false}
@@ -9,9 +9,7 @@ use Rattle.world_model.specs.Listing.{is_below, is_before_end}
 use Rattle.world_model.proofs.OrderPositions.{below_itself}
 use Rattle.table_walk.specs.Ahead.{IsOnward, Lists}
 use Rattle.table_walk.specs.Tables.{TablesState, IsNewListing, IsAtWorld, PassedTold}
-use Rattle.world_search.specs.Searching.{SearchState, Passes, Came, last_place}
 use Rattle.world_walk.specs.declared.walk.Walk.{Walk}
-use Rattle.world_walk.specs.declared.walk.Walk.TheVariants.{ByTable, BySearch}
 use Rattle.world_walk.specs.ToCome.{IsFrom, IsLeftAt, Comes, IsFirstToCome, NoneToCome}
 use Rattle.world_walk.specs.Walks.{IsLeft, IsNext, StandsBefore, StandsBehind}
 use Rattle.world_walk.proofs.LeftLemmas.{left_passed, told_comes, passed_comes, behind_comes, begun_comes, begun_left, none_left, front_behind}
@@ -27,23 +25,11 @@ comes_same before other after t same comes = record {
   );
 }
 
--- what a search passes stands between its places
-lists_of : (p : Problem) (one other : Option (List Rel)) (nodes worlds : List (List Rel)) → Passes p one other nodes worlds → Lists p one other worlds
-lists_of p None other nodes worlds passes = (passes.0, passes.2)
-lists_of p (Some one) other nodes worlds between = record { onward = onward other between.onward; exactly = between.worlds_are }
-  where
-    onward : (o : Option (List Rel)) → ((m : List Rel) → IsTrue (not (is_before_end m o)) → IsTrue (not (is_below m one))) → IsOnward one o
-    onward None each = tt
-    onward (Some end) each = each end (not_from_false (is_below end end) (below_itself end))
-
-came_lists : (p : Problem) (one other : SearchState) (before left : Option ℕ) (worlds : List (List Rel)) → one.problem ≡ p → Came one other before left worlds → Lists p one.at other.at worlds
-came_lists p one other before left worlds same came = lists_of p one.at other.at came.nodes worlds (subst (λ q. Passes q one.at other.at came.nodes worlds) same came.passed)
-
 passed_for : (p : Problem) (old new : TablesState) → old.problem ≡ p → PassedTold old new → Lists p old.at new.at old.told
 passed_for p old new same passed = subst (λ q. Lists q old.at new.at old.told) same passed.passed
 
 -- a table stands at the next world
-pub table_next : (p : Problem) (old new : TablesState) (t : List Rel) → old.problem ≡ p → PassedTold old new → IsAtWorld new → new.told ≡ t ∷ [] → IsNext p (ByTable old) (ByTable new) (Some t)
+pub table_next : (p : Problem) (old new : TablesState) (t : List Rel) → old.problem ≡ p → PassedTold old new → IsAtWorld new → new.told ≡ t ∷ [] → IsNext p (record { tables = old }) (record { tables = new }) (Some t)
 table_next p old new t same passed at told = comes_same (IsLeftAt p old.at old.told) (IsLeftAt p new.at []) (IsLeftAt p new.at new.told) t (left_passed p old.at new.at old.told (passed_for p old new same passed)) first
   where
     one : at.table ≡ t
@@ -58,22 +44,8 @@ table_next p old new t same passed at told = comes_same (IsLeftAt p old.at old.t
     first : Comes (IsLeftAt p new.at []) (IsLeftAt p new.at new.told) t
     first = subst (λ o. Comes (IsLeftAt p o []) (IsLeftAt p o new.told) t) (sym stands) (subst (λ ts. Comes (IsLeftAt p (Some t) []) (IsLeftAt p (Some t) ts) t) (sym told) (told_comes p t world))
 
--- a search that passed a world gives it
-pub search_next : (p : Problem) (old new : SearchState) (left : Option ℕ) (t : List Rel) → old.problem ≡ p → Came old new None left (t ∷ []) → IsNext p (BySearch old) (BySearch new) (Some t)
-search_next p old new left t same came = passed_comes p old.at new.at t (came_lists p old new None left (t ∷ []) same came)
-
--- a search without an end that is at its end passed all worlds
-pub search_over : (p : Problem) (old new : SearchState) (left : Option ℕ) → old.problem ≡ p → new.to ≡ None → Came old new None left [] → new.at ≡ last_place new.from new.to → IsNext p (BySearch old) (BySearch new) None
-search_over p old new left same unbounded came end = (
-  none_left p old.at [] (subst (λ o. Lists p old.at o []) over (came_lists p old new None left [] same came)),
-  λ t there. subst (λ o. IsFrom o t) over there.from,
-)
-  where
-    over : new.at ≡ None
-    over = end ∙ ap (last_place new.from) unbounded
-
--- where a walk by a table begins
-pub table_before : (p : Problem) (from : List Rel) (s : TablesState) → IsNewListing p from s → StandsBefore p from (ByTable s)
+-- where a walk begins
+pub table_before : (p : Problem) (from : List Rel) (s : TablesState) → IsNewListing p from s → StandsBefore p from (record { tables = s })
 table_before p from s new = subst (λ ts. (u : List Rel) → IsLeftAt p s.at ts u ↔ (IsPossibleWorld p u × IsFrom (Some from) u)) (sym new.untold) (begun_left p from s.at new.passed)
 
 -- where a walk stands behind a world, its next step gives the first world to come, and it stands behind that

@@ -1,28 +1,18 @@
 -- A walk along the worlds of a problem, and what a step of it gives.
-use Rattle.std.specs.Prelude.{◌≡◌, ◌↔◌, List, [], Option, Some, None}
+use Rattle.std.specs.Prelude.{◌≡◌, ◌↔◌, List, Option, Some, None}
 use Rattle.rcc5_core.specs.declared.Rel.{Rel}
 use Rattle.world_model.specs.Problem.{Problem}
 use Rattle.world_model.specs.Family.{IsPossibleWorld}
-use Rattle.constraint_set.specs.Shape.{shape_of}
-use Rattle.point_query.specs.Asking.{AskerState}
 use Rattle.world_walk.specs.declared.walk.Walk.{Walk}
-use Rattle.world_walk.specs.declared.walk.Walk.TheVariants.{ByTable, BySearch}
 use Rattle.world_walk.specs.ToCome.{IsFrom, IsLeftAt, IsToCome, Comes}
 
--- an asker, if there is one, is of the problem's shape
-abbrev pub FitsAsker : Problem → Option AskerState → Type 0
-FitsAsker p None = Unit {0}
-FitsAsker p (Some asker) = asker.shape ≡ shape_of p
-
--- a walk is one for a problem, and goes on to its last world
+-- a walk is one for a problem
 abbrev pub IsWalk : Problem → Walk → Type 0
-IsWalk p (ByTable s) = s.problem ≡ p
-IsWalk p (BySearch s) = (s.problem ≡ p) × (s.to ≡ None)
+IsWalk p walk = walk.tables.problem ≡ p
 
 -- a world is left to a walk
 abbrev pub IsLeft : Problem → Walk → List Rel → Type 0
-IsLeft p (ByTable s) = IsLeftAt p s.at s.told
-IsLeft p (BySearch s) = IsLeftAt p s.at []
+IsLeft p walk = IsLeftAt p walk.tables.at walk.tables.told
 
 -- just the worlds from a position on are left
 abbrev pub StandsBefore : Problem → List Rel → Walk → Type 0

@@ -1,7 +1,6 @@
 //! A walk along the possible worlds of a problem, in order, from any of them on.
 #![tactic(auto)]
 
-mod steps;
 mod walk;
 
 pub use walk::Walk;

@@ -2,32 +2,17 @@
 ghost use Rattle.std.specs.Prelude.{◌≤◌, length, IfOk, IfSome};
 ghost use Rattle.world_model.specs.Problem.{pair_count};
 ghost use Rattle.world_model.specs.Family.{IsPossibleWorld};
-ghost use Rattle.world_walk.specs.Walks.{FitsAsker, IsWalk, StandsBefore, StandsBehind, IsNext};
+ghost use Rattle.world_walk.specs.Walks.{IsWalk, StandsBefore, StandsBehind, IsNext};
 
-use crate::steps::{next_found, next_told};
 use constraint_set::Problem;
-use point_query::Asker;
-use rcc5_core::Position;
+use rcc5_core::{Position, Rel};
 use std::alloc::{AllocError, Global};
 use table_walk::Tables;
-use world_search::Search;
 
 /// A walk along the possible worlds of a problem, in order.
-pub enum Walk {
-    /// By a table of all points of the problem.
-    ByTable(Tables),
-    /// By questions, where the problem has too many points for a table.
-    BySearch(Search),
-}
-
-// Written out, so that letting one go is a call.
-impl Drop for Walk {
-    fn drop(self) {
-        match self {
-            Walk::ByTable(_) => {}
-            Walk::BySearch(_) => {}
-        }
-    }
+#[derive(Drop)]
+pub struct Walk {
+    pub tables: Tables,
 }
 
 impl Walk {
@@ -37,26 +22,17 @@ impl Walk {
         ensures walk { IfOk result (IsWalk problem.now) }
         ensures before { IfOk result (StandsBefore problem.now from.now) }
     {
-        match Tables::new(alloc, problem, from)? {
-            Some(tables) => Ok(Walk::ByTable(tables)),
-            None => {
-                let from = from.copy(alloc)?;
-                let search = Search::without_table(alloc, problem, from, None)?;
-                Ok(Walk::BySearch(search))
-            }
-        }
+        let tables = Tables::new(alloc, problem, from)?;
+        Ok(Walk { tables })
     }
 
     /// A walk that goes on behind a world, or from the front where there is none yet.
     pub fn behind(
         alloc: Global,
         problem: &Problem,
-        asker: &mut Option<Asker>,
         last: &Option<Position>,
     ) -> Result<Walk, AllocError>
-        requires asker { FitsAsker problem.now asker.old }
-        requires world { IfSome last.now (IsPossibleWorld problem.now) }
-        ensures asker { FitsAsker problem.now asker.new }
+        requires { IfSome last.now (IsPossibleWorld problem.now) }
         ensures walk { IfOk result (IsWalk problem.now) }
         ensures behind { IfOk result (StandsBehind problem.now last.now) }
     {
@@ -68,29 +44,39 @@ impl Walk {
             }
             Some(last) => {
                 let mut walk = Walk::from(alloc, problem, last)?;
-                let _ = walk.next(alloc, problem, asker)?;
+                let _ = walk.next(alloc, problem)?;
                 Ok(walk)
             }
         }
     }
 
-    /// The next world, if one is left. It needs the problem that the walk was made of. The asker is made where one is needed and
-    /// there is none.
+    /// The next world, if one is left. It needs the problem that the walk was made of.
     pub fn next(
         &mut self,
         alloc: Global,
         problem: &Problem,
-        asker: &mut Option<Asker>,
     ) -> Result<Option<Position>, AllocError>
-        requires walk { IsWalk problem.now self.old }
-        requires asker { FitsAsker problem.now asker.old }
+        requires { IsWalk problem.now self.old }
         ensures walk { IsWalk problem.now self.new }
-        ensures asker { FitsAsker problem.now asker.new }
         ensures next { IfOk result (IsNext problem.now self.old self.new) }
     {
-        match self {
-            Walk::ByTable(tables) => next_told(alloc, problem, tables),
-            Walk::BySearch(search) => next_found(alloc, problem, asker, search),
+        match self.tables.next()? {
+            Some(_) => {
+                let table = position_of(alloc, self.tables.table())?;
+                Ok(Some(table))
+            }
+            None => Ok(None),
         }
     }
+}
+
+// A table as a position.
+fn position_of(alloc: Global, table: &[Rel]) -> Result<Position, AllocError>
+    ensures { IfOk result (λ position. position ≡ table.now) }
+{
+    let mut position = Position::new(alloc);
+    for rel in table {
+        position.push(*rel)?;
+    }
+    Ok(position)
 }

@@ -15,10 +15,10 @@ invariant_of-self c =
     let new = c.act_on-reply.result.slot in
     let put : c.exchange.new.slots.items ≡ set slots k new = c.exchange.ensures.now ∙ ap (λ ss. set ss k new) c.exchange-slot.ensures.now ∙ set-set slots k None new in
     let answer : IsAnswer p (get_or slots k None) c.args.request.now.act c.act_on-reply.result.reply new =
-    subst (λ s. IsAnswer p s c.args.request.now.act c.act_on-reply.result.reply new) c.exchange-slot.ensures.was c.act_on-reply.ensures.answer in
+    subst (λ s. IsAnswer p s c.args.request.now.act c.act_on-reply.result.reply new) c.exchange-slot.ensures.was c.act_on-reply.ensures in
     let within : k < length slots = omega (arith, c.requires.last, c.self.invariant.counted) in
-    subst (IsDesk p c.act_on-reply.new.asker) (sym put)
-    (still_desk p slots k c.args.request.now.act c.act_on-reply.result.reply new answer c.self.inside.asker c.act_on-reply.new.asker c.self.invariant within c.act_on-reply.ensures.asker)
+    subst (IsDesk p) (sym put)
+    (still_desk p slots k c.args.request.now.act c.act_on-reply.result.reply new answer c.self.invariant within)
 
 pub returns : goal.returns
 returns c =
@@ -29,7 +29,7 @@ returns c =
     let new = c.act_on-reply.result.slot in
     let put : c.exchange.new.slots.items ≡ set slots request.slot new =
     c.exchange.ensures.now ∙ ap (λ ss. set ss request.slot new) c.exchange-slot.ensures.now ∙ set-set slots request.slot None new in
-    let answer : IsAnswer p (get_or slots request.slot None) request.act reply new = subst (λ s. IsAnswer p s request.act reply new) c.exchange-slot.ensures.was c.act_on-reply.ensures.answer in
+    let answer : IsAnswer p (get_or slots request.slot None) request.act reply new = subst (λ s. IsAnswer p s request.act reply new) c.exchange-slot.ensures.was c.act_on-reply.ensures in
     let within : request.slot < length slots = omega (arith, c.requires.last, c.self.invariant.counted) in
     subst (λ (d : DeskState). IsExchange d request reply (record { problem = p; slots = c.exchange.new.slots.items })) c.self.view_is
     (subst (λ (ss : List Slot). IsExchange (record { problem = p; slots = slots }) request reply (record { problem = p; slots = ss })) (sym put)

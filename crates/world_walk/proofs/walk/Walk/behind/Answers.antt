@@ -15,6 +15,6 @@ returns-in_ok-walk-in-None-clause-behind c =
 pub returns-in_ok-next-in-Some-clause-behind : goal.returns-in_ok-next-in-Some-clause-behind
 returns-in_ok-next-in-Some-clause-behind c =
     let p = c.args.problem.now in
-    let world : IsPossibleWorld p c.in-Some.last = subst (λ o. IfSome o (IsPossibleWorld p)) c.in-Some.is c.requires.world in
+    let world : IsPossibleWorld p c.in-Some.last = subst (λ o. IfSome o (IsPossibleWorld p)) c.in-Some.is c.requires in
     subst (λ o. StandsBehind p o c.next.new.self) (sym c.in-Some.is)
     (begins_behind p c.in-Some.last c.in_ok-walk-in-Some.walk c.next.new.self c.in_ok-next-in-Some.field-0 world c.in_ok-walk-in-Some.ensures.before c.in_ok-next-in-Some.ensures.next)

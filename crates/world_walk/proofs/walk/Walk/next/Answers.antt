@@ -1,14 +1,12 @@
-use Rattle.std.proofs.Common.{sym, subst}
-use Rattle.std.specs.Prelude.{IfOk}
-use Rattle.world_walk.specs.declared.walk.Walk.{Walk}
-use Rattle.world_walk.specs.declared.walk.Walk.TheVariants.{ByTable, BySearch}
-use Rattle.world_walk.specs.Walks.{IsNext}
+use Rattle.std.proofs.Common.{◌≡◌, ◌∙◌, [], ◌∷◌, sym, ap, subst}
+use Rattle.std.specs.Prelude.{IfSome}
+use Rattle.table_walk.specs.Tables.{IsAtWorld}
+use Rattle.world_walk.proofs.WalkLemmas.{table_next}
 use Rattle.world_walk.proofs.walk.Walk.next.Goals as goal
 
-pub returns-in-ByTable-clause-next : goal.returns-in-ByTable-clause-next
-returns-in-ByTable-clause-next c =
-    subst (λ (w : Walk). IfOk c.next_told.result (IsNext c.args.problem.now w (ByTable c.next_told.new.tables))) (sym c.in-ByTable.is) c.next_told.ensures.next
-
-pub returns-in-BySearch-clause-next : goal.returns-in-BySearch-clause-next
-returns-in-BySearch-clause-next c =
-    subst (λ (w : Walk). IfOk c.next_found.result (IsNext c.args.problem.now w (BySearch c.next_found.new.search))) (sym c.in-BySearch.is) c.next_found.ensures.next
+pub returns-in_ok-table-in-Some-clause-next : goal.returns-in_ok-table-in-Some-clause-next
+returns-in_ok-table-in-Some-clause-next c =
+    let new = c.next.new.self in
+    let at : IsAtWorld new = subst (λ o. IfSome o (λ _. IsAtWorld new)) c.in-Some.is c.in_ok-next.ensures.world in
+    let told : new.told ≡ c.in_ok-table-in-Some.table ∷ [] = c.table.ensures ∙ ap (λ t. t ∷ []) (sym c.in_ok-table-in-Some.ensures) in
+    table_next c.args.problem.now c.args.self.now.tables new c.in_ok-table-in-Some.table c.requires c.in_ok-next.ensures.passed at told
