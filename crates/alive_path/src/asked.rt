@@ -139,7 +139,12 @@ impl Asked {
     {
         let kept = self.looker.take();
         let mut looker = ready(self.alloc, &self.problem, kept)?;
-        let none = lies_none(self.alloc, &self.problem, &self.path.rels()[..len], &mut looker)?;
+        let none = lies_none(
+            self.alloc,
+            &self.problem,
+            &self.path.rels()[..len],
+            &mut looker,
+        )?;
         self.looker = Some(looker);
         Ok(none)
     }

@@ -45,7 +45,6 @@ pub struct AlivePath {
 
 impl Model for AlivePath {
     ghost use Rattle.point_ladder.specs.Ladders.{LadderState};
-
     ghost use Rattle.alive_path.specs.Asked.{state_of};
 
     ghost Value = { LadderState };

@@ -107,12 +107,7 @@ fn at_closed(problem: &Problem, act: &Act) -> Answer
 }
 
 // What an open slot answers.
-fn at_open(
-    alloc: Global,
-    problem: &Problem,
-    slot: OpenSlot,
-    act: &Act,
-) -> Answer
+fn at_open(alloc: Global, problem: &Problem, slot: OpenSlot, act: &Act) -> Answer
     requires shape { HasShape problem.now (Some slot) }
     requires act { IsAct problem.now act.now }
     ensures { IsAnswer problem.now (Some slot) act.now result.reply result.slot }
@@ -133,12 +128,7 @@ fn at_open(
 }
 
 /// What a slot answers.
-pub(crate) fn act_on(
-    alloc: Global,
-    problem: &Problem,
-    slot: Option<OpenSlot>,
-    act: &Act,
-) -> Answer
+pub(crate) fn act_on(alloc: Global, problem: &Problem, slot: Option<OpenSlot>, act: &Act) -> Answer
     requires shape { HasShape problem.now slot }
     requires act { IsAct problem.now act.now }
     ensures { IsAnswer problem.now slot act.now result.reply result.slot }

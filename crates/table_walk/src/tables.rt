@@ -5,8 +5,8 @@ ghost use Rattle.table_walk.specs.Tables.{IsNewListing, IsAtWorld, PassedTold, K
 
 use crate::start::way_from;
 use crate::way::{Way, next_world};
-use constraint_set::Problem;
 use alive_path::AlivePath;
+use constraint_set::Problem;
 use rcc5_core::{Position, Rel};
 use std::alloc::{AllocError, Global};
 use std::marker::Model;

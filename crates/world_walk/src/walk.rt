@@ -51,11 +51,7 @@ impl Walk {
     }
 
     /// The next world, if one is left. It needs the problem that the walk was made of.
-    pub fn next(
-        &mut self,
-        alloc: Global,
-        problem: &Problem,
-    ) -> Result<Option<Position>, AllocError>
+    pub fn next(&mut self, alloc: Global, problem: &Problem) -> Result<Option<Position>, AllocError>
         requires { IsWalk problem.now self.old }
         ensures walk { IsWalk problem.now self.new }
         ensures next { IfOk result (IsNext problem.now self.old self.new) }
