@@ -1,11 +1,9 @@
 //! A search for a point in a need, or for clauses that show that there is none.
 use crate::board::{Board, Mark, Why};
 use crate::given::Given;
-use crate::places::Places;
 use crate::rules::Rules;
 use crate::shown::{Hint, Step, Terms, step_of};
 use constraint_set::Problem;
-use lits_core::Bits;
 use point_encode::Need;
 use rcc5_core::Rel;
 use std::alloc::{AllocError, Global};
@@ -39,12 +37,9 @@ struct Desk {
 }
 
 /// Searches for points of a problem at a path that grows and shrinks, by rows of bits.
-///
-/// It notes the points that were found too, by their places, and which of them were struck out at which length of the path.
 pub struct Drafts {
     desk: Option<Desk>,
     asked: u32,
-    places: Places,
     alloc: Global,
 }
 
@@ -54,7 +49,6 @@ impl Drop for Drafts {
         let Drafts {
             desk: _,
             asked: _,
-            places: _,
             alloc: _,
         } = self;
     }
@@ -257,49 +251,15 @@ impl Drafts {
         Drafts {
             desk: None,
             asked: 0,
-            places: Places::new(alloc),
             alloc,
         }
     }
 
-    /// The path is taken back to its first relations, and what was struck out beyond them is a point again.
+    /// The path is taken back to its first relations.
     pub fn back_to(&mut self, count: usize) {
-        self.places.back_to(count);
         if let Some(desk) = &mut self.desk {
             desk.rules.back_to(count);
         }
-    }
-
-    /// Forgets the problem and its path. The points that were noted stay, and none of them is struck out.
-    pub fn forget_problem(&mut self) {
-        self.desk = None;
-        self.asked = 0;
-        self.places.free_all();
-    }
-
-    /// Notes a point by its place.
-    pub fn note(&mut self, place: usize, bits: &Bits) -> Result<(), AllocError> {
-        self.places.add(place, bits)
-    }
-
-    /// The point at a place is struck out where the path has this length.
-    pub fn strike(&mut self, place: usize, length: usize) -> Result<(), AllocError> {
-        self.places.strike(place, length)
-    }
-
-    /// All points that two concepts have or have not, as is said, are struck out where the path is empty.
-    pub fn strike_all(&mut self, one: (u32, bool), other: (u32, bool)) -> Result<(), AllocError> {
-        self.places.strike_all(one, other, 0)
-    }
-
-    /// Whether the point at a place is not struck out.
-    pub fn is_live(&self, place: usize) -> bool {
-        self.places.is_live(place)
-    }
-
-    /// The first place of a point, not struck out, that a concept has, and that the other one has or has not, as is said.
-    pub fn find(&self, concept: u32, other: Option<(u32, bool)>) -> Option<usize> {
-        self.places.find(concept, other)
     }
 
     /// A point in a need at a path of a problem, or clauses that show that there is none, or nothing.

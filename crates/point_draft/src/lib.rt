@@ -1,10 +1,9 @@
-//! Hints by rows of bits: what follows from a need, so that it has no point or this one, and which points that were found lie in it.
+//! Hints by rows of bits: what follows from a need, so that it has no point or this one.
 #![tactic(auto)]
 
 mod board;
 mod drafts;
 mod given;
-mod places;
 mod row;
 mod rules;
 mod shown;

@@ -15,22 +15,6 @@ impl Row {
         Ok(Row { words })
     }
 
-    // Without room.
-    pub(crate) fn empty(alloc: Global) -> Row {
-        Row {
-            words: Vec::new(alloc),
-        }
-    }
-
-    // Sets a bit, for which there is room then.
-    pub(crate) fn put(&mut self, place: usize) -> Result<(), AllocError> {
-        for _word in self.words.len()..=place / 64 {
-            self.words.push(0)?;
-        }
-        self.set(place);
-        Ok(())
-    }
-
     pub(crate) fn words(&self) -> &[u64] {
         &self.words
     }

@@ -1,14 +1,14 @@
 -- Words of the places that two concepts have or lack.
-use Rattle.std.proofs.Common.{◌≡◌, ◌≢◌, ℕ, ◌+◌, ◌-◌, ◌*◌, ◌/◌, ◌%◌, ◌^◌, ◌<◌, ◌≤◌, ◌⊎◌, Bool, true, false, not, ◌&&◌, inl, inr, List, [], ◌∷◌, ◌++◌, length, get_or, refl, sym, ap, ◌∙◌, subst, arith}
+use Rattle.std.proofs.Common.{◌≡◌, ◌≢◌, ℕ, ◌+◌, ◌-◌, ◌*◌, ◌^◌, ◌<◌, ◌≤◌, Bool, true, false, not, ◌&&◌, inl, inr, List, [], length, get_or, refl, sym, ap, ◌∙◌, arith}
 use Rattle.std.specs.Prelude.{if◌then◌else◌, ◌==◌}
 use Rattle.std.specs.Int.{bit_not, trailing_zeros, w64}
 use Rattle.std.specs.Int.Bits.{bit_and}
-use Rattle.std.proofs.lemmas.Bool.{cases_Bool, cases_eq, cases_lt, and_parts, true≢false}
+use Rattle.std.proofs.lemmas.Bool.{cases_Bool, cases_lt, and_parts, true≢false}
 use Rattle.std.proofs.lemmas.Nat.Bits.{bit_at-trailing_zeros}
 use Rattle.bit_rows.specs.Rows.{word_bit, has_bit, SomePlace}
 use Rattle.bit_rows.proofs.WordBits.{word_and, word_not, word_zero, has_at, has_past, NoneBelow}
 use Rattle.world_model.specs.Alive.{bit_of, point_at}
-use Rattle.point_places.specs.Places.{AreTold, PlaceState, IsNextMet, IsStruck, is_as, are_as, meets, shows_at}
+use Rattle.point_places.specs.Places.{AreTold, PlaceState, IsNextMet, is_as, are_as, meets, shows_at}
 
 -- a concept's row says which points it has
 pub side_on : (points : List (List Bool)) (rows : List (List ℕ)) (live : List ℕ) (side : ℕ × Bool) (at word : ℕ) → AreTold points rows live → side.0 < length rows → word ≡ get_or (get_or rows side.0 []) at 0 →

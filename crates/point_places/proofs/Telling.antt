@@ -1,10 +1,7 @@
 -- What the rows tell of points as one is added.
-use Rattle.std.proofs.Common.{◌≡◌, ◌≢◌, ℕ, ◌+◌, ◌*◌, ◌<◌, ◌≤◌, Bool, true, false, inl, inr, List, [], ◌∷◌, ◌++◌, length, get_or, refl, sym, ap, ◌∙◌, subst, arith}
-use Rattle.std.proofs.lemmas.Bool.{cases_eq, cases_lt}
-use Rattle.std.proofs.lemmas.List.{length-append, get_or_append_left, get_or_push}
+use Rattle.std.proofs.Common.{◌≡◌, ◌≢◌, ℕ, ◌≤◌, Bool, List, [], length, get_or, sym, ◌∙◌, arith}
 use Rattle.bit_rows.specs.Rows.{has_bit}
-use Rattle.world_model.specs.Alive.{bit_of, point_at}
-use Rattle.point_places.specs.Places.{AreTold, IsChanged}
+use Rattle.point_places.specs.Places.{AreTold}
 
 -- rows that changed at no place of a point
 pub told_kept : (points : List (List Bool)) (rows new : List (List ℕ)) (live now : List ℕ) (place : ℕ) → AreTold points rows live → place ≡ length points →

@@ -1,6 +1,6 @@
 -- Points by their places: which of them are live, and which are used.
 use Rattle.bit_rows.specs.Rows.{has_bit}
-use Rattle.std.specs.Prelude.{Bool, List, false, if◌then◌else◌, length, not, slice_index_or, true, ℕ, ◌&&◌, ◌+◌, ◌*◌, ◌++◌, ◌<◌, ◌∷◌, [], ◌≡◌, ◌≢◌, ◌≤◌}
+use Rattle.std.specs.Prelude.{Bool, List, false, if◌then◌else◌, length, not, slice_index_or, true, ℕ, ◌&&◌, ◌*◌, ◌++◌, ◌<◌, ◌∷◌, [], ◌≡◌, ◌≢◌, ◌≤◌}
 use Rattle.world_model.specs.Alive.{bit_of, point_at}
 
 -- one bit of a row is set as is said

@@ -42,7 +42,7 @@ all_false n place = by (cases_lt place n)
     by (inr past) = get_or_past (replicate n false) place false (omega (arith, length-replicate n false))
 
 -- no points serve no needs
-pub none_gathered : (w : Pool) (list : List (List Bool)) (taken : List Bool) → list ≡ [] → length taken ≡ length w.points.items → ((place : ℕ) → get_or taken place false ≡ false) → AreGathered w 0 list taken
+pub none_gathered : (w : Pool) (list : List (List Bool)) (taken : List Bool) → list ≡ [] → length taken ≡ length w.places.points → ((place : ℕ) → get_or taken place false ≡ false) → AreGathered w 0 list taken
 none_gathered w list taken none counted all = record {
   counted = counted;
   there = λ place h. absurd (false≢true (sym (all place) ∙ h));
@@ -65,8 +65,8 @@ pub gathered_taken : (w : Pool) (n place : ℕ) (list : List (List Bool)) (taken
 gathered_taken w n place list taken is none within needed at marked gathered =
     let q = problem_at w.cursor.problem w.cursor.path in
     let has = served_point w n (get_or w.witness.items n 0) is.kept (served_now w n is none within needed) in
-    let bits = point_at w.points.items place in
-    let inside : is_in_need (need_at q n) bits ≡ true = subst (λ k. is_in_need (need_at q n) (point_at w.points.items k) ≡ true) (sym at) has.1 in
+    let bits = point_at w.places.points place in
+    let inside : is_in_need (need_at q n) bits ≡ true = subst (λ k. is_in_need (need_at q n) (point_at w.places.points k) ≡ true) (sym at) has.1 in
     let old = gathered.serving in
     record {
       counted = gathered.counted;
@@ -80,20 +80,20 @@ gathered_taken w n place list taken is none within needed at marked gathered =
 
 -- a need whose witness is added
 pub gathered_more : (w : Pool) (n place : ℕ) (bits : List Bool) (list new : List (List Bool)) (taken : List Bool) → IsPool w → w.waiting ≡ [] → n < need_count w.cursor.problem →
-    is_needed (problem_at w.cursor.problem w.cursor.path) n ≡ true → place ≡ get_or w.witness.items n 0 → bits ≡ point_at w.points.items place → new ≡ list ++ bits ∷ [] →
+    is_needed (problem_at w.cursor.problem w.cursor.path) n ≡ true → place ≡ get_or w.witness.items n 0 → bits ≡ point_at w.places.points place → new ≡ list ++ bits ∷ [] →
     AreGathered w n list taken → AreGathered w (n + 1) new (set taken place true)
 gathered_more w n place bits list new taken is none within needed at by longer gathered =
     let q = problem_at w.cursor.problem w.cursor.path in
     let has = served_point w n (get_or w.witness.items n 0) is.kept (served_now w n is none within needed) in
-    let here_is : bits ≡ point_at w.points.items (get_or w.witness.items n 0) = by ∙ ap (point_at w.points.items) at in
+    let here_is : bits ≡ point_at w.places.points (get_or w.witness.items n 0) = by ∙ ap (point_at w.places.points) at in
     let inside : is_in_need (need_at q n) bits ≡ true = ap (is_in_need (need_at q n)) here_is ∙ has.1 in
     let point : is_point q bits ≡ true = ap (is_point q) here_is ∙ has.0 in
     let old = gathered.serving in
     record {
       counted = length-set taken place true ∙ gathered.counted;
-      there = λ other marked. subst (λ ls. Contains ls (point_at w.points.items other)) (sym longer) (elim (cases_eq other place) [
-        | inl same ↦ subst (λ b. Contains (list ++ bits ∷ []) b) (by ∙ ap (point_at w.points.items) (sym same)) (Contains-push list bits)
-        | inr apart ↦ Contains-append_left list (bits ∷ []) (point_at w.points.items other) (gathered.there other (sym (get_or-set_other taken place other true false apart) ∙ marked))
+      there = λ other marked. subst (λ ls. Contains ls (point_at w.places.points other)) (sym longer) (elim (cases_eq other place) [
+        | inl same ↦ subst (λ b. Contains (list ++ bits ∷ []) b) (by ∙ ap (point_at w.places.points) (sym same)) (Contains-push list bits)
+        | inr apart ↦ Contains-append_left list (bits ∷ []) (point_at w.places.points other) (gathered.there other (sym (get_or-set_other taken place other true false apart) ∙ marked))
       ]);
       serving = subst (λ ls. AreServing q (needs_below q (n + 1)) ls) (sym longer) (subst (λ ns. AreServing q ns (list ++ bits ∷ [])) (sym (with_need q n needed)) (record {
         each_is = list_all-append (is_point q) list (bits ∷ []) ∙ and_from _ _ old.each_is (and_from _ true point refl);

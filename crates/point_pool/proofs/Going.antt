@@ -20,7 +20,7 @@ use Rattle.world_model.proofs.Narrowed.{only_some, none_common}
 use Rattle.point_pool.proofs.Serving.{all_from_places}
 
 -- a pair of an open prefix allows something
-open_allows : PositionsNarrow → (p : Problem) (m : List Rel) (k : ℕ) → IsOpen p m → k < length m → not (is_empty_set (allowed (problem_at p m) (pair_at p k))) ≡ true
+pub open_allows : PositionsNarrow → (p : Problem) (m : List Rel) (k : ℕ) → IsOpen p m → k < length m → not (is_empty_set (allowed (problem_at p m) (pair_at p k))) ≡ true
 open_allows law p m k o h = ap (λ set. not (is_empty_set set)) (allowed_inside law p m k o h) ∙ ap not (only_some (get_or m k Equals))
 
 -- so does each pair of an open prefix at a longer one, which need not be open

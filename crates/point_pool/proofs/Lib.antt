@@ -9,5 +9,6 @@ pub mod Going
 pub mod Sameness
 pub mod Pooling
 pub mod Settling
+pub mod Showing
 pub mod Gathering
 pub mod Drafted

@@ -46,7 +46,7 @@ witness_skipped q number list none served =
     subst (λ ns. EachServed q ns list) (sym same) served
 
 pub witness_pushed : (w : Pool) (number : ℕ) (list new : List (List Bool)) (bits : List Bool) → IsPool w → w.waiting ≡ [] → number < need_count w.cursor.problem →
-    is_needed (problem_at w.cursor.problem w.cursor.path) number ≡ true → bits ≡ point_at w.points.items (get_or w.witness.items number 0) → new ≡ list ++ bits ∷ [] →
+    is_needed (problem_at w.cursor.problem w.cursor.path) number ≡ true → bits ≡ point_at w.places.points (get_or w.witness.items number 0) → new ≡ list ++ bits ∷ [] →
     EachServed (problem_at w.cursor.problem w.cursor.path) (needs_below (problem_at w.cursor.problem w.cursor.path) number) list →
     EachServed (problem_at w.cursor.problem w.cursor.path) (needs_below (problem_at w.cursor.problem w.cursor.path) (number + 1)) new
 witness_pushed w number list new bits is none within needed by same served =
@@ -54,7 +54,7 @@ witness_pushed w number list new bits is none within needed by same served =
     let place = get_or w.witness.items number 0 in
     let has = served_point w number place is.kept (served_now w number is none within needed) in
     let needs_are : needs_below q (number + 1) ≡ needs_below q number ++ need_at q number ∷ [] = needs_more q number ∙ ap (λ b. needs_below q number ++ cond b (need_at q number ∷ []) []) needed in
-    let pushed = each_push q (needs_below q number) list (need_at q number) (point_at w.points.items place) served has.0 has.1 in
+    let pushed = each_push q (needs_below q number) list (need_at q number) (point_at w.places.points place) served has.0 has.1 in
     subst (λ ns. EachServed q ns new) (sym needs_are) (subst (λ bs. EachServed q (needs_below q number ++ need_at q number ∷ []) bs) (sym (same ∙ ap (λ b. list ++ b ∷ []) by)) pushed)
 
 -- a need as callers have it, by its number

@@ -1,50 +1,142 @@
--- Points of other problems of a shape, tested against a problem.
-use Rattle.std.proofs.Common.{◌≡◌, ℕ, ◌+◌, ◌<◌, Bool, true, ◌&&◌, List, [], ◌∷◌, ◌++◌, length, get_or, take, inl, inr, sym, ap, ◌∙◌, subst, arith}
-use Rattle.std.specs.Prelude.{IsTrue, Option, Some, None, IfSome, IfNone}
+-- Which points are struck out by rows of bits.
+use Rattle.std.proofs.Common.{◌≡◌, ◌≢◌, ℕ, ◌+◌, ◌*◌, ◌/◌, ◌<◌, ◌≤◌, Bool, true, false, not, ◌&&◌, List, [], ◌∷◌, ◌++◌, length, get_or, inl, inr, refl, sym, ap, ◌∙◌, subst, arith}
+use Rattle.std.specs.Prelude.{IsTrue, if◌then◌else◌}
 use Rattle.std.specs.List.{list_all}
-use Rattle.std.proofs.lemmas.Bool.{cases_lt, and_from}
-use Rattle.std.proofs.lemmas.List.{take_more, length-append, length-take-le, get_or_append_left, get_or_push}
+use Rattle.std.proofs.lemmas.Bool.{cases_Bool, cases_eq, cases_lt, and_from, and_parts, true≢false}
+use Rattle.bit_rows.specs.Rows.{has_bit}
+use Rattle.rcc5_core.specs.Region.{all_regions, word_at, same_word, forced_regions}
+use Rattle.rcc5_core.specs.declared.Occupancy.{Occupancy}
+use Rattle.rcc5_core.specs.declared.Occupancy.TheVariants.{Empty, Occupied, Free}
+use Rattle.rcc5_core.specs.declared.Region.{Region}
+use Rattle.rcc5_core.specs.declared.Region.TheVariants.{LeftOnly, Both, RightOnly}
 use Rattle.rcc5_core.specs.declared.Regions.{Regions}
-use Rattle.world_model.specs.Problem.{Problem, pairs, kept_sums}
+use Rattle.cert_model.specs.Forced.{region_with}
+use Rattle.world_model.specs.Problem.{Problem, pairs, pair_count, kept_sums}
 use Rattle.world_model.specs.Node.{pair_at}
-use Rattle.world_model.specs.Alive.{forced_pairs, bit_of, avoids, point_sums, is_point, point_at, meets_trees, avoids_by}
-use Rattle.constraint_set.proofs.PointTests.{avoids_each, forced_avoids}
-use Rattle.world_model.specs.Points.{forced_at, empty_pairs, avoids_at}
-use Rattle.point_pool.specs.Pools.{IsUnstruck, depth_at}
-use Rattle.point_pool.specs.Starts.{AreStarted}
+use Rattle.world_model.specs.Alive.{forced_pairs, allowed, bit_of, avoids, avoids_by, lies_by, point_sums, is_point, point_at, meets_trees}
+use Rattle.constraint_set.proofs.PointTests.{forced_avoids}
+use Rattle.world_model.specs.Points.{forced_at, avoids_at}
+use Rattle.point_places.specs.Places.{PlaceState, IsNextMet, IsStruck, AreStruck, is_as, are_as, meets}
+use Rattle.point_pool.specs.Pools.{AllAvoid, CellAvoids, IsFewer}
 
--- so it is a point
-pub start_point : (p : Problem) (bits : List Bool) → meets_trees p bits ≡ true → list_all (point_sums bits) (kept_sums p) ≡ true → list_all (avoids_at p bits) (empty_pairs p) ≡ true →
-    is_point p bits ≡ true
+-- bits that meet the trees, the sums and the pairs are a point
+pub start_point : (p : Problem) (bits : List Bool) → meets_trees p bits ≡ true → list_all (point_sums bits) (kept_sums p) ≡ true → ((k : ℕ) → k < pair_count p → avoids_at p bits k ≡ true) → is_point p bits ≡ true
 start_point p bits trees sums apart =
     and_from (meets_trees p bits && list_all (point_sums bits) (kept_sums p)) (list_all (avoids bits) (forced_pairs p)) (and_from (meets_trees p bits) (list_all (point_sums bits) (kept_sums p)) trees sums)
-    (forced_avoids p bits (pairs p) (avoids_each p bits apart))
+    (forced_avoids p bits (pairs p) apart)
 
--- one point more
-pub started_more : (p : Problem) (points : List (List Bool)) (depths : List (Option ℕ)) (i : ℕ) (bits : List Bool) (depth : Option ℕ) → i < length points → bits ≡ get_or points i bits →
-    AreStarted p (take i points) depths → IfNone depth (IsTrue (is_point p bits)) → IfSome depth (λ d. d ≡ 0) → AreStarted p (take (i + 1) points) (depths ++ depth ∷ [])
-started_more p points depths i bits depth within is so point start =
-    let taken : take (i + 1) points ≡ take i points ++ bits ∷ [] = take_more points i bits within ∙ ap (λ b. take i points ++ b ∷ []) (sym is) in
-    let short : length (take i points) ≡ i = length-take-le i points (omega arith) in
-    let sized = so.counted in
-    rw taken (record {
-      counted = length-append depths (depth ∷ []) ∙ ap (λ n. n + 1) sized ∙ sym (length-append (take i points) (bits ∷ []));
-      unstruck = λ place n small unstruck. elim (cases_lt place i) [
-        | inl before ↦
-            let old_depth : depth_at (depths ++ depth ∷ []) place ≡ depth_at depths place = get_or_append_left depths (depth ∷ []) None place (omega arith) in
-            let old_point : point_at (take i points ++ bits ∷ []) place ≡ point_at (take i points) place = get_or_append_left (take i points) (bits ∷ []) [] place (omega arith) in
-            subst (λ b. IsTrue (is_point p b)) (sym old_point) (so.unstruck place n (omega arith) (subst (λ d. IsUnstruck n d) old_depth unstruck))
-        | inr later ↦
-            let same : place ≡ i = omega (arith, length-append (take i points) (bits ∷ [])) in
-            let new_depth : depth_at (depths ++ depth ∷ []) place ≡ depth = get_or_push depths depth None place (sized ∙ short ∙ sym same) in
-            let new_point : point_at (take i points ++ bits ∷ []) place ≡ bits = get_or_push (take i points) bits [] place (short ∙ sym same) in
-            subst (λ b. IsTrue (is_point p b)) (sym new_point) (of_depth depth n point start (subst (λ d. IsUnstruck n d) new_depth unstruck))
-      ];
-    })
+-- no region that is forced empty has a point, if each of the three has not
+one_region : (o : Occupancy) (lies : Bool) → (o ≡ Empty → lies ≡ false) → not (same_word o Empty && lies) ≡ true
+one_region Empty lies h = ap not (h refl)
+one_region Occupied lies h = refl
+one_region Free lies h = refl
+
+pub avoids_parts : (regions : Regions) (l r : Bool) → ((part : ℕ) → part < 3 → word_at regions (region_with part) ≡ Empty → lies_by (region_with part) l r ≡ false) → avoids_by regions l r ≡ true
+avoids_parts regions l r each =
+    and_from _ _ (one_region regions.left_only (lies_by LeftOnly l r) (each 0 (omega arith)))
+    (and_from _ _ (one_region regions.both (lies_by Both l r) (each 1 (omega arith))) (and_from _ true (one_region regions.right_only (lies_by RightOnly l r) (each 2 (omega arith))) refl))
+
+lies_none : (region : Region) → lies_by region false false ≡ false
+lies_none LeftOnly = refl
+lies_none Both = refl
+lies_none RightOnly = refl
+
+-- by three cells of two concepts
+pub cells_avoid : (s : PlaceState) (pair : ℕ × ℕ) (regions : Regions) → CellAvoids s regions (pair.0, true) (pair.1, true) → CellAvoids s regions (pair.0, true) (pair.1, false) →
+    CellAvoids s regions (pair.0, false) (pair.1, true) → AllAvoid s pair regions
+cells_avoid s pair regions both left right place on = elim (cases_Bool l) [
+  | inl has ↦ elim (cases_Bool r) [
+    | inl also ↦ ap (λ b. avoids_by regions b r) has ∙ ap (λ b. avoids_by regions true b) also ∙ both place on has also
+    | inr lacks ↦ ap (λ b. avoids_by regions b r) has ∙ ap (λ b. avoids_by regions true b) lacks ∙ left place on has lacks
+  ]
+  | inr lacks ↦ elim (cases_Bool r) [
+    | inl has ↦ ap (λ b. avoids_by regions b r) lacks ∙ ap (λ b. avoids_by regions false b) has ∙ right place on lacks has
+    | inr also ↦ ap (λ b. avoids_by regions b r) lacks ∙ ap (λ b. avoids_by regions false b) also ∙ avoids_parts regions false false (λ part small e. lies_none (region_with part))
+  ]
+]
   where
-    of_depth : (depth : Option ℕ) (n : ℕ) → IfNone depth (IsTrue (is_point p bits)) → IfSome depth (λ d. d ≡ 0) → IsUnstruck n depth → IsTrue (is_point p bits)
-    of_depth None n point start unstruck = point
-    of_depth (Some d) n point start unstruck = absurd (omega (arith, start, unstruck))
+    l : Bool
+    l = bit_of (point_at s.points place) pair.0
+
+    r : Bool
+    r = bit_of (point_at s.points place) pair.1
+
+-- what holds of the live points holds of fewer
+pub cell_stays : (old new : PlaceState) (regions : Regions) (one other : ℕ × Bool) → IsFewer old new → CellAvoids old regions one other → CellAvoids new regions one other
+cell_stays old new regions one other fewer h place on first second =
+    h place (fewer.live place on) (subst (λ ps. bit_of (point_at ps place) one.0 ≡ one.1) fewer.points first) (subst (λ ps. bit_of (point_at ps place) other.0 ≡ other.1) fewer.points second)
+
+pub all_stay : (old new : PlaceState) (pair : ℕ × ℕ) (regions : Regions) → IsFewer old new → AllAvoid old pair regions → AllAvoid new pair regions
+all_stay old new pair regions fewer h place on =
+    subst (λ ps. IsTrue (avoids_by regions (bit_of (point_at ps place) pair.0) (bit_of (point_at ps place) pair.1))) (sym fewer.points) (h place (fewer.live place on))
+
+pub fewer_still : (s : PlaceState) → IsFewer s s
+fewer_still s = record { concepts = refl; points = refl; live = λ place on. on }
+
+pub fewer_chain : (first old new : PlaceState) → IsFewer first old → IsFewer old new → IsFewer first new
+fewer_chain first old new one other = record {
+  concepts = other.concepts ∙ one.concepts;
+  points = other.points ∙ one.points;
+  live = λ place on. one.live place (other.live place on);
+}
+
+-- one point less
+pub fewer_struck : (old new : PlaceState) (place : ℕ) → IsStruck old new place → IsFewer old new
+fewer_struck old new place struck = record {
+  concepts = struck.concepts;
+  points = struck.points;
+  live = λ k on. elim (cases_eq k place) [
+    | inl same ↦ absurd (true≢false (sym on ∙ ap (has_bit new.live) same ∙ struck.live.here))
+    | inr apart ↦ sym (struck.live.others k apart) ∙ on
+  ];
+}
+
+as_said : (b bit : Bool) → bit ≡ b → (if b then bit else not bit) ≡ true
+as_said true bit same = same
+as_said false bit same = ap not same
+
+-- where no live point is as is said of two concepts, none is in their region
+pub none_met : (s : PlaceState) (regions : Regions) (one other : ℕ × Bool) → ((k : ℕ) → meets s one other k ≡ false) → CellAvoids s regions one other
+none_met s regions one other none place on first second =
+    let bits = point_at s.points place in
+    absurd (true≢false (sym (and_from (has_bit s.live place) (are_as s.points one other place) on (and_from (is_as bits one) (is_as bits other) (as_said one.1 (bit_of bits one.0) first) (as_said other.1 (bit_of bits other.0) second))) ∙ none place))
+
+-- all of them are struck out
+pub fewer_all : (old new : PlaceState) (one other : ℕ × Bool) → AreStruck old new one other → IsFewer old new
+fewer_all old new one other struck = record {
+  concepts = struck.concepts;
+  points = struck.points;
+  live = λ k on. (and_parts (has_bit old.live k) (not (are_as old.points one other k)) (sym (struck.live k) ∙ on)).0;
+}
+
+pub cell_struck : (old new : PlaceState) (regions : Regions) (one other : ℕ × Bool) → AreStruck old new one other → CellAvoids new regions one other
+cell_struck old new regions one other struck =
+    none_met new regions one other (λ k.
+    ap (λ b. b && are_as new.points one other k) (struck.live k) ∙ ap (λ ps. (has_bit old.live k && not (are_as old.points one other k)) && are_as ps one other k) struck.points ∙
+    never (has_bit old.live k) (are_as old.points one other k))
+  where
+    never : (a b : Bool) → ((a && not b) && b) ≡ false
+    never true true = refl
+    never true false = refl
+    never false b = refl
+
+-- or one by one
+pub struck_met : (now new : PlaceState) (one other : ℕ × Bool) (from place : ℕ) → IsNextMet now (from / 64) one other place → IsStruck now new place → ((k : ℕ) → k < from → meets now one other k ≡ false) →
+    (from ≤ place) × ((k : ℕ) → k < place + 1 → meets new one other k ≡ false)
+struck_met now new one other from place next struck done = (
+  elim (cases_lt place from) [
+    | inr after ↦ after
+    | inl before ↦ absurd (true≢false (sym next.met ∙ done place before))
+  ],
+  λ k small. elim (cases_eq k place) [
+    | inl here ↦ ap (λ b. b && are_as new.points one other k) (ap (has_bit new.live) here ∙ struck.live.here)
+    | inr apart ↦
+        ap (λ b. b && are_as new.points one other k) (struck.live.others k apart) ∙ ap (λ ps. has_bit now.live k && are_as ps one other k) struck.points ∙ elim (cases_lt k from) [
+          | inl before ↦ done k before
+          | inr after ↦ next.before k (omega arith) (omega arith)
+        ]
+  ],
+)
 
 -- whether a point is in no region of a pair, by its two bits
 pub avoided_pair : (p : Problem) (bits : List Bool) (k : ℕ) (regions : Regions) (pair : ℕ × ℕ) (left right result : Bool) → result ≡ avoids_by regions left right → regions ≡ forced_at p k →

@@ -1,4 +1,3 @@
 pub mod Cursors
 pub mod Pools
-pub mod Starts
 pub mod Drafted

@@ -4,10 +4,10 @@
 mod alike;
 mod copies;
 mod cursor;
-mod depths;
 mod drafting;
 mod pool;
 mod selectors;
+mod shows;
 mod start;
 mod strike;
 mod waiting;

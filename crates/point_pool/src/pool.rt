@@ -3,38 +3,40 @@ ghost use Rattle.constraint_set.specs.Shape.{SameShape};
 ghost use Rattle.point_pool.specs.Cursors.{IsEmptyPair};
 ghost use Rattle.point_encode.specs.Numbers.{is_needed};
 ghost use Rattle.cert_model.specs.Forced.{need_count};
-ghost use Rattle.point_pool.specs.Pools.{IsPool, IsPoolAt};
+ghost use Rattle.bit_rows.specs.Rows.{has_bit};
+ghost use Rattle.point_pool.specs.Pools.{IsKept, IsListed, IsPlaceOf, IsPool, IsPoolAt};
 ghost use Rattle.rcc5_core.specs.RelationSet.{has};
-ghost use Rattle.std.specs.Prelude.{All, Contains, IfNone, IfOk, IsTrue, OnOk, [], length, take, ℕ, ◌++◌, ◌+◌, ◌<◌, ◌∷◌, ◌≡◌, ◌≤◌};
+ghost use Rattle.std.specs.Prelude.{All, Contains, IfNone, IfOk, IsTrue, OnOk, [], length, slice_index_or, take, true, ℕ, ◌++◌, ◌+◌, ◌<◌, ◌∷◌, ◌≡◌, ◌≤◌, ◌⊎◌};
 ghost use Rattle.world_model.specs.Alive.{allowed, problem_at, meets_trees};
 ghost use Rattle.world_model.specs.Node.{pair_at};
-ghost use Rattle.world_model.specs.Problem.{pair_count};
+ghost use Rattle.world_model.specs.Problem.{concept_count, pair_count};
 
 use crate::alike::common_len;
 use crate::copies::is_same;
 use crate::cursor::Cursor;
-use crate::depths::unstrike;
-use crate::start::depths_at_start;
+use crate::start::{gathered_places, strike_others};
 use crate::waiting::{Numbers, Waiting};
 use constraint_set::Problem;
 use lits_core::Bits;
 use point_draft::Drafts;
 use point_encode::count_needs;
+use point_places::Places;
 use rcc5_core::{Position, Rel, RelSet};
 use std::alloc::{AllocError, Global};
 use std::mem;
 use world_model::positions_narrow;
 
-/// Points, each with the depth at which the prefix struck it out, and the needs, each with the place of a point that serves it.
+/// Points, of which the live ones are points of the prefix, and the needs, each with the place of a point that serves it.
 ///
-/// A point that was never struck out, or at a depth beyond the prefix, is a point of the prefix. A point has the numbers of
-/// the needs that it serves; where it is struck out they wait for another. The needs' places are hints: a need is served
-/// where it has its slot in the list of the point at its place. What is drafted is a hint too.
+/// A relation strikes out points; they are listed in order, with a mark for each relation where its own begin, so that going
+/// back makes them live again. A point has the numbers of the needs that it serves; where it is struck out they wait for
+/// another. The needs' places are hints: a need is served where it has its slot in the list of the point at its place. What is
+/// drafted is a hint too.
 pub struct Pool {
     pub cursor: Cursor,
-    pub(crate) points: Vec<Bits>,
-    pub(crate) depths: Vec<Option<usize>>,
+    pub(crate) places: Places,
     pub(crate) struck: Vec<usize>,
+    pub(crate) marks: Vec<usize>,
     pub(crate) witness: Vec<usize>,
     pub(crate) slots: Vec<usize>,
     pub(crate) serves: Vec<Numbers>,
@@ -48,9 +50,9 @@ impl Drop for Pool {
     fn drop(self) {
         let Pool {
             cursor: _,
-            points: _,
-            depths: _,
+            places: _,
             struck: _,
+            marks: _,
             witness: _,
             slots: _,
             serves: _,
@@ -68,39 +70,35 @@ impl Pool {
         ensures pool { IfOk result IsPool }
         ensures cursor { IfOk result (λ w. w.cursor ≡ record { problem = problem; path = [] }) }
     {
-        let drafts = noted(alloc, &points)?;
-        Pool::with_drafts(alloc, problem, points, drafts)
+        let places = gathered_places(alloc, &problem, &points)?;
+        Pool::at_start(alloc, problem, places)
     }
 
-    // With hints that know the points, of which none is struck out yet.
-    fn with_drafts(
-        alloc: Global,
-        problem: Problem,
-        points: Vec<Bits>,
-        drafts: Drafts,
-    ) -> Result<Pool, AllocError>
-        requires { All (λ bits. IsTrue (meets_trees problem bits)) points.items }
+    // With points at their places.
+    fn at_start(alloc: Global, problem: Problem, places: Places) -> Result<Pool, AllocError>
+        requires trees { All (λ bits. IsTrue (meets_trees problem bits)) places.points }
+        requires concepts { places.concepts ≡ concept_count problem }
         ensures pool { IfOk result IsPool }
         ensures cursor { IfOk result (λ w. w.cursor ≡ record { problem = problem; path = [] }) }
     {
         positions_narrow();
         let cursor = Cursor::new(alloc, problem)?;
-        let mut drafts = drafts;
-        let depths = depths_at_start(alloc, &cursor, &points, &mut drafts)?;
-        strike_others(&mut drafts, &depths)?;
-        let serves = no_numbers(alloc, points.len())?;
+        let mut places = places;
+        places.revive_all();
+        strike_others(&cursor, &mut places);
+        let serves = no_numbers(alloc, places.len())?;
         let count = count_needs(cursor.problem());
         let waiting = all_needed(alloc, &cursor, count)?;
         Ok(Pool {
             cursor,
-            points,
-            depths,
+            places,
             struck: Vec::new(alloc),
+            marks: Vec::new(alloc),
             witness: vec![in alloc; 0; count as usize]?,
             slots: vec![in alloc; 0; count as usize]?,
             serves,
             waiting,
-            drafts,
+            drafts: Drafts::new(alloc),
             alloc,
         })
     }
@@ -114,20 +112,18 @@ impl Pool {
         if is_same(self.cursor.problem(), problem) {
             return Ok(self);
         }
-        // What is drafted knows the points by their places, which stay.
-        let (points, drafts) = self.into_parts();
-        Pool::with_drafts(alloc, problem.copy()?, points, drafts)
+        let places = self.into_places()?;
+        Pool::at_start(alloc, problem.copy()?, places)
     }
 
-    // The points, which meet the rules of the problem's trees, and the hints that know them.
-    fn into_parts(mut self) -> (Vec<Bits>, Drafts)
+    // The points at their places, which meet the rules of the problem's trees.
+    fn into_places(mut self) -> Result<Places, AllocError>
         requires { IsPool self }
-        ensures { All (λ bits. IsTrue (meets_trees self.cursor.problem bits)) result.0.items }
+        ensures trees { IfOk result (λ s. All (λ bits. IsTrue (meets_trees self.cursor.problem bits)) s.points) }
+        ensures concepts { IfOk result (λ s. s.concepts ≡ concept_count self.cursor.problem) }
     {
-        let points = mem::replace(&mut self.points, Vec::new(self.alloc));
-        let mut drafts = mem::replace(&mut self.drafts, Drafts::new(self.alloc));
-        drafts.forget_problem();
-        (points, drafts)
+        let none = Places::new(self.alloc, 0)?;
+        Ok(mem::replace(&mut self.places, none))
     }
 
     /// What the problem allows the next pair.
@@ -147,9 +143,24 @@ impl Pool {
     {
         positions_narrow();
         self.cursor.facts();
-        unstrike(&mut self.depths, &mut self.struck, count);
+        let start = self.mark_at(count);
+        unstrike(&mut self.places, &mut self.struck, start);
+        self.marks.truncate(count);
         self.cursor.back_to(count);
         self.drafts.back_to(count);
+    }
+
+    // Where those begin that were struck out since the prefix had so many relations.
+    fn mark_at(&self, count: usize) -> usize
+        requires kept { IsKept self.now }
+        requires count { count ≤ length self.now.cursor.path }
+        ensures { (k : ℕ) → result ≤ k → k < length self.now.struck.items → IsPlaceOf (problem_at self.now.cursor.problem (take count self.now.cursor.path)) self.now.places.points (slice_index_or self.now.struck.items k 0) }
+    {
+        if count < self.marks.len() {
+            self.marks[count]
+        } else {
+            self.struck.len()
+        }
     }
 
     /// Adds a relation that the problem allows the next pair.
@@ -219,25 +230,20 @@ fn push_if_needed(waiting: &mut Waiting, cursor: &Cursor, number: u32) -> Result
     Ok(())
 }
 
-// Hints that know some points.
-fn noted(alloc: Global, points: &[Bits]) -> Result<Drafts, AllocError> {
-    let mut drafts = Drafts::new(alloc);
-    for (place, bits) in points.iter().enumerate() {
-        drafts.note(place, bits)?;
+// Makes the points live again that were struck out from one on.
+fn unstrike(places: &mut Places, struck: &mut Vec<usize>, start: usize)
+    requires { (k : ℕ) → start ≤ k → k < length struck.old.items → slice_index_or struck.old.items k 0 < length places.old.points }
+    ensures concepts { places.new.concepts ≡ places.old.concepts }
+    ensures points { places.new.points ≡ places.old.points }
+    ensures used { places.new.used ≡ places.old.used }
+    ensures stay { (place : ℕ) → has_bit places.old.live place ≡ true → has_bit places.new.live place ≡ true }
+    ensures live { (place : ℕ) → has_bit places.new.live place ≡ true → (has_bit places.old.live place ≡ true) ⊎ IsListed struck.old.items start place }
+    ensures struck { struck.new.items ≡ take start struck.old.items }
+{
+    for number in start..struck.len() {
+        places.revive(struck[number]);
     }
-    Ok(drafts)
-}
-
-// Strikes out what is drafted of the points that are struck out from the start.
-fn strike_others(drafts: &mut Drafts, depths: &[Option<usize>]) -> Result<(), AllocError> {
-    for (place, depth) in depths.iter().enumerate() {
-        if let Some(depth) = depth {
-            if drafts.is_live(place) {
-                drafts.strike(place, *depth)?;
-            }
-        }
-    }
-    Ok(())
+    struck.truncate(start);
 }
 
 // So many empty lists.

@@ -1,115 +1,92 @@
 //! Which points of other problems of a shape are points of a problem.
-ghost use Rattle.world_model.specs.Points.{avoids_at, empty_pairs, has_empty, sum_holds, sums_from};
-ghost use Rattle.point_pool.specs.Starts.{AreStarted};
+ghost use Rattle.bit_rows.specs.Rows.{has_bit};
+ghost use Rattle.world_model.specs.Points.{forced_at, sum_holds, sums_from};
+ghost use Rattle.point_pool.specs.Pools.{AllAvoid, CellAvoids, IsFewer};
 ghost use Rattle.std.specs.List.{list_all, list_any};
-ghost use Rattle.std.specs.Prelude.{All, IfNone, IfOk, IfSome, IsTrue, OnOk, [], if◌then◌else◌, length, true, ◌&&◌, ◌++◌, ◌+◌, ◌<◌, ◌∷◌, ◌≡◌};
-ghost use Rattle.world_model.specs.Alive.{bit_of, is_point, point_sums, meets_trees};
+ghost use Rattle.std.specs.Prelude.{All, IfOk, IsTrue, length, true, ℕ, ◌&&◌, ◌+◌, ◌<◌, ◌≡◌};
+ghost use Rattle.world_model.specs.Alive.{bit_of, is_point, meets_trees, point_at, point_sums};
+ghost use Rattle.world_model.specs.Node.{pair_at};
 ghost use Rattle.world_model.specs.Problem.{concept_count, is_articulation, kept_sums, pair_count};
 
+use crate::copies::copy;
 use crate::cursor::Cursor;
 use constraint_set::{Articulation, Problem};
 use lits_core::Bits;
-use point_draft::Drafts;
-use point_table::{add_if_empty, avoids_by};
+use point_places::Places;
+use point_table::avoids_by;
+use rcc5_core::Regions;
 use std::alloc::{AllocError, Global};
 
-/// For each point, whether it is a point of the problem: if not, it is struck out from the start.
-///
-/// What is drafted strikes out most by rows of bits, and only the others are tested.
-pub(crate) fn depths_at_start(
+/// Points at their places, in order.
+pub(crate) fn gathered_places(
     alloc: Global,
-    cursor: &Cursor,
+    problem: &Problem,
     points: &[Bits],
-    drafts: &mut Drafts,
-) -> Result<Vec<Option<usize>>, AllocError>
-    requires { All (λ bits. IsTrue (meets_trees cursor.now.problem bits)) points.now }
-    ensures { IfOk result (λ depths. AreStarted cursor.now.problem points.now depths.items) }
+) -> Result<Places, AllocError>
+    requires { All (λ bits. IsTrue (meets_trees problem.now bits)) points.now }
+    ensures points { IfOk result (λ s. s.points ≡ points.now) }
+    ensures concepts { IfOk result (λ s. s.concepts ≡ concept_count problem.now) }
 {
-    let pairs = pairs_with_empty(alloc, cursor)?;
-    strike_drafted(cursor, &pairs, drafts)?;
-    let mut depths = Vec::with_capacity(alloc, points.len())?;
+    let mut places = Places::new(alloc, problem.concept_count() as usize)?;
     for bits in points {
-        let is_live = drafts.is_live(depths.len());
-        depths.push(depth_at_start(cursor, &pairs, bits, is_live))?;
+        places.add(copy(alloc, bits)?)?;
     }
-    Ok(depths)
+    Ok(places)
 }
 
-// Strikes out what is drafted of the points in regions of some pairs that the problem alone forces empty.
-fn strike_drafted(cursor: &Cursor, pairs: &[u32], drafts: &mut Drafts) -> Result<(), AllocError>
-    requires { All (λ pair. pair < pair_count cursor.now.problem) pairs.now }
+/// Strikes out the points that are none of the problem. Most are found by rows of bits, and only the others are tested.
+pub(crate) fn strike_others(cursor: &Cursor, places: &mut Places)
+    requires trees { All (λ bits. IsTrue (meets_trees cursor.now.problem bits)) places.old.points }
+    requires concepts { places.old.concepts ≡ concept_count cursor.now.problem }
+    ensures concepts { places.new.concepts ≡ places.old.concepts }
+    ensures points { places.new.points ≡ places.old.points }
+    ensures live { (place : ℕ) → has_bit places.new.live place ≡ true → IsTrue (is_point cursor.now.problem (point_at places.new.points place)) }
 {
-    for pair in pairs {
-        strike_pair(cursor, *pair, drafts)?;
+    for pair in 0..cursor.problem().pair_count() {
+        strike_pair(cursor, pair, places);
     }
-    Ok(())
+    for place in 0..places.len() {
+        strike_unless_sums_hold(cursor.problem(), place, places);
+    }
+    places.facts();
 }
 
-// Those of one pair.
-fn strike_pair(cursor: &Cursor, pair: u32, drafts: &mut Drafts) -> Result<(), AllocError>
-    requires { pair < pair_count cursor.now.problem }
+// Strikes out the points in regions of a pair that the problem alone forces empty.
+fn strike_pair(cursor: &Cursor, pair: u32, places: &mut Places)
+    requires concepts { places.old.concepts ≡ concept_count cursor.now.problem }
+    requires within { pair < pair_count cursor.now.problem }
+    ensures fewer { IsFewer places.old places.new }
+    ensures avoid { AllAvoid places.new (pair_at cursor.now.problem pair) (forced_at cursor.now.problem pair) }
 {
     let (x, y) = cursor.problem().pair_at(pair);
     let regions = cursor.start_at(pair);
-    for (left, right) in [(true, true), (true, false), (false, true)] {
-        if !avoids_by(regions, left, right) {
-            drafts.strike_all((x, left), (y, right))?;
-        }
-    }
-    Ok(())
+    strike_cell(places, regions, (x, true), (y, true));
+    strike_cell(places, regions, (x, true), (y, false));
+    strike_cell(places, regions, (x, false), (y, true));
 }
 
-// No depth for a point of the problem, and else the start. One that is not live is not tested.
-fn depth_at_start(cursor: &Cursor, pairs: &[u32], bits: &Bits, is_live: bool) -> Option<usize>
-    requires trees { IsTrue (meets_trees cursor.now.problem bits.now) }
-    requires pairs { pairs.now ≡ empty_pairs cursor.now.problem }
-    ensures point { IfNone result (IsTrue (is_point cursor.now.problem bits.now)) }
-    ensures start { IfSome result (λ depth. depth ≡ 0) }
+// Strikes out the points that two concepts have or lack, as is said, if they lie in a region that is forced empty.
+fn strike_cell(places: &mut Places, regions: Regions, one: (u32, bool), other: (u32, bool))
+    requires one { one.0 < places.old.concepts }
+    requires other { other.0 < places.old.concepts }
+    ensures fewer { IsFewer places.old places.new }
+    ensures avoid { CellAvoids places.new regions one other }
 {
-    if !is_live || !sums_hold(cursor.problem(), bits) {
-        return Some(0);
+    if !avoids_by(regions, one.1, other.1) {
+        places.strike_all(one, other);
     }
-    if !avoids_all(cursor, pairs, bits) {
-        return Some(0);
-    }
-    None
 }
 
-// The pairs with a region that the problem alone forces empty.
-fn pairs_with_empty(alloc: Global, cursor: &Cursor) -> Result<Vec<u32>, AllocError>
-    ensures { IfOk result (λ pairs. pairs.items ≡ empty_pairs cursor.now.problem) }
+// Strikes out a point unless the kept sums hold at it.
+fn strike_unless_sums_hold(problem: &Problem, place: usize, places: &mut Places)
+    requires there { place < length places.old.points }
+    requires length { length (point_at places.old.points place) ≡ concept_count problem.now }
+    ensures fewer { IsFewer places.old places.new }
+    ensures sums { has_bit places.new.live place ≡ true → IsTrue (list_all (point_sums (point_at places.new.points place)) (kept_sums problem.now)) }
 {
-    let mut pairs = Vec::new(alloc);
-    for pair in 0..cursor.problem().pair_count() {
-        add_if_empty(&mut pairs, pair, cursor.start_at(pair))?;
+    if places.is_live(place) && !sums_hold(problem, places.point(place)) {
+        places.strike(place);
     }
-    Ok(pairs)
-}
-
-// Whether a point is in no region of some pairs that the problem alone forces empty.
-fn avoids_all(cursor: &Cursor, pairs: &[u32], bits: &Bits) -> bool
-    requires length { length bits.now ≡ concept_count cursor.now.problem }
-    requires pairs { All (λ pair. pair < pair_count cursor.now.problem) pairs.now }
-    ensures { result ≡ true → IsTrue (list_all (avoids_at cursor.now.problem bits.now) pairs.now) }
-{
-    for pair in pairs {
-        if !avoids_pair(cursor, *pair, bits) {
-            return false;
-        }
-    }
-    true
-}
-
-// Whether a point is in no region of a pair that the problem alone forces empty.
-fn avoids_pair(cursor: &Cursor, pair: u32, bits: &Bits) -> bool
-    requires length { length bits.now ≡ concept_count cursor.now.problem }
-    requires within { pair < pair_count cursor.now.problem }
-    ensures { result ≡ avoids_at cursor.now.problem bits.now pair }
-{
-    let (x, y) = cursor.problem().pair_at(pair);
-    let left = bits.get(x as usize);
-    let right = bits.get(y as usize);
-    avoids_by(cursor.start_at(pair), left, right)
 }
 
 // Whether each kept sum holds at a point.

@@ -1,14 +1,18 @@
 //! What one more relation strikes out, and the needs that it adds.
 ghost use Rattle.cert_model.specs.Forced.{need_count};
-ghost use Rattle.point_pool.specs.Pools.{IsPool, IsPoolBut, IsStriking, StrikesOut};
-ghost use Rattle.std.specs.Prelude.{OnOk, length, ◌*◌, ◌+◌, ◌<◌, ◌≡◌};
-ghost use Rattle.world_model.specs.Problem.{pair_count};
+ghost use Rattle.bit_rows.specs.Rows.{has_bit};
+ghost use Rattle.point_places.specs.Places.{IsStruck};
+ghost use Rattle.point_pool.specs.Pools.{AllAvoid, CellAvoids, IsFewer, IsPool, IsPoolBut, IsStriking, StrikesOut};
+ghost use Rattle.std.specs.Prelude.{OnOk, length, true, ◌*◌, ◌+◌, ◌<◌, ◌≡◌};
+ghost use Rattle.world_model.specs.Node.{pair_at};
+ghost use Rattle.world_model.specs.Problem.{concept_count, pair_count};
 
-use crate::depths::is_to_strike;
 use crate::pool::Pool;
 use point_encode::count_pairs;
+use point_table::avoids_by;
 use rcc5_core::Regions;
 use std::alloc::AllocError;
+use world_model::positions_narrow;
 
 impl Pool {
     // Strikes out the points in the regions of the next pair that are forced empty. The needs that they served wait.
@@ -16,44 +20,68 @@ impl Pool {
         requires pool { IsPool self.old }
         requires pair { pair ≡ length self.old.cursor.path }
         requires within { pair < pair_count self.old.cursor.problem }
-        ensures struck { OnOk result (IsStriking self.new regions (length self.new.points.items)) }
+        ensures striking { OnOk result (IsStriking self.new) }
+        ensures avoid { OnOk result (AllAvoid self.new.places (pair_at self.old.cursor.problem pair) regions) }
         ensures cursor { OnOk result (self.new.cursor ≡ self.old.cursor) }
     {
-        for place in 0..self.points.len() {
-            self.strike_if_out(place, pair, regions)?;
-        }
+        self.marks.push(self.struck.len())?;
+        let (x, y) = self.cursor.problem().pair_at(pair);
+        self.strike_cell(regions, (x, true), (y, true))?;
+        self.strike_cell(regions, (x, true), (y, false))?;
+        self.strike_cell(regions, (x, false), (y, true))?;
         Ok(())
     }
 
-    // Strikes out a point if it is in a region of the next pair that is forced empty.
-    fn strike_if_out(&mut self, place: usize, pair: u32, regions: Regions) -> Result<(), AllocError>
-        requires striking { IsStriking self.old regions place }
-        requires there { place < length self.old.points.items }
-        requires pair { pair ≡ length self.old.cursor.path }
-        requires within { pair < pair_count self.old.cursor.problem }
-        ensures striking { OnOk result (IsStriking self.new regions (place + 1)) }
+    // Strikes out the points that two concepts have or lack, as is said, if they lie in a region that is forced empty.
+    fn strike_cell(
+        &mut self,
+        regions: Regions,
+        one: (u32, bool),
+        other: (u32, bool),
+    ) -> Result<(), AllocError>
+        requires striking { IsStriking self.old }
+        requires one { one.0 < concept_count self.old.cursor.problem }
+        requires other { other.0 < concept_count self.old.cursor.problem }
+        ensures striking { OnOk result (IsStriking self.new) }
+        ensures fewer { OnOk result (IsFewer self.old.places self.new.places) }
+        ensures avoid { OnOk result (CellAvoids self.new.places regions one other) }
         ensures cursor { OnOk result (self.new.cursor ≡ self.old.cursor) }
-        ensures points { OnOk result (self.new.points.items ≡ self.old.points.items) }
     {
-        let (x, y) = self.cursor.problem().pair_at(pair);
-        let depth = self.depths[place];
-        if is_to_strike(depth, pair as usize, &self.points[place], x, y, regions) {
-            self.strike_out(place, pair as usize + 1)?;
+        if avoids_by(regions, one.1, other.1) {
             return Ok(());
         }
+        self.places.facts();
+        let mut from = 0;
+        while let Some(place) = self.places.next_met(from / 64, one, other) {
+            self.strike_out(place)?;
+            from = place + 1;
+        }
         Ok(())
     }
 
-    // Strikes out a point at a depth. The needs that it served wait.
-    fn strike_out(&mut self, place: usize, depth: usize) -> Result<(), AllocError>
-        requires within { place < length self.old.points.items }
-        requires depths { length self.old.depths.items ≡ length self.old.points.items }
-        requires serves { length self.old.serves.items ≡ length self.old.points.items }
-        ensures out { OnOk result (StrikesOut self.old self.new place depth) }
+    // Strikes out a live point. The needs that it served wait.
+    fn strike_out(&mut self, place: usize) -> Result<(), AllocError>
+        requires striking { IsStriking self.old }
+        requires there { place < length self.old.places.points }
+        requires live { has_bit self.old.places.live place ≡ true }
+        ensures striking { OnOk result (IsStriking self.new) }
+        ensures places { OnOk result (IsStruck self.old.places self.new.places place) }
+        ensures cursor { OnOk result (self.new.cursor ≡ self.old.cursor) }
     {
-        self.drafts.strike(place, depth)?;
+        positions_narrow();
+        self.cursor.facts();
+        self.take_away(place)?;
+        Ok(())
+    }
+
+    // Takes a point out of those that are live.
+    fn take_away(&mut self, place: usize) -> Result<(), AllocError>
+        requires within { place < length self.old.places.points }
+        requires serves { length self.old.serves.items ≡ length self.old.places.points }
+        ensures out { OnOk result (StrikesOut self.old self.new place) }
+    {
+        self.places.strike(place);
         self.struck.push(place)?;
-        self.depths[place] = Some(depth);
         self.serves[place].release(&mut self.waiting)?;
         Ok(())
     }

@@ -1,4 +1,5 @@
 //! The points that serve the needs.
+ghost use Rattle.bit_rows.specs.Rows.{has_bit};
 ghost use Rattle.point_encode.specs.Numbers.{AreServing, EachServed, IsBelow, needs_below, wanted_seen};
 ghost use Rattle.cert_model.specs.Forced.{need_at, need_count};
 ghost use Rattle.point_pool.specs.Pools.{AreGathered, FitsNeed, HasWitness, IsAdded, IsFit, IsKept, IsPool, IsPoolBut, served_at};
@@ -7,7 +8,6 @@ ghost use Rattle.world_model.specs.Alive.{is_in_need, is_point, needs, problem_a
 ghost use Rattle.world_model.specs.Problem.{concept_count};
 
 use crate::copies::copy;
-use crate::depths::is_unstruck;
 use crate::pool::Pool;
 use crate::waiting::Numbers;
 use lits_core::Bits;
@@ -24,20 +24,28 @@ impl Pool {
     {
         let place = self.witness[number as usize];
         let wanted = by_concepts(self.cursor.problem(), number);
-        self.is_fit(place, wanted) && self.is_listed(place, number)
+        self.is_fit(place, wanted) && self.serves_at(place, number)
     }
 
     // Whether a point of the prefix is in a need.
     fn is_fit(&self, place: usize, wanted: Wanted) -> bool
         requires kept { IsKept self.now }
         requires below { IsBelow (concept_count self.now.cursor.problem) wanted }
-        ensures { result ≡ true → IsFit (length self.now.cursor.path) self.now.points.items self.now.depths.items (wanted_seen wanted) place }
+        ensures { result ≡ true → IsFit self.now.places (wanted_seen wanted) place }
     {
-        if place >= self.points.len() {
+        if place >= self.places.len() {
             return false;
         }
-        let unstruck = is_unstruck(self.depths[place], self.cursor.path().len());
-        unstruck && is_in(wanted, &self.points[place])
+        self.places.is_live(place) && is_in(wanted, self.places.point(place))
+    }
+
+    // Whether a point serves a need, by its place.
+    fn serves_at(&self, place: usize, number: u32) -> bool
+        requires slotted { number < length self.now.slots.items }
+        ensures used { result ≡ true → has_bit self.now.places.used place ≡ true }
+        ensures listed { result ≡ true → Contains (served_at self.now.serves.items place) number }
+    {
+        self.places.is_used(place) && self.is_listed(place, number)
     }
 
     // Whether the list of a point has a need's number, where its slot says.
@@ -48,7 +56,7 @@ impl Pool {
         place < self.serves.len() && self.serves[place].has_at(self.slots[number as usize], number)
     }
 
-    /// The place of a point of the prefix that is in a need: that of the last witness, or else the first by what the hints say.
+    /// The place of a point of the prefix that is in a need: that of the last witness, or else the first.
     pub fn find(&self, number: u32) -> Option<usize>
         requires kept { IsKept self.now }
         requires within { number < need_count self.now.cursor.problem }
@@ -59,20 +67,25 @@ impl Pool {
         if self.is_fit(witness, wanted) {
             return Some(witness);
         }
-        let place = self.noted(wanted)?;
+        let place = self.first_in(wanted)?;
         if self.is_fit(place, wanted) {
             return Some(place);
         }
         None
     }
 
-    // The place of a point that may be in a need.
-    fn noted(&self, wanted: Wanted) -> Option<usize> {
+    // The place of the first live point in a need.
+    fn first_in(&self, wanted: Wanted) -> Option<usize>
+        requires kept { IsKept self.now }
+        requires below { IsBelow (concept_count self.now.cursor.problem) wanted }
+    {
         match wanted {
-            Wanted::Concept(concept) => self.drafts.find(concept, None),
-            Wanted::Region { x, y, part: 0 } => self.drafts.find(x, Some((y, false))),
-            Wanted::Region { x, y, part: 1 } => self.drafts.find(x, Some((y, true))),
-            Wanted::Region { x, y, .. } => self.drafts.find(y, Some((x, false))),
+            Wanted::Concept(concept) => {
+                self.places.next_met(0, (concept, true), (concept, true))
+            }
+            Wanted::Region { x, y, part } => {
+                self.places.next_met(0, (x, part != 2), (y, part != 0))
+            }
         }
     }
 
@@ -86,6 +99,7 @@ impl Pool {
         ensures served { OnOk result (HasWitness self.new number) }
         ensures waiting { OnOk result (self.new.waiting ≡ self.old.waiting) }
     {
+        self.places.note_use(place)?;
         let slot = self.serves[place].len();
         self.serves[place].push(number)?;
         self.witness[number as usize] = place;
@@ -104,10 +118,8 @@ impl Pool {
     {
         positions_narrow();
         self.cursor.facts();
-        let place = self.points.len();
-        self.drafts.note(place, &bits)?;
-        self.points.push(bits)?;
-        self.depths.push(None)?;
+        self.places.facts();
+        let place = self.places.add(bits)?;
         self.serves.push(Numbers::new(self.alloc))?;
         Ok(place)
     }
@@ -121,7 +133,7 @@ impl Pool {
         ensures in_need { IfOk result (λ bits. IsTrue (is_in_need (need_at self.now.cursor.problem number) bits)) }
     {
         let place = self.witness[number as usize];
-        let point = copy(self.alloc, &self.points[place])?;
+        let point = copy(self.alloc, self.places.point(place))?;
         Ok(point)
     }
 
@@ -150,7 +162,7 @@ impl Pool {
             return Ok(());
         }
         let place = self.witness[number as usize];
-        list.push(copy(self.alloc, &self.points[place])?)?;
+        list.push(copy(self.alloc, self.places.point(place))?)?;
         Ok(())
     }
 
@@ -161,7 +173,7 @@ impl Pool {
         ensures { IfOk result (λ list. AreServing (problem_at self.now.cursor.problem self.now.cursor.path) (needs (problem_at self.now.cursor.problem self.now.cursor.path)) list.items) }
     {
         let mut list = Vec::new(self.alloc);
-        let mut taken = vec![in self.alloc; false; self.points.len()]?;
+        let mut taken = vec![in self.alloc; false; self.places.len()]?;
         for number in 0..count_needs(self.cursor.problem()) {
             self.gather(&mut list, &mut taken, number)?;
         }
@@ -188,7 +200,7 @@ impl Pool {
         if taken[place] {
             return Ok(());
         }
-        list.push(copy(self.alloc, &self.points[place])?)?;
+        list.push(copy(self.alloc, self.places.point(place))?)?;
         taken[place] = true;
         Ok(())
     }

@@ -2,7 +2,7 @@
 use Rattle.std.proofs.Common.{◌≡◌, ◌↔◌, true, false, ◌||◌, ◌⊎◌, inl, inr, List, [], ◌∷◌, ◌++◌, ⊎_elim, refl, sym, ap, ◌∙◌, subst, arith, IsTrue}
 use Rattle.std.specs.Prelude.{Contains}
 use Rattle.std.specs.Ordering.{nat_cmp}
-use Rattle.std.proofs.lemmas.Bool.{or_cases, eqb-true}
+use Rattle.std.proofs.lemmas.Bool.{or_cases, eqb-true, false≢true}
 use Rattle.std.proofs.Math.Bool.{or-true}
 use Rattle.std.proofs.lemmas.List.Elements.{Contains-append_left, Contains-push, Contains-push_cases}
 use Rattle.rcc5_core.specs.declared.Rel.{Rel}
@@ -79,3 +79,10 @@ one_out IsSo rels r set has_those out q = (
       (λ (now : r ≡ q). absurd (out (subst IsSo (sym now) h.1)))
       (Contains-push_cases rels r q h.0),
 )
+
+-- of each relation of a set it is so, and of one more
+pub all_none : (IsSo : Rel → Type 0) → (q : Rel) → has no_rels q ≡ true → IsSo q
+all_none IsSo q h = absurd (false≢true (sym (has_none q) ∙ h))
+
+pub all_more : (IsSo : Rel → Type 0) (set : RelSet) (r : Rel) → ((q : Rel) → has set q ≡ true → IsSo q) → IsSo r → (q : Rel) → has (adding set r) q ≡ true → IsSo q
+all_more IsSo set r all so q h = ⊎_elim (λ before. all q before) (λ (now : r ≡ q). subst IsSo now so) (added_cases set r q h)

@@ -1,8 +1,11 @@
 -- What a query is asked with.
-use Rattle.std.specs.Prelude.{◌≡◌, Bool, List, All, IsTrue}
+use Rattle.std.specs.Prelude.{◌≡◌, Bool, List, All, IsTrue, [], ◌∷◌, ◌++◌}
+use Rattle.rcc5_core.specs.RelationSet.{has}
+use Rattle.rcc5_core.specs.declared.Rel.{Rel}
+use Rattle.rcc5_core.specs.declared.RelSet.{RelSet}
 use Rattle.lits_core.specs.Derivation.{SameGiven}
 use Rattle.world_model.specs.Problem.{Problem}
-use Rattle.world_model.specs.Alive.{is_point}
+use Rattle.world_model.specs.Alive.{IsAlive, is_point, problem_at}
 use Rattle.constraint_set.specs.Shape.{shape_of}
 use Rattle.cert_model.specs.Clauses.{given_clauses, variable_count}
 use Rattle.learn_solver.specs.Solving.{SolverState, GoesTo}
@@ -25,3 +28,7 @@ asker_with p s = record { shape = shape_of p; solver = s }
 -- lists of bits are points of a problem
 abbrev pub ArePoints : Problem → List (List Bool) → Type 0
 ArePoints p points = All (λ bits. IsTrue (is_point p bits)) points
+
+-- each relation of a set leads on from a prefix to an alive one
+abbrev pub AllLeadOn : Problem → List Rel → RelSet → Type 0
+AllLeadOn p m set = (rel : Rel) → IsTrue (has set rel) → IsAlive (problem_at p (m ++ rel ∷ []))

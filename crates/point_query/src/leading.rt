@@ -1,6 +1,6 @@
 //! Which relations lead on from an alive prefix to an alive one.
 ghost use Rattle.point_pool.specs.Pools.{IsPool};
-ghost use Rattle.point_query.specs.Queries.{IsSolverOf, KeepsSolver};
+ghost use Rattle.point_query.specs.Queries.{AllLeadOn, IsSolverOf, KeepsSolver};
 ghost use Rattle.rcc5_core.specs.RelationSet.{has};
 ghost use Rattle.rcc5_core.specs.declared.Rel.{Rel};
 ghost use Rattle.std.specs.Prelude.{IfOk, IsTrue, OnOk, [], length, ◌++◌, ◌+◌, ◌<◌, ◌↔◌, ◌∷◌, ◌≡◌};
@@ -10,7 +10,7 @@ ghost use Rattle.world_model.specs.Node.{pair_at};
 ghost use Rattle.world_model.specs.Problem.{pair_count};
 
 use crate::closer::Closer;
-use crate::settle::{is_settled, serve};
+use crate::settle::{is_settled, serve, settle};
 use lits_core::law_literals_are_sets;
 use point_encode::word_of;
 use point_pool::Pool;
@@ -43,13 +43,86 @@ pub(crate) fn alive_after(
     ensures each { IfOk result (λ set. (rel : Rel) → IsTrue (has set rel) ↔ IsAlive (problem_at pool.old.cursor.problem (prefix.now ++ rel ∷ []))) }
 {
     match pool.go_to(prefix)? {
-        None => each_tried(pool, solver, prefix),
+        None => each_told(pool, solver, prefix),
         Some(_) => Ok(RelSet::none()),
     }
 }
 
-// Tries each relation, where the pool stands at the prefix or beyond it.
-fn each_tried(pool: &mut Pool, solver: &mut Closer, prefix: &Position) -> Result<RelSet, AllocError>
+// Tells of each relation, where the pool stands at the prefix: first by the points that serve its needs.
+fn each_told(pool: &mut Pool, solver: &mut Closer, prefix: &Position) -> Result<RelSet, AllocError>
+    requires pool { IsPool pool.old }
+    requires path { pool.old.cursor.path ≡ prefix.now }
+    requires short { length prefix.now < pair_count pool.old.cursor.problem }
+    requires allow { IsTrue (all_allow (problem_at pool.old.cursor.problem prefix.now)) }
+    requires solver { IsSolverOf pool.old.cursor.problem solver.old }
+    ensures solver { KeepsSolver pool.old.cursor.problem solver.old solver.new }
+    ensures pool { OnOk result (IsPool pool.new) }
+    ensures problem { OnOk result (pool.new.cursor.problem ≡ pool.old.cursor.problem) }
+    ensures each { IfOk result (λ set. (rel : Rel) → IsTrue (has set rel) ↔ IsAlive (problem_at pool.old.cursor.problem (prefix.now ++ rel ∷ []))) }
+{
+    law_literals_are_sets();
+    let shown = shown_here(pool, solver)?;
+    each_tried(pool, solver, prefix, shown)
+}
+
+// The relations of which the points that serve the needs of the pool's prefix show that they lead on.
+fn shown_here(pool: &mut Pool, solver: &mut Closer) -> Result<RelSet, AllocError>
+    requires pool { IsPool pool.old }
+    requires within { length pool.old.cursor.path < pair_count pool.old.cursor.problem }
+    requires allow { IsTrue (all_allow (problem_at pool.old.cursor.problem pool.old.cursor.path)) }
+    requires solver { IsSolverOf pool.old.cursor.problem solver.old }
+    ensures solver { KeepsSolver pool.old.cursor.problem solver.old solver.new }
+    ensures pool { OnOk result (IsPool pool.new) }
+    ensures cursor { OnOk result (pool.new.cursor ≡ pool.old.cursor) }
+    ensures shown { IfOk result (AllLeadOn pool.old.cursor.problem pool.old.cursor.path) }
+{
+    match settle(pool, solver)? {
+        None => Ok(all_shown(pool)),
+        Some(_) => Ok(RelSet::none()),
+    }
+}
+
+// Those, where no need waits.
+fn all_shown(pool: &Pool) -> RelSet
+    requires pool { IsPool pool.now }
+    requires settled { pool.now.waiting ≡ [] }
+    requires within { length pool.now.cursor.path < pair_count pool.now.cursor.problem }
+    requires allow { IsTrue (all_allow (problem_at pool.now.cursor.problem pool.now.cursor.path)) }
+    ensures { AllLeadOn pool.now.cursor.problem pool.now.cursor.path result }
+{
+    let mut shown = RelSet::none();
+    for rel in LAST_FIRST {
+        shown = with_if_shown(pool, shown, rel);
+    }
+    shown
+}
+
+// One relation more, if it is one of them.
+fn with_if_shown(pool: &Pool, shown: RelSet, rel: Rel) -> RelSet
+    requires pool { IsPool pool.now }
+    requires settled { pool.now.waiting ≡ [] }
+    requires within { length pool.now.cursor.path < pair_count pool.now.cursor.problem }
+    requires allow { IsTrue (all_allow (problem_at pool.now.cursor.problem pool.now.cursor.path)) }
+    requires shown { AllLeadOn pool.now.cursor.problem pool.now.cursor.path shown }
+    ensures { AllLeadOn pool.now.cursor.problem pool.now.cursor.path result }
+{
+    if !pool.next_set().has(rel) {
+        return shown;
+    }
+    if !pool.shows(rel) {
+        return shown;
+    }
+    shown.with(rel)
+}
+
+// Tries each relation but those that are known to lead on, where the pool stands at the prefix or beyond it.
+fn each_tried(
+    pool: &mut Pool,
+    solver: &mut Closer,
+    prefix: &Position,
+    known: RelSet,
+) -> Result<RelSet, AllocError>
+    requires known { AllLeadOn pool.old.cursor.problem prefix.now known }
     requires pool { IsPool pool.old }
     requires beyond { Begins prefix.now pool.old.cursor.path }
     requires short { length prefix.now < pair_count pool.old.cursor.problem }
@@ -63,11 +136,37 @@ fn each_tried(pool: &mut Pool, solver: &mut Closer, prefix: &Position) -> Result
     law_literals_are_sets();
     let mut alive = RelSet::none();
     for rel in LAST_FIRST {
-        if leads_on(pool, solver, prefix, rel)? {
+        if is_known_or_leads_on(pool, solver, prefix, known, rel)? {
             alive = alive.with(rel);
         }
     }
     Ok(alive)
+}
+
+// Whether a relation leads on from a prefix, at which the pool stands or beyond it, to an alive one: tries it unless that is known.
+fn is_known_or_leads_on(
+    pool: &mut Pool,
+    solver: &mut Closer,
+    prefix: &Position,
+    known: RelSet,
+    rel: Rel,
+) -> Result<bool, AllocError>
+    requires pool { IsPool pool.old }
+    requires beyond { Begins prefix.now pool.old.cursor.path }
+    requires short { length prefix.now < pair_count pool.old.cursor.problem }
+    requires allow { IsTrue (all_allow (problem_at pool.old.cursor.problem prefix.now)) }
+    requires solver { IsSolverOf pool.old.cursor.problem solver.old }
+    requires known { IsTrue (has known rel) → IsAlive (problem_at pool.old.cursor.problem (prefix.now ++ rel ∷ [])) }
+    ensures solver { KeepsSolver pool.old.cursor.problem solver.old solver.new }
+    ensures pool { OnOk result (IsPool pool.new) }
+    ensures problem { OnOk result (pool.new.cursor.problem ≡ pool.old.cursor.problem) }
+    ensures beyond { OnOk result (Begins prefix.now pool.new.cursor.path) }
+    ensures alive { IfOk result (λ yes. IsTrue yes ↔ IsAlive (problem_at pool.old.cursor.problem (prefix.now ++ rel ∷ []))) }
+{
+    if known.has(rel) {
+        return Ok(true);
+    }
+    leads_on(pool, solver, prefix, rel)
 }
 
 // Whether a relation leads on from a prefix, at which the pool stands or beyond it, to an alive one: tries it.

@@ -1,4 +1,4 @@
-use Rattle.std.proofs.Common.{◌∙◌, refl, sym, arith}
+use Rattle.std.proofs.Common.{arith}
 use Rattle.point_places.proofs.Telling.{told_kept}
 use Rattle.point_places.proofs.places.Places.add.Goals as goal
 

@@ -1,4 +1,4 @@
-use Rattle.std.proofs.Common.{◌≡◌, ◌<◌, ◌∙◌, ℕ, true, get_or, length, sym, ap, subst}
+use Rattle.std.proofs.Common.{◌≡◌, ◌<◌, ◌∙◌, ℕ, true, get_or, length, ap, subst}
 use Rattle.bit_rows.specs.Rows.{has_bit}
 use Rattle.point_places.proofs.Meeting.{met_bits}
 use Rattle.point_places.proofs.places.Places.met_word.Goals as goal

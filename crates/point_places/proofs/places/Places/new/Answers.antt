@@ -1,4 +1,4 @@
-use Rattle.std.proofs.Common.{◌≡◌, ◌∙◌, true≢false, sym, ap, arith}
+use Rattle.std.proofs.Common.{◌∙◌, true≢false, sym, ap, arith}
 use Rattle.bit_rows.specs.Rows.{has_bit}
 use Rattle.point_places.proofs.Bits.{no_words}
 use Rattle.point_places.proofs.places.Places.new.Goals as goal

@@ -1,7 +1,7 @@
-use Rattle.std.proofs.Common.{◌≡◌, ◌≢◌, ◌*◌, ◌+◌, ◌<◌, ◌≤◌, ◌^◌, ℕ, true, length, sym, subst, arith}
-use Rattle.bit_rows.specs.Rows.{has_bit, word_bit}
+use Rattle.std.proofs.Common.{◌≡◌, ◌*◌, ◌+◌, ◌<◌, ℕ, true, length, sym, subst, arith}
+use Rattle.bit_rows.specs.Rows.{has_bit}
 use Rattle.std.specs.Int.{trailing_zeros, w64}
-use Rattle.point_places.specs.Places.{IsNextMet, meets}
+use Rattle.point_places.specs.Places.{meets}
 use Rattle.point_places.proofs.Meeting.{met_first, none_in_more}
 use Rattle.point_places.proofs.places.Places.next_met.Goals as goal
 

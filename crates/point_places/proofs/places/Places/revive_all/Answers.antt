@@ -1,4 +1,4 @@
-use Rattle.std.proofs.Common.{◌≡◌, ◌∙◌, refl, sym, ap, subst, arith}
+use Rattle.std.proofs.Common.{◌∙◌, refl, ap, subst, arith}
 use Rattle.bit_rows.specs.Rows.{has_bit}
 use Rattle.point_places.specs.Places.{AreRevived}
 use Rattle.point_places.specs.contracts.places.Places.{the_view}

@@ -1,4 +1,4 @@
-use Rattle.std.proofs.Common.{◌≡◌, ◌∙◌, ◌≤◌, length, get_or, refl, sym, ap, subst, bit_and, arith}
+use Rattle.std.proofs.Common.{◌∙◌, ◌≤◌, length, get_or, refl, ap, subst, bit_and, arith}
 use Rattle.std.proofs.lemmas.Bool.{false≢true}
 use Rattle.bit_rows.proofs.WordBits.{fits_and, some_here, none_more}
 use Rattle.point_places.specs.Places.{shows_at}

@@ -1,4 +1,4 @@
-use Rattle.std.proofs.Common.{◌/◌, ◌-◌, ◌<◌, ◌∙◌, length, set, refl, sym, subst, false, bit_and, arith}
+use Rattle.std.proofs.Common.{◌/◌, ◌-◌, ◌<◌, ◌∙◌, length, set, refl, subst, false, bit_and, arith}
 use Rattle.std.proofs.lemmas.Grind.{get_or_default_zero}
 use Rattle.point_places.specs.Places.{IsChanged}
 use Rattle.point_places.proofs.Bits.{bit_unset, past_end}

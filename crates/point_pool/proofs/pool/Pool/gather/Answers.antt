@@ -17,7 +17,7 @@ returns-then-index c =
     let served = served_now w number c.requires.pool c.requires.settled c.requires.within needed in
     let place : c.index-place.result.now ≡ get_or w.witness.items number 0 =
     get_or_read w.witness.items number c.index-place.result.now (omega (arith, c.requires.pool.kept.numbered, c.requires.within)) c.index-place.ensures 0 in
-    let there : c.index-place.result.now < length w.points.items = subst (λ k. k < length w.points.items) (sym place) served.0.there in
+    let there : c.index-place.result.now < length w.places.points = subst (λ k. k < length w.places.points) (sym place) served.fit.there in
     let marked : get_or c.args.taken.now.items c.index-place.result.now false ≡ true =
     sym (get_or_read c.args.taken.now.items c.index-place.result.now c.index.result.now (omega (arith, there, c.requires.gathered.counted)) c.index.ensures false) ∙ c.if-index.true in
     gathered_taken w number c.index-place.result.now c.args.list.now.items c.args.taken.now.items c.requires.pool c.requires.settled c.requires.within needed place marked c.requires.gathered
@@ -30,7 +30,7 @@ returns c =
     let served = served_now w number c.requires.pool c.requires.settled c.requires.within needed in
     let place : c.index-place.result.now ≡ get_or w.witness.items number 0 =
     get_or_read w.witness.items number c.index-place.result.now (omega (arith, c.requires.pool.kept.numbered, c.requires.within)) c.index-place.ensures 0 in
-    let there : c.index-place.result.now < length w.points.items = subst (λ k. k < length w.points.items) (sym place) served.0.there in
-    let bits : c.index-2.result.now ≡ point_at w.points.items c.index-place.result.now = get_or_read w.points.items c.index-place.result.now c.index-2.result.now there c.index-2.ensures [] in
+    let there : c.index-place.result.now < length w.places.points = subst (λ k. k < length w.places.points) (sym place) served.fit.there in
+    let bits : c.point.result.now ≡ point_at w.places.points c.index-place.result.now = c.point.ensures in
     gathered_more w number c.index-place.result.now c.in_ok-copy.field-0 c.args.list.now.items c.push.new.self.items c.args.taken.now.items c.requires.pool c.requires.settled c.requires.within needed place
     (c.in_ok-copy.ensures ∙ bits) c.in_ok-push.ensures.items c.requires.gathered

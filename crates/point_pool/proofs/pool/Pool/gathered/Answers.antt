@@ -10,7 +10,7 @@ use Rattle.point_pool.proofs.pool.Pool.gathered.Goals as goal
 pub loop-number-init : goal.loop-number-init
 loop-number-init c =
     let all = c.in_ok-taken.ensures.items_if_clones_equal (λ y same. same) in
-    none_gathered c.args.self.now c.new-list.result.items c.in_ok-taken.taken.items c.new-list.ensures.items (let counted = ap length all ∙ length-replicate c.len.result false in omega (arith, counted, c.len.ensures, c.args.self.now.points.ok))
+    none_gathered c.args.self.now c.new-list.result.items c.in_ok-taken.taken.items c.new-list.ensures.items (let counted = ap length all ∙ length-replicate c.len.result false in omega (arith, counted, c.len.ensures))
     (λ place. ap (λ ts. get_or ts place false) all ∙ all_false c.len.result place)
 
 pub returns : goal.returns

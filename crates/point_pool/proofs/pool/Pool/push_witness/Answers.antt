@@ -18,7 +18,7 @@ returns c =
     let served = served_now w number c.requires.pool c.requires.settled c.requires.within needed in
     let place : c.index-place.result.now ≡ get_or w.witness.items number 0 =
     get_or_read w.witness.items number c.index-place.result.now (omega (arith, c.requires.pool.kept.numbered, c.requires.within)) c.index-place.ensures 0 in
-    let there : c.index-place.result.now < length w.points.items = subst (λ k. k < length w.points.items) (sym place) served.0.there in
-    let bits : c.index.result.now ≡ point_at w.points.items c.index-place.result.now = get_or_read w.points.items c.index-place.result.now c.index.result.now there c.index.ensures [] in
+    let there : c.index-place.result.now < length w.places.points = subst (λ k. k < length w.places.points) (sym place) served.fit.there in
+    let bits : c.point.result.now ≡ point_at w.places.points c.index-place.result.now = c.point.ensures in
     witness_pushed w number c.args.list.now.items c.push.new.self.items c.in_ok-copy.field-0 c.requires.pool c.requires.settled c.requires.within needed
-    (c.in_ok-copy.ensures ∙ bits ∙ ap (point_at w.points.items) place) c.in_ok-push.ensures.items c.requires.served
+    (c.in_ok-copy.ensures ∙ bits ∙ ap (point_at w.places.points) place) c.in_ok-push.ensures.items c.requires.served

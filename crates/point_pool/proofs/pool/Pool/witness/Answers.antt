@@ -12,9 +12,9 @@ returns-clause-point c =
     let number = c.args.number in
     let place : c.index-place.result.now ≡ get_or w.witness.items number 0 =
     get_or_read w.witness.items number c.index-place.result.now (omega (arith, c.requires.kept.numbered, c.requires.within)) c.index-place.ensures 0 in
-    let there : c.index-place.result.now < length w.points.items = subst (λ k. k < length w.points.items) (sym place) c.requires.served.0.there in
-    let bits : c.index.result.now ≡ point_at w.points.items c.index-place.result.now = get_or_read w.points.items c.index-place.result.now c.index.result.now there c.index.ensures [] in
-    let is : c.in_ok-point.point ≡ point_at w.points.items (get_or w.witness.items number 0) = c.in_ok-point.ensures ∙ bits ∙ ap (point_at w.points.items) place in
+    let there : c.index-place.result.now < length w.places.points = subst (λ k. k < length w.places.points) (sym place) c.requires.served.fit.there in
+    let bits : c.point.result.now ≡ point_at w.places.points c.index-place.result.now = c.point.ensures in
+    let is : c.in_ok-point.point ≡ point_at w.places.points (get_or w.witness.items number 0) = c.in_ok-point.ensures ∙ bits ∙ ap (point_at w.places.points) place in
     subst (λ b. IsTrue (is_point (problem_at w.cursor.problem w.cursor.path) b)) (sym is) (served_point w number (get_or w.witness.items number 0) c.requires.kept c.requires.served).0
 
 pub returns-clause-in_need : goal.returns-clause-in_need
@@ -23,7 +23,7 @@ returns-clause-in_need c =
     let number = c.args.number in
     let place : c.index-place.result.now ≡ get_or w.witness.items number 0 =
     get_or_read w.witness.items number c.index-place.result.now (omega (arith, c.requires.kept.numbered, c.requires.within)) c.index-place.ensures 0 in
-    let there : c.index-place.result.now < length w.points.items = subst (λ k. k < length w.points.items) (sym place) c.requires.served.0.there in
-    let bits : c.index.result.now ≡ point_at w.points.items c.index-place.result.now = get_or_read w.points.items c.index-place.result.now c.index.result.now there c.index.ensures [] in
-    let is : c.in_ok-point.point ≡ point_at w.points.items (get_or w.witness.items number 0) = c.in_ok-point.ensures ∙ bits ∙ ap (point_at w.points.items) place in
+    let there : c.index-place.result.now < length w.places.points = subst (λ k. k < length w.places.points) (sym place) c.requires.served.fit.there in
+    let bits : c.point.result.now ≡ point_at w.places.points c.index-place.result.now = c.point.ensures in
+    let is : c.in_ok-point.point ≡ point_at w.places.points (get_or w.witness.items number 0) = c.in_ok-point.ensures ∙ bits ∙ ap (point_at w.places.points) place in
     subst (λ b. IsTrue (is_in_need (need_at w.cursor.problem number) b)) (sym is) (served_point w number (get_or w.witness.items number 0) c.requires.kept c.requires.served).1
