@@ -31,7 +31,7 @@ closed_is_dead asker p m need id closed alive =
 
 -- where each need waits or is served, so does each but one
 pub pool_but : (w : Pool) (low high : ℕ) → IsPool w → IsPoolBut w low high
-pool_but w low high is = record { kept = is.kept; watched = λ number within counts. is.watched number within counts.0 }
+pool_but w low high is = record { kept = is.kept; marked = is.marked; watched = λ number within counts. is.watched number within counts.0 }
 
 -- a need that no point of the prefix is in
 pub lost_is_dead : (p : Problem) (m : List Rel) (number : ℕ) → number < need_count p → is_needed (problem_at p m) number ≡ true → (HasPoint (problem_at p m) (need_at p number) → ⊥) → IsAlive (problem_at p m) → ⊥

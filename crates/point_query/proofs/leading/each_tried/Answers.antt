@@ -20,19 +20,19 @@ loop-rel-init c = record {
   each = λ rel. (λ h. absurd (true≢false (sym h ∙ ap (λ set. has set rel) c.none-alive.ensures ∙ has_none rel)), λ h. absurd (omega (arith, h.0.1)));
 }
 
-pub leads_on-requires-clause-short : goal.leads_on-requires-clause-short
-leads_on-requires-clause-short c = subst (λ p. length c.args.prefix.now < pair_count p) (sym c.loop-rel.invariant.problem) c.requires.short
+pub is_known_or_leads_on-requires-clause-short : goal.is_known_or_leads_on-requires-clause-short
+is_known_or_leads_on-requires-clause-short c = subst (λ p. length c.args.prefix.now < pair_count p) (sym c.loop-rel.invariant.problem) c.requires.short
 
-pub leads_on-requires-clause-allow : goal.leads_on-requires-clause-allow
-leads_on-requires-clause-allow c = subst (λ p. IsTrue (all_allow (problem_at p c.args.prefix.now))) (sym c.loop-rel.invariant.problem) c.requires.allow
+pub is_known_or_leads_on-requires-clause-allow : goal.is_known_or_leads_on-requires-clause-allow
+is_known_or_leads_on-requires-clause-allow c = subst (λ p. IsTrue (all_allow (problem_at p c.args.prefix.now))) (sym c.loop-rel.invariant.problem) c.requires.allow
 
-pub leads_on-requires-clause-solver : goal.leads_on-requires-clause-solver
-leads_on-requires-clause-solver c = subst (λ p. IsSolverOf p c.loop-rel.solver) (sym c.loop-rel.invariant.problem) c.loop-rel.invariant.solver.solver
+pub is_known_or_leads_on-requires-clause-solver : goal.is_known_or_leads_on-requires-clause-solver
+is_known_or_leads_on-requires-clause-solver c = subst (λ p. IsSolverOf p c.loop-rel.solver) (sym c.loop-rel.invariant.problem) c.loop-rel.invariant.solver.solver
 
-pub returns-in_err-leads_on-clause-solver : goal.returns-in_err-leads_on-clause-solver
-returns-in_err-leads_on-clause-solver c =
-    keeps_chain c.law_literals_are_sets.ensures c.args.pool.now.cursor.problem c.loop-rel.pool.cursor.problem c.args.solver.now c.loop-rel.solver c.leads_on.new.solver
-    c.loop-rel.invariant.problem c.loop-rel.invariant.solver c.leads_on.ensures.solver
+pub returns-in_err-is_known_or_leads_on-clause-solver : goal.returns-in_err-is_known_or_leads_on-clause-solver
+returns-in_err-is_known_or_leads_on-clause-solver c =
+    keeps_chain c.law_literals_are_sets.ensures c.args.pool.now.cursor.problem c.loop-rel.pool.cursor.problem c.args.solver.now c.loop-rel.solver c.is_known_or_leads_on.new.solver
+    c.loop-rel.invariant.problem c.loop-rel.invariant.solver c.is_known_or_leads_on.ensures.solver
 
 pub loop-rel-preserved : goal.loop-rel-preserved
 loop-rel-preserved c =
@@ -41,11 +41,11 @@ loop-rel-preserved c =
     let i = c.loop-rel.rel-index in
     let rel = get_or last_first i Equals in
     let more = take_more last_first i Equals c.loop-rel-test.true in
-    let said = c.in_ok-leads_on.ensures in
+    let said = c.in_ok-is_known_or_leads_on.ensures in
     let same = c.loop-rel.invariant.problem in
     record {
-      solver = keeps_chain c.law_literals_are_sets.ensures c.args.pool.now.cursor.problem c.loop-rel.pool.cursor.problem c.args.solver.now c.loop-rel.solver c.leads_on.new.solver
-          same c.loop-rel.invariant.solver c.leads_on.ensures.solver;
+      solver = keeps_chain c.law_literals_are_sets.ensures c.args.pool.now.cursor.problem c.loop-rel.pool.cursor.problem c.args.solver.now c.loop-rel.solver c.is_known_or_leads_on.new.solver
+          same c.loop-rel.invariant.solver c.is_known_or_leads_on.ensures.solver;
       pool = said.pool;
       problem = said.problem ∙ same;
       beyond = said.beyond;
