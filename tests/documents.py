@@ -213,7 +213,7 @@ def crate_faults():
     ruled_out.update({crate: every - set(layer["derivations"]) for crate in layer["derivations"]})
     ruled_out["proof_text"] -= {"rcc5_core"}
     ruled_out.update({crate: every - set(layer["solver"]) - set(layer["derivations"]) for crate in layer["solver"]})
-    ruled_out.update({crate: asks for crate in ("bit_rows", "point_table", "point_ladder", "table_walk")})
+    ruled_out.update({crate: asks for crate in ("bit_rows", "point_table", "point_ladder")})
     ruled_out.update({crate: asks | set(layer["search"]) for crate in layer["certificates"] + ["check_run", "join_run"]})
     ruled_out["euler_align"] = set(layer["references"])
     for crate, others in ruled_out.items():
