@@ -1,5 +1,5 @@
 //! A walk as its users see it.
-ghost use Rattle.std.specs.Prelude.{◌≤◌, length, IfOk, IfSome};
+ghost use Rattle.std.specs.Prelude.{◌≡◌, ◌≤◌, length, IfOk, IfSome};
 ghost use Rattle.world_model.specs.Problem.{pair_count};
 ghost use Rattle.world_model.specs.Family.{IsPossibleWorld};
 ghost use Rattle.world_walk.specs.Walks.{IsWalk, StandsBefore, StandsBehind, IsNext};
