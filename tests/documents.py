@@ -207,13 +207,13 @@ def crate_faults():
     faults += [f"docs/CODE.md: the crate {crate} is missing" for crate in under if crate not in told]
     faults += [f"docs/CODE.md: there is no crate {crate}" for crate in told if crate not in under]
     faults += [f"docs/CODE.md: the crate {crate} stands there twice" for crate in set(told) if told.count(crate) > 1]
-    asks = set(layer["solver"]) | {"point_pool", "point_query"}
+    asks = set(layer["solver"]) | {"point_places", "point_pool", "point_query"}
     every = set(under)
     ruled_out = {crate: every - set(layer["subject"]) - {"lits_core", "proof_text"} for crate in layer["subject"]}
     ruled_out.update({crate: every - set(layer["derivations"]) for crate in layer["derivations"]})
     ruled_out["proof_text"] -= {"rcc5_core"}
     ruled_out.update({crate: every - set(layer["solver"]) - set(layer["derivations"]) for crate in layer["solver"]})
-    ruled_out.update({crate: asks for crate in ("bit_rows", "point_table", "point_ladder")})
+    ruled_out.update({crate: asks for crate in layer["bridge"] if crate not in asks})
     ruled_out.update({crate: asks | set(layer["search"]) for crate in layer["certificates"] + ["check_run", "join_run"]})
     ruled_out["euler_align"] = set(layer["references"])
     for crate, others in ruled_out.items():

@@ -1,6 +1,6 @@
 #!/usr/bin/env python3
 """Revisions of small taxonomies, in which many statements leave relations open, so that a listing has to retreat: each problem's
-first worlds by the walk along a table beside those by the search that counts its nodes, and `mir` beside the letters of all worlds, where
+first worlds by the walk along alive paths beside those by the search that counts its nodes, and `mir` beside the letters of all worlds, where
 these are not too many.
 
     tests/two_walks.py [--program PATH] [--count N] [--seed N]
