@@ -355,13 +355,13 @@ up_to-renamed name (p ∷ places) level = elim (cases_Bool (nat_le p.level level
   | inr off ↦ rw off (up_to-renamed name places level)
 ]
 
-place-renamed : (name : ℕ → Option ℕ) (places : List Place) (p : ℕ) → p < length places → place_at (places_with name places) p ≡ record (place_at places p) { reason = option_and_then name (place_at places p).reason }
+pub place-renamed : (name : ℕ → Option ℕ) (places : List Place) (p : ℕ) → p < length places → place_at (places_with name places) p ≡ record (place_at places p) { reason = option_and_then name (place_at places p).reason }
 place-renamed name [] p lt = absurd (omega arith)
 place-renamed name (q ∷ places) zero lt = refl
 place-renamed name (q ∷ places) (suc p) lt = place-renamed name places p (omega arith)
 
 -- the levels tell which places were assumed
-assumed-renamed : (t u : TrailState) (p : ℕ) → IsTrail t → IsTrail u → length u.places ≡ length t.places → ((q : ℕ) → q < length t.places → (place_at u.places q).level ≡ (place_at t.places q).level) → p < length t.places → is_assumed (place_at u.places p) ≡ true → is_assumed (place_at t.places p) ≡ true
+pub assumed-renamed : (t u : TrailState) (p : ℕ) → IsTrail t → IsTrail u → length u.places ≡ length t.places → ((q : ℕ) → q < length t.places → (place_at u.places q).level ≡ (place_at t.places q).level) → p < length t.places → is_assumed (place_at u.places p) ≡ true → is_assumed (place_at t.places p) ≡ true
 assumed-renamed t u p f g size levels lt a = elim (cases_Bool (is_assumed (place_at t.places p))) [
   | inl on ↦ on
   | inr off ↦

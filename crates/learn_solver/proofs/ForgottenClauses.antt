@@ -9,13 +9,13 @@ use Rattle.clause_arena.specs.Records.{Record, record_at, unlinked, compacted, f
 use Rattle.watch_arena.specs.declared.places.Place.{Place}
 use Rattle.watch_arena.specs.Places.{places_with}
 use Rattle.watch_arena.proofs.ByIndex.{or_cases, or_left, or_right}
-use Rattle.learn_solver.specs.States.{is_reason, idle_from}
-use Rattle.learn_solver.proofs.Idle.{idle-index}
+use Rattle.learn_solver.specs.States.{is_reason, gone_from, idle_from}
+use Rattle.learn_solver.proofs.Idle.{gone-index}
 
 -- the records that are left of some: the first has this number
-pub left_from : List Place → ℕ → List Record → List Record
-left_from places at [] = []
-left_from places at (r ∷ records) = cond (is_reason places at) (r ∷ left_from places (at + 1) records) (left_from places (at + 1) records)
+pub left_from : (ℕ → Bool) → ℕ → List Record → List Record
+left_from stays at [] = []
+left_from stays at (r ∷ records) = cond (stays at) (r ∷ left_from stays (at + 1) records) (left_from stays (at + 1) records)
 
 -- the derived clause of a record
 abbrev pub entry : Record → ℕ × List ℕ
@@ -53,67 +53,67 @@ Ascend records = (a b : ℕ) → a < b → b < length records → (record_at rec
 ascend-rest : (r : Record) (records : List Record) → Ascend (r ∷ records) → Ascend records
 ascend-rest r records h a b lt within = h (suc a) (suc b) (omega arith) (omega arith)
 
--- an idle id is past that of a record before
-idle-past : (places : List Place) (r : Record) (at : ℕ) (records : List Record) (id : ℕ) → Ascend (r ∷ records) → Contains (idle_from places at records) id → r.id ≢ id
-idle-past places r at records id h has e =
-    let found = idle-index places at records id has in
+-- the id of a record that goes is past that of a record before
+gone-past : (stays : ℕ → Bool) (r : Record) (at : ℕ) (records : List Record) (id : ℕ) → Ascend (r ∷ records) → Contains (gone_from stays at records) id → r.id ≢ id
+gone-past stays r at records id h has e =
+    let found = gone-index stays at records id has in
     let lt = found.1 in
     let up = h 0 (suc found.0) (omega arith) (omega arith) in
     let is = found.2 in absurd (omega arith)
 
--- the derived clauses without those of the idle ids are those of the records that are left
-pub without-idle : (places : List Place) (at : ℕ) (records : List Record) → Ascend records → without_ids (map entry records) (idle_from places at records) ≡ map entry (left_from places at records)
+-- the derived clauses without those that go are those of the records that are left
+pub without-gone : (stays : ℕ → Bool) (at : ℕ) (records : List Record) → Ascend records → without_ids (map entry records) (gone_from stays at records) ≡ map entry (left_from stays at records)
 unfolding left_from
-without-idle places at [] h = refl
-without-idle places at (r ∷ records) h =
-    let rest = without-idle places (at + 1) records (ascend-rest r records h) in
-    elim (cases_Bool (is_reason places at)) [
+without-gone stays at [] h = refl
+without-gone stays at (r ∷ records) h =
+    let rest = without-gone stays (at + 1) records (ascend-rest r records h) in
+    elim (cases_Bool (stays at)) [
       | inl on ↦
-          let past = without-past r (map entry records) (idle_from places (at + 1) records) (λ id has. idle-past places r (at + 1) records id h has) in
+          let past = without-past r (map entry records) (gone_from stays (at + 1) records) (λ id has. gone-past stays r (at + 1) records id h has) in
           rw (on, past, rest) refl
       | inr off ↦
-          let first = without-first r (map entry records) (idle_from places (at + 1) records) in
+          let first = without-first r (map entry records) (gone_from stays (at + 1) records) in
           rw (off, first, rest) refl
     ]
 
 -- and they may be forgotten
-pub forget-idle : (places : List Place) (at : ℕ) (records : List Record) → Ascend records → forget_fault (map entry records) (idle_from places at records) ≡ None
-forget-idle places at [] h = refl
-forget-idle places at (r ∷ records) h =
-    let rest = forget-idle places (at + 1) records (ascend-rest r records h) in
-    elim (cases_Bool (is_reason places at)) [
+pub forget-gone : (stays : ℕ → Bool) (at : ℕ) (records : List Record) → Ascend records → forget_fault (map entry records) (gone_from stays at records) ≡ None
+forget-gone stays at [] h = refl
+forget-gone stays at (r ∷ records) h =
+    let rest = forget-gone stays (at + 1) records (ascend-rest r records h) in
+    elim (cases_Bool (stays at)) [
       | inl on ↦
-          let past = fault-past r (map entry records) (idle_from places (at + 1) records) (λ id has. idle-past places r (at + 1) records id h has) in
+          let past = fault-past r (map entry records) (gone_from stays (at + 1) records) (λ id has. gone-past stays r (at + 1) records id h has) in
           rw (on, past, rest) refl
       | inr off ↦
-          let first = fault-first r (map entry records) (idle_from places (at + 1) records) in
+          let first = fault-first r (map entry records) (gone_from stays (at + 1) records) in
           rw (off, first, rest) refl
     ]
 
--- what a compaction leaves where idle clauses were forgotten
-pub compacted-left : (places : List Place) (at : ℕ) (old new : List Record) → length new ≡ length old → ((k : ℕ) → k < length old → (record_at old k).live ≡ true) → ((k : ℕ) → k < length old → record_at new k ≡ cond (is_reason places (at + k)) (record_at old k) (forgotten (record_at old k))) → compacted new ≡ map unlinked (left_from places at old)
+-- what a compaction leaves where clauses were forgotten
+pub compacted-left : (stays : ℕ → Bool) (at : ℕ) (old new : List Record) → length new ≡ length old → ((k : ℕ) → k < length old → (record_at old k).live ≡ true) → ((k : ℕ) → k < length old → record_at new k ≡ cond (stays (at + k)) (record_at old k) (forgotten (record_at old k))) → compacted new ≡ map unlinked (left_from stays at old)
 unfolding left_from
-compacted-left places at [] [] size live each = refl
-compacted-left places at [] (n ∷ new) size live each = absurd (omega arith)
-compacted-left places at (r ∷ old) [] size live each = absurd (omega arith)
-compacted-left places at (r ∷ old) (n ∷ new) size live each =
-    let rest : compacted new ≡ map unlinked (left_from places (at + 1) old) = compacted-left places (at + 1) old new (omega arith) (λ k lt. live (suc k) (omega arith))
-    (λ k lt. each (suc k) (omega arith) ∙ ap (λ (m : ℕ). cond (is_reason places m) (record_at old k) (forgotten (record_at old k))) (let e : at + suc k ≡ at + 1 + k = omega arith in e)) in
-    let here : n ≡ cond (is_reason places at) r (forgotten r) = each 0 (omega arith) ∙ ap (λ (m : ℕ). cond (is_reason places m) r (forgotten r)) (add-zero at) in
-    elim (cases_Bool (is_reason places at)) [
+compacted-left stays at [] [] size live each = refl
+compacted-left stays at [] (n ∷ new) size live each = absurd (omega arith)
+compacted-left stays at (r ∷ old) [] size live each = absurd (omega arith)
+compacted-left stays at (r ∷ old) (n ∷ new) size live each =
+    let rest : compacted new ≡ map unlinked (left_from stays (at + 1) old) = compacted-left stays (at + 1) old new (omega arith) (λ k lt. live (suc k) (omega arith))
+    (λ k lt. each (suc k) (omega arith) ∙ ap (λ (m : ℕ). cond (stays m) (record_at old k) (forgotten (record_at old k))) (let e : at + suc k ≡ at + 1 + k = omega arith in e)) in
+    let here : n ≡ cond (stays at) r (forgotten r) = each 0 (omega arith) ∙ ap (λ (m : ℕ). cond (stays m) r (forgotten r)) (add-zero at) in
+    elim (cases_Bool (stays at)) [
       | inl on ↦
           let same : n ≡ r = here ∙ ap (λ (b : Bool). cond b r (forgotten r)) on in
           let alive : n.live ≡ true = ap (λ (x : Record). x.live) same ∙ live 0 (omega arith) in
           ap (λ (b : Bool). map unlinked (cond b (n ∷ filter (λ x. x.live) new) (filter (λ x. x.live) new))) alive
           ∙ ap (λ (xs : List Record). unlinked n ∷ xs) rest
-          ∙ ap (λ (x : Record). unlinked x ∷ map unlinked (left_from places (at + 1) old)) same
-          ∙ sym (ap (λ (b : Bool). map unlinked (cond b (r ∷ left_from places (at + 1) old) (left_from places (at + 1) old))) on)
+          ∙ ap (λ (x : Record). unlinked x ∷ map unlinked (left_from stays (at + 1) old)) same
+          ∙ sym (ap (λ (b : Bool). map unlinked (cond b (r ∷ left_from stays (at + 1) old) (left_from stays (at + 1) old))) on)
       | inr off ↦
           let same : n ≡ forgotten r = here ∙ ap (λ (b : Bool). cond b r (forgotten r)) off in
           let dead : n.live ≡ false = ap (λ (x : Record). x.live) same in
           ap (λ (b : Bool). map unlinked (cond b (n ∷ filter (λ x. x.live) new) (filter (λ x. x.live) new))) dead
           ∙ rest
-          ∙ sym (ap (λ (b : Bool). map unlinked (cond b (r ∷ left_from places (at + 1) old) (left_from places (at + 1) old))) off)
+          ∙ sym (ap (λ (b : Bool). map unlinked (cond b (r ∷ left_from stays (at + 1) old) (left_from stays (at + 1) old))) off)
     ]
 
 -- live records that stay are all left

@@ -9,15 +9,18 @@ use Rattle.std.proofs.lemmas.Bool.{cases_Bool, cases_lt, and_from}
 use Rattle.lits_core.specs.Derivation.{derived_clause, given_clause, distinct_ids, has_distinct_ids}
 use Rattle.clause_arena.specs.Records.{Record, record_at, no_record}
 use Rattle.watch_arena.specs.declared.places.Place.{Place}
-use Rattle.learn_solver.specs.States.{state_of, is_reason, idle_from, idle_of}
+use Rattle.learn_solver.specs.States.{state_of, is_reason, gone_from, idle_from, idle_of}
 use Rattle.learn_solver.specs.Learners.{AreRecords}
 use Rattle.learn_solver.proofs.RecordState.{derived-none, derived-at, given-none, derived-id, ids-apart}
 
 -- one record after another
-pub idle-step : (places : List Place) (records : List Record) (at : ℕ) → at < length records → idle_from places at (drop at records) ≡ cond (is_reason places at) (idle_from places (at + 1) (drop (at + 1) records)) ((record_at records at).id ∷ idle_from places (at + 1) (drop (at + 1) records))
-idle-step places records at lt =
+pub gone-step : (stays : ℕ → Bool) (records : List Record) (at : ℕ) → at < length records → gone_from stays at (drop at records) ≡ cond (stays at) (gone_from stays (at + 1) (drop (at + 1) records)) ((record_at records at).id ∷ gone_from stays (at + 1) (drop (at + 1) records))
+gone-step stays records at lt =
     let split : drop at records ≡ record_at records at ∷ drop (at + 1) records = rw (add-one, drop-cons records at no_record) in
-    ap (idle_from places at) split
+    ap (gone_from stays at) split
+
+idle-step : (places : List Place) (records : List Record) (at : ℕ) → at < length records → idle_from places at (drop at records) ≡ cond (is_reason places at) (idle_from places (at + 1) (drop (at + 1) records)) ((record_at records at).id ∷ idle_from places (at + 1) (drop (at + 1) records))
+idle-step places records at lt = gone-step (is_reason places) records at lt
 
 pub count-step : (places : List Place) (records : List Record) (at : ℕ) (b : Bool) → at < length records → b ≡ not (is_reason places at) → cond b 1 0 + length (idle_from places (at + 1) (drop (at + 1) records)) ≡ length (idle_from places at (drop at records))
 count-step places records at b lt is =
@@ -75,17 +78,29 @@ contains-first : (first id : ℕ) (ids : List ℕ) → Contains (first ∷ ids) 
 contains-first first id ids (zero, lt, e) = inl e
 contains-first first id ids (suc k, lt, e) = inr (k, omega arith, e)
 
--- each idle id is that of one of the records
-pub idle-index : (places : List Place) (at : ℕ) (records : List Record) (id : ℕ) → Contains (idle_from places at records) id → (k : ℕ) × (k < length records) × ((record_at records k).id ≡ id)
-idle-index places at [] id (k, lt, e) = absurd (omega arith)
-idle-index places at (r ∷ records) id has =
-    elim (cases_Bool (is_reason places at)) [
-      | inl on ↦ let rest = idle-index places (at + 1) records id (rw on at has) in let lt = rest.1 in (suc rest.0, omega arith, rest.2)
-      | inr off ↦ elim (contains-first r.id id (idle_from places (at + 1) records) (rw off at has)) [
+-- the id of a record that goes is that of one of the records
+pub gone-index : (stays : ℕ → Bool) (at : ℕ) (records : List Record) (id : ℕ) → Contains (gone_from stays at records) id → (k : ℕ) × (k < length records) × ((record_at records k).id ≡ id)
+gone-index stays at [] id (k, lt, e) = absurd (omega arith)
+gone-index stays at (r ∷ records) id has =
+    elim (cases_Bool (stays at)) [
+      | inl on ↦ let rest = gone-index stays (at + 1) records id (rw on at has) in let lt = rest.1 in (suc rest.0, omega arith, rest.2)
+      | inr off ↦ elim (contains-first r.id id (gone_from stays (at + 1) records) (rw off at has)) [
         | inl here ↦ (0, omega arith, here)
-        | inr there ↦ let rest = idle-index places (at + 1) records id there in let lt = rest.1 in (suc rest.0, omega arith, rest.2)
+        | inr there ↦ let rest = gone-index stays (at + 1) records id there in let lt = rest.1 in (suc rest.0, omega arith, rest.2)
       ]
     ]
+
+pub idle-index : (places : List Place) (at : ℕ) (records : List Record) (id : ℕ) → Contains (idle_from places at records) id → (k : ℕ) × (k < length records) × ((record_at records k).id ≡ id)
+idle-index places at records id has = gone-index (is_reason places) at records id has
+
+-- what goes by one choice goes by another one that agrees
+pub gone-same : (stays other : ℕ → Bool) (at : ℕ) (records : List Record) → ((k : ℕ) → k < length records → stays (at + k) ≡ other (at + k)) → gone_from stays at records ≡ gone_from other at records
+gone-same stays other at [] same = refl
+gone-same stays other at (r ∷ records) same =
+    let here : stays at ≡ other at = ap stays (let e : at ≡ at + 0 = omega arith in e) ∙ same 0 (omega arith) ∙ ap other (let e : at + 0 ≡ at = omega arith in e) in
+    let rest = gone-same stays other (at + 1) records (λ k lt.
+    ap stays (let e : at + 1 + k ≡ at + suc k = omega arith in e) ∙ same (suc k) (omega arith) ∙ ap other (let e : at + suc k ≡ at + 1 + k = omega arith in e)) in
+    rw (here, rest) refl
 
 -- the ids of records differ
 abbrev AreApart : List Record → Type 0

@@ -18,3 +18,4 @@ mod Tidied
 mod Givens
 mod HintChain
 pub mod Derived
+pub mod Serving

@@ -55,3 +55,14 @@ weight-jumped (suc n) zero (p ∷ places) last lt within on off =
     let small : cond (is_assumed last) (3 ^ n) 0 ≡ 0 = ap (λ (b : Bool). cond b (3 ^ n) 0) off in
     omega arith
 weight-jumped (suc n) (suc q) (p ∷ places) last lt within on off = let rest = weight-jumped n q places last (omega arith) (omega arith) on off in omega arith
+
+-- it rests on which places were assumed
+pub weight-same : (n : ℕ) (xs ys : List Place) → length xs ≡ length ys → ((p : ℕ) → p < length xs → is_assumed (place_at xs p) ≡ is_assumed (place_at ys p)) → weight n xs ≡ weight n ys
+weight-same zero xs ys size same = refl
+weight-same (suc n) [] [] size same = refl
+weight-same (suc n) [] (y ∷ ys) size same = absurd (omega arith)
+weight-same (suc n) (x ∷ xs) [] size same = absurd (omega arith)
+weight-same (suc n) (x ∷ xs) (y ∷ ys) size same =
+    let here : is_assumed x ≡ is_assumed y = same 0 (omega arith) in
+    let rest = weight-same n xs ys (omega arith) (λ p lt. same (suc p) (omega arith)) in
+    rw (here, rest) refl

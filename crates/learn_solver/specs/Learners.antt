@@ -1,7 +1,7 @@
 -- The parts of a solver: what is so of them, and what its steps keep.
-use Rattle.std.specs.Prelude.{◌≡◌, ℕ, ◌+◌, ◌*◌, ◌<◌, ◌≤◌, ◌⊎◌, Bool, true, false, List, [], ◌∷◌, ◌++◌, length, map, Option, Some, None, All, Contains, IsPermutation, slice_index_or}
+use Rattle.std.specs.Prelude.{◌≡◌, ℕ, ◌+◌, ◌*◌, ◌<◌, ◌≤◌, ◌⊎◌, Bool, true, false, List, [], ◌∷◌, ◌++◌, length, map, drop, Option, Some, None, All, Contains, IsPermutation, slice_index_or}
 use Rattle.lits_core.specs.Literals.{variable_of, is_negative}
-use Rattle.lits_core.specs.Derivation.{DerivedFollow}
+use Rattle.lits_core.specs.Derivation.{DerivedFollow, SameState, state_after}
 use Rattle.clause_arena.specs.Records.{Record, record_at, forgotten}
 use Rattle.watch_arena.specs.declared.places.Place.{Place}
 use Rattle.watch_arena.specs.Places.{is_true, is_assumed}
@@ -9,9 +9,9 @@ use Rattle.watch_arena.specs.Trails.{TrailState, places_up_to}
 use Rattle.conflict_clause.specs.Taught.{AreClosed}
 use Rattle.learn_solver.specs.declared.learner.Learner.{Learner}
 use Rattle.learn_solver.specs.declared.solver.Answer.{Answer}
-use Rattle.learn_solver.specs.Solving.{SolverState, FromOne, GoesTo}
+use Rattle.learn_solver.specs.Solving.{SolverState, FromOne, GoesTo, forgetting}
 use Rattle.learn_solver.specs.Answers.{IsAnswer}
-use Rattle.learn_solver.specs.States.{state_of, idle_of, is_reason}
+use Rattle.learn_solver.specs.States.{state_of, gone_from, idle_of, is_reason}
 use Rattle.learn_solver.specs.Weights.{weight}
 use Rattle.learn_solver.specs.Guides.{Guide, IsGuided, by_trail, lowered}
 
@@ -48,12 +48,29 @@ abbrev pub AreNoted : List Record → ℕ → List Bool → Type 0
 AreNoted records given noted =
     (at lit : ℕ) → at < given → Contains (record_at records at).lits lit → is_negative lit ≡ false → slice_index_or noted (variable_of lit) false ≡ true
 
--- the clauses that are idle are live no more, and nothing else is changed
-pub record Forgets (old new : TrailState) (given : ℕ) : Type 0 where
+-- whether a clause stays, by a list that tells it of each clause
+abbrev pub stays_by : List Bool → ℕ → Bool
+stays_by kept at = slice_index_or kept at true
+
+-- a list tells of each clause whether it stays, and each reason does
+pub record AreKept (kept : List Bool) (t : TrailState) : Type 0 where
+  pub all : length kept ≡ length t.records
+  pub reasons : (at : ℕ) → at < length t.records → is_reason t.places at ≡ true → stays_by kept at ≡ true
+
+-- of the derived clauses just the reasons stay
+abbrev pub AreReasons : List Bool → TrailState → ℕ → Type 0
+AreReasons kept t given = (at : ℕ) → given ≤ at → at < length t.records → stays_by kept at ≡ is_reason t.places at
+
+-- the ids of the derived clauses that don't stay
+abbrev pub gone_of : Learner → List Bool → List ℕ
+gone_of l kept = gone_from (stays_by kept) l.given (drop l.given l.trail.records)
+
+-- the derived clauses that don't stay are live no more, and nothing else is changed
+pub record Forgets (old new : TrailState) (given : ℕ) (stays : ℕ → Bool) : Type 0 where
   pub same : new ≡ record old { records = new.records }
   pub count : length new.records ≡ length old.records
-  pub kept : (at : ℕ) → at < given ⊎ (is_reason old.places at ≡ true) → record_at new.records at ≡ record_at old.records at
-  pub gone : (at : ℕ) → given ≤ at → at < length old.records → is_reason old.places at ≡ false → record_at new.records at ≡ forgotten (record_at old.records at)
+  pub kept : (at : ℕ) → at < given ⊎ (stays at ≡ true) → record_at new.records at ≡ record_at old.records at
+  pub gone : (at : ℕ) → given ≤ at → at < length old.records → stays at ≡ false → record_at new.records at ≡ forgotten (record_at old.records at)
 
 -- what is so of the parts at any time
 pub record IsLearner (l : Learner) : Type 0 where
@@ -72,6 +89,13 @@ pub record Steps (old new : Learner) : Type 0 where
   pub goes : GoesTo (solver_state old) (solver_state new)
   pub variables : new.trail.variables ≡ old.trail.variables
   pub assumptions : new.assumptions.lits ≡ old.assumptions.lits
+
+-- the derived clauses that don't stay are forgotten, by one line if there are any, and what is held true stays so
+pub record Clears (old new : Learner) (kept : List Bool) : Type 0 where
+  pub waiting : new.waiting.items ≡ old.waiting.items ++ forgetting (gone_of old kept)
+  pub state : SameState (state_after (solver_state old).state (forgetting (gone_of old kept))) (solver_state new).state
+  pub assigned : (solver_state new).assigned ≡ (solver_state old).assigned
+  pub idle : AreReasons kept old.trail old.given → (solver_state new).idle ≡ []
 
 -- the trail after going back to a level
 abbrev pub backtracked : TrailState → ℕ → TrailState
@@ -113,9 +137,13 @@ pub record KeepsPlaces (old new : TrailState) : Type 0 where
 abbrev pub KeepsRest : Learner → Learner → Type 0
 KeepsRest old new = new ≡ record old { trail = new.trail; waiting = new.waiting; last = new.last }
 
+-- how much is left to do
+abbrev pub burden : Learner → ℕ
+burden l = weight l.trail.variables l.trail.places
+
 -- a step of the search has an answer, or goes on with less to do
 abbrev pub Serves : Learner → Learner → Option Answer → Type 0
-Serves old new None = weight new.trail.variables new.trail.places < weight old.trail.variables old.trail.places
+Serves old new None = burden new < burden old
 Serves old new (Some answer) = IsAnswer (solver_state new) old.assumptions.lits answer
 
 -- a literal is assumed on a new level

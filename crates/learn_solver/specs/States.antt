@@ -17,11 +17,15 @@ state_of records given = record {
 abbrev pub is_reason : List Place → ℕ → Bool
 is_reason places at = list_any (λ p. option_map_or (λ r. r == at) p.reason false) places
 
+-- the ids of those of some records that don't stay; the first has this number
+abbrev pub gone_from : (ℕ → Bool) → ℕ → List Record → List ℕ
+gone_from stays at [] = []
+gone_from stays at (r ∷ records) =
+    if stays at then gone_from stays (at + 1) records else r.id ∷ gone_from stays (at + 1) records
+
 -- the ids of those of some records that are the reason of no place; the first has this number
 abbrev pub idle_from : List Place → ℕ → List Record → List ℕ
-idle_from places at [] = []
-idle_from places at (r ∷ records) =
-    if is_reason places at then idle_from places (at + 1) records else r.id ∷ idle_from places (at + 1) records
+idle_from places at records = gone_from (is_reason places) at records
 
 -- the ids of the derived clauses that are the reason of no place
 unfoldable pub idle_of : List Place → List Record → ℕ → List ℕ

@@ -9,6 +9,7 @@ ghost use Rattle.conflict_clause.specs.Taught.{IsTaught};
 
 use crate::assumptions::Assumptions;
 use crate::order::Order;
+use crate::tidying::FIRST_INTERVAL;
 use clause_arena::Ref;
 use conflict_clause::Analyzer;
 use lits_core::{Clause, Ids, Line, Lit};
@@ -26,6 +27,9 @@ pub(crate) struct Learner {
     pub(crate) last: u64,
     pub(crate) waiting: Vec<Line>,
     pub(crate) assumptions: Assumptions,
+    // With so many clauses some are forgotten; and how many more are learnt then before that is done again.
+    pub(crate) most: usize,
+    pub(crate) interval: usize,
     pub(crate) alloc: Global,
 }
 
@@ -41,6 +45,8 @@ impl Drop for Learner {
             last: _,
             waiting: _,
             assumptions: _,
+            most: _,
+            interval: _,
             alloc: _,
         } = self;
     }
@@ -64,6 +70,8 @@ impl Learner {
             last: 0,
             waiting: Vec::new(alloc),
             assumptions: Assumptions::new(alloc),
+            most: 0,
+            interval: FIRST_INTERVAL,
             alloc,
         })
     }

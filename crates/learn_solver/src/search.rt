@@ -216,7 +216,7 @@ impl Learner {
     }
 
     // One step of the search, which goes on after None.
-    fn step(&mut self) -> Result<Option<Answer>, AllocError>
+    fn advance(&mut self) -> Result<Option<Answer>, AllocError>
         requires sound { IsLearner self.old }
         requires range { AreInRange self.old.assumptions.lits self.old.trail.variables }
         requires consistent { AreConsistent self.old.assumptions.lits }
@@ -227,6 +227,18 @@ impl Learner {
             Some(at) => self.resolve_conflict(at),
             None => self.extend(),
         }
+    }
+
+    // One step, after clauses of little use are forgotten where they are many.
+    fn step(&mut self) -> Result<Option<Answer>, AllocError>
+        requires sound { IsLearner self.old }
+        requires range { AreInRange self.old.assumptions.lits self.old.trail.variables }
+        requires consistent { AreConsistent self.old.assumptions.lits }
+        ensures steps { Steps self.old self.new }
+        ensures served { IfOk result (Serves self.old self.new) }
+    {
+        self.reduce()?;
+        self.advance()
     }
 
     // Searches for bits until there are some, or a clause shows that there are none.
