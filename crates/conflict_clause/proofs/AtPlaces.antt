@@ -91,13 +91,22 @@ level_of-more places n (suc k) le =
       | inr off ↦ let more = count_by_more_no is_assumed places (n + k) no_place (omega arith) off in omega arith
     ]
 
--- later places have no lower levels, and those that were assumed have higher ones
+-- later places that were assumed have higher levels, and none has a lower one
 pub level-later : (t : TrailState) (p q : ℕ) → IsTrail t → p < q → q < length t.places → (place_at t.places q).reason ≡ None → (place_at t.places p).level < (place_at t.places q).level
 level-later t p q trail lt within assumed =
     let sum : (p + 1) + (q - (p + 1)) ≡ q = omega arith in
     let most = level_of-more t.places (p + 1) (q - (p + 1)) (omega arith) in
     let same = ap (λ (m : ℕ). level_of (take m t.places)) sum in
     let more = count_by_more_yes is_assumed t.places q no_place within (ap is_none assumed) in
+    let at_p = trail.levels p (omega arith) in
+    let at_q = trail.levels q within in
+    omega arith
+
+pub level-rises : (t : TrailState) (p q : ℕ) → IsTrail t → p ≤ q → q < length t.places → (place_at t.places p).level ≤ (place_at t.places q).level
+level-rises t p q trail le within =
+    let sum : (p + 1) + (q - p) ≡ q + 1 = omega arith in
+    let most = level_of-more t.places (p + 1) (q - p) (omega arith) in
+    let same = ap (λ (m : ℕ). level_of (take m t.places)) sum in
     let at_p = trail.levels p (omega arith) in
     let at_q = trail.levels q within in
     omega arith

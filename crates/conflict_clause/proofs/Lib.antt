@@ -3,3 +3,4 @@ pub mod SeenLits
 pub mod UnitHint
 pub mod SearchInvariant
 pub mod SearchEnds
+pub mod Shortened

@@ -1,9 +1,10 @@
 -- Where a search begins, and what it has shown at its end.
-use Rattle.std.proofs.Common.{◌≡◌, ◌∙◌, ℕ, ◌+◌, ◌<◌, ◌≤◌, true, List, [], ◌∷◌, length, get_or, reverse, Option, Some, None, refl, sym, ap, subst, arith, inl, inr}
+use Rattle.std.proofs.Common.{◌≡◌, ◌∙◌, ◌⊎◌, ℕ, ◌+◌, ◌<◌, ◌≤◌, true, List, [], ◌∷◌, length, get_or, reverse, Option, Some, None, refl, sym, ap, subst, arith, inl, inr}
 use Rattle.std.specs.Prelude.{MatchOption, slice_get}
 use Rattle.std.specs.List.{Contains}
 use Rattle.std.proofs.lemmas.Bool.{cases_eq}
 use Rattle.std.proofs.lemmas.List.{reverse-reverse}
+use Rattle.std.proofs.lemmas.List.Elements.{Contains-append_left, Contains-append_right, Contains-append_cases, Contains-push, Contains-push_cases}
 use Rattle.std.proofs.lemmas.List.Sorted.{IsPermutation-reverse, IsPermutation-sym, Contains-permutation}
 use Rattle.lits_core.specs.Literals.{negation_of, variable_of}
 use Rattle.lits_core.specs.Derivation.{has_lit, hints_fault}
@@ -15,7 +16,7 @@ use Rattle.watch_arena.proofs.ByIndex.{and_from, list_all_from}
 use Rattle.watch_arena.proofs.WatchedPair.{contains_at}
 use Rattle.conflict_clause.specs.declared.analysis.Analysis.{Analysis}
 use Rattle.conflict_clause.specs.Taught.{IsLiveId, IsTaught, IsLearnt, IsClosing, level_in}
-use Rattle.conflict_clause.specs.Search.{IsLooking, IsLower, Sees, Covers, IsSearch, IsAssumedFrom, Finds, IsArranged, is_seen}
+use Rattle.conflict_clause.specs.Search.{IsLooking, IsLower, Sees, Covers, IsSearch, IsAssumedFrom, Finds, IsReached, IsArranged, is_seen}
 use Rattle.conflict_clause.proofs.AtPlaces.{false_at, false_below, false_from, each_false, level_in-place, false_in_range, level-later, level-most, is_decided-at}
 use Rattle.conflict_clause.proofs.UnitHint.{has_lit-Contains, has_lit-first, has_lit-rest, hints-false}
 use Rattle.conflict_clause.proofs.SearchInvariant.{covered, of_live_push}
@@ -23,6 +24,22 @@ use Rattle.conflict_clause.proofs.SearchInvariant.{covered, of_live_push}
 -- no literal is among none
 pub none_in : (lits : List ℕ) (lit : ℕ) → lits ≡ [] → Contains lits lit → ⊥
 none_in lits lit e c = let has : Contains {X = ℕ} [] lit = subst (λ (xs : List ℕ). Contains xs lit) e c in let lt = has.1 in absurd (omega arith)
+
+-- what a list with a first element has
+pub in_first : (first : ℕ) (lits : List ℕ) → Contains (first ∷ lits) first
+in_first first lits = Contains-append_left (first ∷ []) lits first (Contains-push [] first)
+
+pub in_rest : (first : ℕ) (lits : List ℕ) (lit : ℕ) → Contains lits lit → Contains (first ∷ lits) lit
+in_rest first lits lit c = Contains-append_right (first ∷ []) lits lit c
+
+pub in_cases : (first : ℕ) (lits : List ℕ) (lit : ℕ) → Contains (first ∷ lits) lit → (first ≡ lit) ⊎ Contains lits lit
+in_cases first lits lit c = elim (Contains-append_cases (first ∷ []) lits lit c) [
+  | inl one ↦ elim (Contains-push_cases [] first lit one) [
+    | inl none ↦ absurd (none_in [] lit refl none)
+    | inr same ↦ inl same
+  ]
+  | inr other ↦ inr other
+]
 
 -- the first literals seen are of lower levels
 pub lower-first : (t : TrailState) (level : ℕ) (old new : Analysis) → Sees t level old new → old.lits.items ≡ [] → (lit : ℕ) → Contains new.lits.items lit → IsLower t level lit
@@ -145,39 +162,56 @@ below-top : (t : TrailState) (others : List ℕ) (back top : ℕ) → MatchOptio
 below-top t [] back top second some each = omega arith
 below-top t (lit ∷ others) back top second some each = let first = each lit (contains_at (lit ∷ others) 0 lit (omega arith) refl) in omega arith
 
--- where only the lowest place is left to look at, its literal's negation and the kept literals are the clause
-pub IsLearnt-ended : (t : TrailState) (level : ℕ) (start n : Analysis) (lits hints : List ℕ) (back : ℕ) → IsTrail t → level ≡ t.level → 0 < t.level → n.lowest < length t.places → IsSearch t level (n.lowest + 1) n → Finds t level (n.lowest + 1) start n → ((lit : ℕ) → Contains start.lits.items lit → IsLower t level lit) → IsArranged t (negation_of (place_at t.places n.lowest).lit) n.lits.items lits back → hints ≡ reverse n.hints.items → IsLearnt t lits hints back
-IsLearnt-ended t level start n lits hints back trail is some lt s f lower a hints_are =
+-- where only the lowest place is left to look at, it is the point
+pub IsReached-descended : (t : TrailState) (level : ℕ) (start n : Analysis) → IsTrail t → level ≡ t.level → n.lowest < length t.places → IsSearch t level (n.lowest + 1) n → Finds t level (n.lowest + 1) start n → ((lit : ℕ) → Contains start.lits.items lit → IsLower t level lit) → IsReached t n
+IsReached-descended t level start n trail is lt s f lower =
+    let high = s.looking.at_level lt in
+    let most = level-most t n.lowest trail lt in
+    record {
+      within = lt;
+      at_the_level = (omega arith);
+      lower = λ lit c. subst (λ (k : ℕ). IsLower t k lit) is (all-lower t level start n trail is lt s.looking f lower lit c);
+      shown = λ state falses holds has. s.shown state falses holds (record {
+        kept = λ lit c. has lit (in_rest (negation_of (place_at t.places n.lowest).lit) n.lits.items lit c);
+        below = λ q below seen. elim (s.looking.left q (omega arith) seen) [
+          | inl c ↦ has _ (in_rest (negation_of (place_at t.places n.lowest).lit) n.lits.items _ c)
+          | inr late ↦
+              let here : q ≡ n.lowest = omega arith in
+              subst (λ (k : ℕ). has_lit falses (negation_of (place_at t.places k).lit) ≡ true) (sym here) (has _ (in_first (negation_of (place_at t.places n.lowest).lit) n.lits.items))
+        ];
+      });
+      of_live = s.of_live;
+    }
+
+-- the negation of the point's literal and the kept literals are the clause
+pub IsLearnt-ended : (t : TrailState) (n : Analysis) (lits hints : List ℕ) (back : ℕ) → IsTrail t → 0 < t.level → IsReached t n → IsArranged t (negation_of (place_at t.places n.lowest).lit) n.lits.items lits back → hints ≡ reverse n.hints.items → IsLearnt t lits hints back
+IsLearnt-ended t n lits hints back trail some reached a hints_are =
+    let lt = reached.within in
     let is_point : (place_at t.places n.lowest).lit ≡ negation_of (negation_of (place_at t.places n.lowest).lit) = sym (negation-negation (place_at t.places n.lowest).lit) in
-    let kept : (lit : ℕ) → Contains a.others lit → IsLower t level lit = λ lit c.
-    all-lower t level start n trail is lt s.looking f lower lit (Contains-permutation a.others n.lits.items lit (IsPermutation-sym n.lits.items a.others a.permuted) c) in
-    let has_first : has_lit lits (negation_of (place_at t.places n.lowest).lit) ≡ true = subst (λ (xs : List ℕ). has_lit xs (negation_of (place_at t.places n.lowest).lit) ≡ true) (sym a.split) (has_lit-first (negation_of (place_at t.places n.lowest).lit) a.others) in
-    let has : (lit : ℕ) → Contains n.lits.items lit → has_lit lits lit ≡ true = λ lit c.
+    let kept : (lit : ℕ) → Contains a.others lit → IsLower t t.level lit = λ lit c.
+    reached.lower lit (Contains-permutation a.others n.lits.items lit (IsPermutation-sym n.lits.items a.others a.permuted) c) in
+    let has : (lit : ℕ) → Contains (negation_of (place_at t.places n.lowest).lit ∷ n.lits.items) lit → has_lit lits lit ≡ true = λ lit c.
     subst (λ (xs : List ℕ). has_lit xs lit ≡ true) (sym a.split)
-    (has_lit-rest (negation_of (place_at t.places n.lowest).lit) a.others lit (has_lit-Contains a.others lit (Contains-permutation n.lits.items a.others lit a.permuted c))) in
+    (elim (in_cases (negation_of (place_at t.places n.lowest).lit) n.lits.items lit c) [
+      | inl first ↦ subst (λ (x : ℕ). has_lit (negation_of (place_at t.places n.lowest).lit ∷ a.others) x ≡ true) first (has_lit-first (negation_of (place_at t.places n.lowest).lit) a.others)
+      | inr other ↦ has_lit-rest (negation_of (place_at t.places n.lowest).lit) a.others lit (has_lit-Contains a.others lit (Contains-permutation n.lits.items a.others lit a.permuted other))
+    ]) in
     let off_first : is_false t.places (negation_of (place_at t.places n.lowest).lit) ≡ true = false_from t.places n.lowest (negation_of (place_at t.places n.lowest).lit) lt is_point in
     let off : is_false_clause t.places lits ≡ true = subst (λ (xs : List ℕ). is_false_clause t.places xs ≡ true) (sym a.split)
     (and_from (is_false t.places (negation_of (place_at t.places n.lowest).lit)) (is_false_clause t.places a.others) off_first (all_false-each t a.others (λ lit c. (kept lit c).off))) in
-    let high = s.looking.at_level lt in
-    let most = level-most t n.lowest trail lt in
-    let at_level : (place_at t.places n.lowest).level ≡ t.level = omega arith in
     record {
-      taught = IsTaught-covers t level (n.lowest + 1) n lits hints s (record {
-        kept = has;
-        below = λ q below seen. elim (s.looking.left q (omega arith) seen) [
-          | inl c ↦ has _ c
-          | inr late ↦
-              let here : q ≡ n.lowest = omega arith in
-              subst (λ (k : ℕ). has_lit lits (negation_of (place_at t.places k).lit) ≡ true) (sym here) has_first
-        ];
-      }) (λ lit c. false_in_range t lit trail (each_false t.places lits lit off c)) hints_are;
+      taught = record {
+        shown = λ state holds. subst (λ (hs : List ℕ). hints_fault state hs lits ≡ None) (sym hints_are) (reached.shown state lits holds has);
+        of_live = λ hint c. reached.of_live hint (reversed n.hints.items hint (subst (λ (hs : List ℕ). Contains hs hint) hints_are c));
+        in_range = λ lit c. false_in_range t lit trail (each_false t.places lits lit off c);
+      };
       all_false = off;
       first = negation_of (place_at t.places n.lowest).lit;
       others = a.others;
       split = a.split;
-      at_the_level = level_in-place t n.lowest (negation_of (place_at t.places n.lowest).lit) trail lt is_point ∙ at_level;
+      at_the_level = level_in-place t n.lowest (negation_of (place_at t.places n.lowest).lit) trail lt is_point ∙ reached.at_the_level;
       up_to = a.up_to;
-      below = below-top t a.others back t.level a.second some (λ lit c. subst (λ (k : ℕ). level_in t.places lit < k) is (kept lit c).below);
+      below = below-top t a.others back t.level a.second some (λ lit c. (kept lit c).below);
     }
 
 -- the literal behind the first one, in literals that are the arranged ones

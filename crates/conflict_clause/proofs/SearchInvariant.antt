@@ -18,7 +18,7 @@ use Rattle.conflict_clause.proofs.SeenLits.{IsSeenList-same}
 use Rattle.conflict_clause.proofs.UnitHint.{has_lit-first, has_lit-rest, hints-unit}
 
 -- one hint more, last one first
-reverse_push : (hints : List ℕ) (hint : ℕ) → reverse (hints ++ hint ∷ []) ≡ hint ∷ reverse hints
+pub reverse_push : (hints : List ℕ) (hint : ℕ) → reverse (hints ++ hint ∷ []) ≡ hint ∷ reverse hints
 reverse_push hints hint = reverse-append hints (hint ∷ [])
 
 -- the ids of live records, and one more

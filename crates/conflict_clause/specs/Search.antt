@@ -1,8 +1,9 @@
 -- What a search back through a trail has come to. It goes through the places from the top down, and looks at those whose
 -- variables were seen.
-use Rattle.std.specs.Prelude.{◌≡◌, ℕ, ◌<◌, ◌≤◌, ◌⊎◌, Bool, true, false, List, ◌∷◌, length, reverse, slice_index_or, None, MatchOption, slice_get, Contains, All, IsPermutation, IsTrue}
+use Rattle.std.specs.Prelude.{◌≡◌, ℕ, ◌<◌, ◌≤◌, ◌⊎◌, Bool, true, false, List, [], ◌∷◌, ◌++◌, length, reverse, slice_index_or, Some, None, MatchOption, slice_get, Contains, All, IsPermutation, IsTrue}
 use Rattle.lits_core.specs.Literals.{negation_of, variable_of}
 use Rattle.lits_core.specs.Derivation.{State, has_lit, hints_fault}
+use Rattle.clause_arena.specs.Records.{Record, record_at}
 use Rattle.watch_arena.specs.Places.{place_at, is_false}
 use Rattle.watch_arena.specs.Trails.{TrailState}
 use Rattle.conflict_clause.specs.declared.analysis.Analysis.{Analysis}
@@ -66,6 +67,41 @@ pub record IsAssumedFrom (t : TrailState) (p lit : ℕ) : Type 0 where
 pub record Finds (t : TrailState) (level p : ℕ) (old new : Analysis) : Type 0 where
   pub added : (lit : ℕ) → Contains new.lits.items lit → Contains old.lits.items lit ⊎ IsLower t level lit ⊎ IsAssumedFrom t p lit
   pub lowest : new.lowest ≤ old.lowest
+
+-- hints, the last one first, show each clause that has these literals
+abbrev pub AreShown : List Record → List ℕ → List ℕ → Type 0
+AreShown records lits hints = (state : State) (falses : List ℕ) → HoldsRecords state records → ((lit : ℕ) → Contains lits lit → has_lit falses lit ≡ true) → hints_fault state (reverse hints) falses ≡ None
+
+-- the end of a search for a point, which is the lowest place, of the current level: the kept literals are of lower levels, and with the negation of the point's literal they are a clause that the hints show
+pub record IsReached (t : TrailState) (n : Analysis) : Type 0 where
+  pub within : n.lowest < length t.places
+  pub at_the_level : (place_at t.places n.lowest).level ≡ t.level
+  pub lower : (lit : ℕ) → Contains n.lits.items lit → IsLower t t.level lit
+  pub shown : AreShown t.records (negation_of (place_at t.places n.lowest).lit ∷ n.lits.items) n.hints.items
+  pub of_live : (hint : ℕ) → Contains n.hints.items hint → IsLiveId t.records hint
+
+-- of the places below the lowest one, each whose variable was seen has the negation of its literal kept
+abbrev pub KeepsBelow : TrailState → Analysis → Type 0
+KeepsBelow t n = (q : ℕ) → q < n.lowest → is_seen n (variable_of (place_at t.places q).lit) ≡ true → Contains n.lits.items (negation_of (place_at t.places q).lit)
+
+-- places by which literals are false: each place is that of one of them, and each of them has its place
+pub record ArePlacesOf (t : TrailState) (lits places : List ℕ) : Type 0 where
+  pub within : (q : ℕ) → Contains places q → q < length t.places
+  pub of : (q : ℕ) → Contains places q → Contains lits (negation_of (place_at t.places q).lit)
+  pub each : (lit : ℕ) → Contains lits lit → (q : ℕ) × Contains places q × ((place_at t.places q).lit ≡ negation_of lit)
+
+-- the negation of a place's literal goes: the variables of its reason's literals were seen, and the reason's id is one hint more
+pub record Goes (t : TrailState) (place : ℕ) (old new : Analysis) : Type 0 where
+  pub at : ℕ
+  pub reason : (place_at t.places place).reason ≡ Some at
+  pub seen : (lit : ℕ) → Contains (record_at t.records at).lits lit → is_seen old (variable_of lit) ≡ true
+  pub lits : new.lits.items ≡ old.lits.items
+  pub hints : new.hints.items ≡ old.hints.items ++ (record_at t.records at).id ∷ []
+
+-- the negation of a place's literal stays
+pub record Stays (t : TrailState) (place : ℕ) (old new : Analysis) : Type 0 where
+  pub lits : new.lits.items ≡ old.lits.items ++ negation_of (place_at t.places place).lit ∷ []
+  pub hints : new.hints.items ≡ old.hints.items
 
 -- literals are put behind a first one, in an order that begins with one of the highest level among them, which is told; 0 where there are none
 pub record IsArranged (t : TrailState) (first : ℕ) (old new : List ℕ) (back : ℕ) : Type 0 where

@@ -143,7 +143,7 @@ impl Analysis {
     }
 
     // Keeps the negation of a place's literal.
-    fn keep(&mut self, lit: Lit) -> Result<(), AllocError>
+    pub(crate) fn keep(&mut self, lit: Lit) -> Result<(), AllocError>
         ensures marks { self.new.marks ≡ self.old.marks }
         ensures seen { self.new.seen.items ≡ self.old.seen.items }
         ensures hints { self.new.hints.items ≡ self.old.hints.items }
@@ -303,7 +303,7 @@ impl Analysis {
         Ok(back)
     }
 
-    // The clause of the first unique implication point of a conflict.
+    // The clause of the first unique implication point of a conflict, made shorter.
     pub(crate) fn analyze(
         &mut self,
         alloc: Global,
@@ -322,6 +322,7 @@ impl Analysis {
         let level = trail.level();
         self.start(trail, at, level)?;
         self.descend(trail, trail.place_count(), 1, level)?;
+        self.minimize(alloc, trail)?;
         let back = self.arrange(trail)?;
         let Closing { lits, hints } = self.closing(alloc)?;
         Ok(Learnt { lits, hints, back })

@@ -57,7 +57,9 @@ impl Analyzer {
 
     /// The clause of the first unique implication point of a conflict at the current level
     /// (Marques-Silva and Sakallah, *GRASP*, 1996; Zhang, Madigan, Moskewicz and Malik, *Efficient
-    /// Conflict Driven Learning*, 2001).
+    /// Conflict Driven Learning*, 2001), without those of its literals that one reason implies from others: the local
+    /// form of Sörensson and Biere, *Minimizing Learned Clauses*, 2009 (before it Beame, Kautz and Sabharwal, *Towards
+    /// Understanding and Harnessing the Potential of Clause Learning*, 2004).
     ///
     /// Its second literal, if it has one, is one of the level `back`.
     pub fn analyze(&mut self, trail: &Trail, at: Ref) -> Result<Learnt, AllocError>

@@ -1,11 +1,14 @@
 //! The places and levels of literals on a trail.
-ghost use Rattle.std.specs.Prelude.{◌≡◌, ℕ, ◌<◌, ◌≤◌, length, slice_index, Some, MatchOption, slice_get, IsTrue, Contains, IsPermutation};
+ghost use Rattle.std.specs.Prelude.{◌≡◌, ℕ, ◌<◌, ◌≤◌, length, slice_index, Some, IfOk, MatchOption, slice_get, IsTrue, Contains, IsPermutation};
+ghost use Rattle.std.specs.List.Sorted.{IsNonDecreasing};
 ghost use Rattle.lits_core.specs.Literals.{negation_of, variable_of};
 ghost use Rattle.watch_arena.specs.Places.{place_at, place_of, is_false};
 ghost use Rattle.watch_arena.specs.Trails.{AreInRange};
 ghost use Rattle.conflict_clause.specs.Taught.{level_in};
+ghost use Rattle.conflict_clause.specs.Search.{ArePlacesOf};
 
 use lits_core::Lit;
+use std::alloc::{AllocError, Global};
 use watch_arena::Trail;
 
 /// The place by which a literal is false.
@@ -21,6 +24,25 @@ pub(crate) fn false_place(trail: &Trail, lit: Lit) -> usize
         Some(place) => place,
         None => unreachable!(),
     }
+}
+
+/// The places by which literals are false, from the lowest up.
+pub(crate) fn false_places(
+    alloc: Global,
+    trail: &Trail,
+    lits: &[Lit],
+) -> Result<Vec<usize>, AllocError>
+    requires range { AreInRange lits.now trail.now.variables }
+    requires off { (lit : ℕ) → Contains lits.now lit → IsTrue (is_false trail.now.places lit) }
+    ensures of_these { IfOk result (λ places. ArePlacesOf trail.now lits.now places.items) }
+    ensures sorted { IfOk result (λ places. IsNonDecreasing places.items) }
+{
+    let mut places = Vec::with_capacity(alloc, lits.len())?;
+    for lit in lits {
+        places.push(false_place(trail, *lit))?;
+    }
+    places.sort_unstable();
+    Ok(places)
 }
 
 // The level of a literal's variable; 0 where it has no value.

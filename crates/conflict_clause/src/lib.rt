@@ -4,5 +4,6 @@
 mod analysis;
 mod analyzer;
 mod levels;
+mod minimize;
 
 pub use analyzer::{Analyzer, Closing, Learnt};
