@@ -138,7 +138,7 @@ IsClosing-ended t stands p start n lits hints trail low s f first are hints_are 
     }
 
 -- the literals kept on the way to the lowest place of the level are of lower levels
-pub all-lower : (t : TrailState) (level : ℕ) (start n : Analysis) → IsTrail t → level ≡ t.level → n.lowest < length t.places → IsLooking t level n → Finds t level (n.lowest + 1) start n → ((lit : ℕ) → Contains start.lits.items lit → IsLower t level lit) → (lit : ℕ) → Contains n.lits.items lit → IsLower t level lit
+all-lower : (t : TrailState) (level : ℕ) (start n : Analysis) → IsTrail t → level ≡ t.level → n.lowest < length t.places → IsLooking t level n → Finds t level (n.lowest + 1) start n → ((lit : ℕ) → Contains start.lits.items lit → IsLower t level lit) → (lit : ℕ) → Contains n.lits.items lit → IsLower t level lit
 all-lower t level start n trail is lt looking f lower lit c =
     elim (f.added lit c) [
       | inl before ↦ lower lit before

@@ -21,14 +21,6 @@ use Rattle.conflict_clause.proofs.UnitHint.{has_lit-first, has_lit-rest, hints-u
 use Rattle.conflict_clause.proofs.SearchInvariant.{of_live_push, reverse_push}
 use Rattle.conflict_clause.proofs.SearchEnds.{none_in, in_first, in_rest, in_cases}
 
--- no literals have no places
-pub ArePlacesOf-none : (t : TrailState) (lits places : List ℕ) → lits ≡ [] → places ≡ [] → ArePlacesOf t lits places
-ArePlacesOf-none t lits places no_lits no_places = record {
-  within = λ q c. absurd (none_in places q no_places c);
-  of = λ q c. absurd (none_in places q no_places c);
-  each = λ lit c. absurd (none_in lits lit no_lits c);
-}
-
 -- one literal more, and its place
 pub ArePlacesOf-push : (t : TrailState) (lits places : List ℕ) (lit q : ℕ) → ArePlacesOf t lits places → q < length t.places → (place_at t.places q).lit ≡ negation_of lit → ArePlacesOf t (lits ++ lit ∷ []) (places ++ q ∷ [])
 ArePlacesOf-push t lits places lit q are lt is =
@@ -145,8 +137,8 @@ below-point t n q trail reached lt has =
     ]
 
 -- the literals of the reason of the highest place that is left are among those of the places below it
-reason-left : (t : TrailState) (old before : Analysis) (left : List ℕ) (place m : ℕ) → IsTrail t → IsReached t old → KeepsBelow t old → AreLeft t old.lits.items (left ++ place ∷ []) → is_seen old (variable_of m) ≡ true → (q : ℕ) × (q < place) × ((place_at t.places q).lit ≡ negation_of m) → (q : ℕ) × Contains left q × (m ≡ negation_of (place_at t.places q).lit)
-reason-left t old before left place m trail reached keeps a seen at =
+reason-left : (t : TrailState) (old : Analysis) (left : List ℕ) (place m : ℕ) → IsTrail t → IsReached t old → KeepsBelow t old → AreLeft t old.lits.items (left ++ place ∷ []) → is_seen old (variable_of m) ≡ true → (q : ℕ) × (q < place) × ((place_at t.places q).lit ≡ negation_of m) → (q : ℕ) × Contains left q × (m ≡ negation_of (place_at t.places q).lit)
+reason-left t old left place m trail reached keeps a seen at =
     let below = at.1 in
     let here : Contains (left ++ place ∷ []) place = Contains-push left place in
     let within = a.within place here in
@@ -168,7 +160,7 @@ left_false t left falses place rest q c =
     ]
 
 -- the literal of the highest place that is left goes
-pub IsShortened-goes : (t : TrailState) (old before after : Analysis) (left : List ℕ) (place : ℕ) → IsTrail t → IsReached t old → KeepsBelow t old → before.marks ≡ old.marks → AreLeft t old.lits.items (left ++ place ∷ []) → IsShortened t old before (left ++ place ∷ []) → Goes t place before after → IsShortened t old after left
+IsShortened-goes : (t : TrailState) (old before after : Analysis) (left : List ℕ) (place : ℕ) → IsTrail t → IsReached t old → KeepsBelow t old → before.marks ≡ old.marks → AreLeft t old.lits.items (left ++ place ∷ []) → IsShortened t old before (left ++ place ∷ []) → Goes t place before after → IsShortened t old after left
 IsShortened-goes t old before after left place trail reached keeps marks a s g =
     let within = a.within place (Contains-push left place) in
     let r = trail.reasons place g.at within g.reason in
@@ -180,7 +172,7 @@ IsShortened-goes t old before after left place trail reached keeps marks a s g =
             | inl is ↦ inl is
             | inr ne ↦
                 let seen : is_seen old (variable_of m) ≡ true = ap (λ bs. get_or bs (variable_of m) false) (sym marks) ∙ g.seen m c in
-                let q = reason-left t old before left place m trail reached keeps a seen (false_below t.places place m (omega arith) (r.others m c ne)) in
+                let q = reason-left t old left place m trail reached keeps a seen (false_below t.places place m (omega arith) (r.others m c ne)) in
                 inr (subst (λ (x : ℕ). has_lit falses x ≡ true) (sym q.2) (rest q.0 q.1))
           ])
           (s.shown state (negation_of (place_at t.places place).lit ∷ falses) holds (has_lit-rest _ falses _ point)
@@ -190,7 +182,7 @@ IsShortened-goes t old before after left place trail reached keeps marks a s g =
     }
 
 -- it stays
-pub IsShortened-stays : (t : TrailState) (old before after : Analysis) (left : List ℕ) (place : ℕ) → AreLeft t old.lits.items (left ++ place ∷ []) → IsShortened t old before (left ++ place ∷ []) → Stays t place before after → IsShortened t old after left
+IsShortened-stays : (t : TrailState) (old before after : Analysis) (left : List ℕ) (place : ℕ) → AreLeft t old.lits.items (left ++ place ∷ []) → IsShortened t old before (left ++ place ∷ []) → Stays t place before after → IsShortened t old after left
 IsShortened-stays t old before after left place a s stays =
     let has : (lit : ℕ) → Contains before.lits.items lit → Contains after.lits.items lit = λ lit c. subst (λ (xs : List ℕ). Contains xs lit) (sym stays.lits) (Contains-append_left before.lits.items (negation_of (place_at t.places place).lit ∷ []) lit c) in
     let own : Contains after.lits.items (negation_of (place_at t.places place).lit) = subst (λ (xs : List ℕ). Contains xs (negation_of (place_at t.places place).lit)) (sym stays.lits) (Contains-push before.lits.items (negation_of (place_at t.places place).lit)) in
