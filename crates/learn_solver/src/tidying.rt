@@ -7,9 +7,9 @@ use lits_core::{Ids, Line};
 use std::alloc::AllocError;
 
 // How many more clauses each time are learnt before clauses are forgotten again, and how many at first.
-const INTERVAL_STEP: usize = 20;
+const INTERVAL_STEP: usize = 10;
 
-pub(crate) const FIRST_INTERVAL: usize = 500;
+pub(crate) const FIRST_INTERVAL: usize = 300;
 
 // Longer clauses count as so long.
 const LONGEST: usize = 63;
