@@ -1,4 +1,4 @@
-//! The desk: sixteen slots over one problem, apart from each other, which share what finds worlds.
+//! The desk: sixteen slots over one problem, apart from each other.
 #![tactic(auto)]
 
 ghost use Rattle.desk_core.specs.Apart.{SlotsStayApart};

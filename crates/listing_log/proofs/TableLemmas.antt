@@ -34,7 +34,7 @@ abbrev pub put_up_to : Option (List Rel) → List (List Rel) → Option (List Re
 put_up_to at [] = at
 put_up_to at (table ∷ tables) = Some (right_behind table)
 
--- how far a listing by a table has come between two of its worlds: the worlds up to the one that is told are put, and the line is of that one
+-- how far a listing along alive paths has come between two of its worlds: the worlds up to the one that is told are put, and the line is of that one
 pub record IsTabled (plan : ListingPlan) (s : TablesState) (line : List ℕ) (old new : Option (List ℕ)) (count : ℕ) (wanted : Option ℕ) : Type 0 where
   pub endless : plan.end ≡ None
   pub problem : s.problem ≡ plan.problem

@@ -30,12 +30,6 @@ lists_more f old now more i upto step =
     step ∙ ap (λ ls. ls ++ f i) upto ∙ append_assoc old (flat_map f (range_with_len 0 i)) (f i) ∙
     ap (λ ls. old ++ ls) (ap (λ ls. flat_map f (range_with_len 0 i) ++ ls) (sym (append-nil (f i))) ∙ sym (flat_map-append f (range_with_len 0 i) (i ∷ [])) ∙ ap (flat_map f) (sym (range_more i)))
 
--- a selector of a pair is that of a region that is forced empty
-record IsEmptyRegion (first : ℕ) (regions : Regions) (lit : ℕ) : Type 0 where
-  region : Region
-  is : lit ≡ is_so (first + region_number region)
-  empty : same_word (word_at regions region) Empty ≡ true
-
 into_pair : (first : ℕ) (regions others : Regions) (lit : ℕ) → ((region : Region) → same_word (word_at regions region) Empty ≡ true → same_word (word_at others region) Empty ≡ true) →
     In lit (pair_selectors first regions) → In lit (pair_selectors first others)
 into_pair first regions others lit more i =

@@ -2,7 +2,7 @@
 use Rattle.std.proofs.Common.{◌≡◌, ◌≢◌, ℕ, ◌+◌, ◌*◌, ◌/◌, ◌<◌, ◌≤◌, Bool, true, false, not, ◌&&◌, List, [], ◌∷◌, ◌++◌, length, get_or, inl, inr, refl, sym, ap, ◌∙◌, subst, arith}
 use Rattle.std.specs.Prelude.{IsTrue, if◌then◌else◌}
 use Rattle.std.specs.List.{list_all}
-use Rattle.std.proofs.lemmas.Bool.{cases_Bool, cases_eq, cases_lt, and_from, and_parts, true≢false}
+use Rattle.std.proofs.lemmas.Bool.{cases_Bool, cases_eq, and_from, true≢false}
 use Rattle.bit_rows.specs.Rows.{has_bit}
 use Rattle.rcc5_core.specs.Region.{all_regions, word_at, same_word, forced_regions}
 use Rattle.rcc5_core.specs.declared.Occupancy.{Occupancy}
@@ -16,7 +16,7 @@ use Rattle.world_model.specs.Node.{pair_at}
 use Rattle.world_model.specs.Alive.{forced_pairs, allowed, bit_of, avoids, avoids_by, lies_by, point_sums, is_point, point_at, meets_trees}
 use Rattle.constraint_set.proofs.PointTests.{forced_avoids}
 use Rattle.world_model.specs.Points.{forced_at, avoids_at}
-use Rattle.point_places.specs.Places.{PlaceState, IsNextMet, IsStruck, AreStruck, is_as, are_as, meets}
+use Rattle.point_places.specs.Places.{PlaceState, IsNextMet, IsStruck, AreStruck}
 use Rattle.point_pool.specs.Pools.{AllAvoid, CellAvoids, IsFewer}
 
 -- bits that meet the trees, the sums and the pairs are a point
@@ -70,9 +70,6 @@ pub all_stay : (old new : PlaceState) (pair : ℕ × ℕ) (regions : Regions) �
 all_stay old new pair regions fewer h place on =
     subst (λ ps. IsTrue (avoids_by regions (bit_of (point_at ps place) pair.0) (bit_of (point_at ps place) pair.1))) (sym fewer.points) (h place (fewer.live place on))
 
-pub fewer_still : (s : PlaceState) → IsFewer s s
-fewer_still s = record { concepts = refl; points = refl; live = λ place on. on }
-
 pub fewer_chain : (first old new : PlaceState) → IsFewer first old → IsFewer old new → IsFewer first new
 fewer_chain first old new one other = record {
   concepts = other.concepts ∙ one.concepts;
@@ -90,53 +87,6 @@ fewer_struck old new place struck = record {
     | inr apart ↦ sym (struck.live.others k apart) ∙ on
   ];
 }
-
-as_said : (b bit : Bool) → bit ≡ b → (if b then bit else not bit) ≡ true
-as_said true bit same = same
-as_said false bit same = ap not same
-
--- where no live point is as is said of two concepts, none is in their region
-pub none_met : (s : PlaceState) (regions : Regions) (one other : ℕ × Bool) → ((k : ℕ) → meets s one other k ≡ false) → CellAvoids s regions one other
-none_met s regions one other none place on first second =
-    let bits = point_at s.points place in
-    absurd (true≢false (sym (and_from (has_bit s.live place) (are_as s.points one other place) on (and_from (is_as bits one) (is_as bits other) (as_said one.1 (bit_of bits one.0) first) (as_said other.1 (bit_of bits other.0) second))) ∙ none place))
-
--- all of them are struck out
-pub fewer_all : (old new : PlaceState) (one other : ℕ × Bool) → AreStruck old new one other → IsFewer old new
-fewer_all old new one other struck = record {
-  concepts = struck.concepts;
-  points = struck.points;
-  live = λ k on. (and_parts (has_bit old.live k) (not (are_as old.points one other k)) (sym (struck.live k) ∙ on)).0;
-}
-
-pub cell_struck : (old new : PlaceState) (regions : Regions) (one other : ℕ × Bool) → AreStruck old new one other → CellAvoids new regions one other
-cell_struck old new regions one other struck =
-    none_met new regions one other (λ k.
-    ap (λ b. b && are_as new.points one other k) (struck.live k) ∙ ap (λ ps. (has_bit old.live k && not (are_as old.points one other k)) && are_as ps one other k) struck.points ∙
-    never (has_bit old.live k) (are_as old.points one other k))
-  where
-    never : (a b : Bool) → ((a && not b) && b) ≡ false
-    never true true = refl
-    never true false = refl
-    never false b = refl
-
--- or one by one
-pub struck_met : (now new : PlaceState) (one other : ℕ × Bool) (from place : ℕ) → IsNextMet now (from / 64) one other place → IsStruck now new place → ((k : ℕ) → k < from → meets now one other k ≡ false) →
-    (from ≤ place) × ((k : ℕ) → k < place + 1 → meets new one other k ≡ false)
-struck_met now new one other from place next struck done = (
-  elim (cases_lt place from) [
-    | inr after ↦ after
-    | inl before ↦ absurd (true≢false (sym next.met ∙ done place before))
-  ],
-  λ k small. elim (cases_eq k place) [
-    | inl here ↦ ap (λ b. b && are_as new.points one other k) (ap (has_bit new.live) here ∙ struck.live.here)
-    | inr apart ↦
-        ap (λ b. b && are_as new.points one other k) (struck.live.others k apart) ∙ ap (λ ps. has_bit now.live k && are_as ps one other k) struck.points ∙ elim (cases_lt k from) [
-          | inl before ↦ done k before
-          | inr after ↦ next.before k (omega arith) (omega arith)
-        ]
-  ],
-)
 
 -- whether a point is in no region of a pair, by its two bits
 pub avoided_pair : (p : Problem) (bits : List Bool) (k : ℕ) (regions : Regions) (pair : ℕ × ℕ) (left right result : Bool) → result ≡ avoids_by regions left right → regions ≡ forced_at p k →

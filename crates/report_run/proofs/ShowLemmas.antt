@@ -1,21 +1,18 @@
 -- Watchers that are shown the worlds from the first on.
-use Rattle.std.proofs.Common.{◌≡◌, ℕ, ◌+◌, ◌-◌, ◌^◌, ◌<◌, ◌≤◌, min, not, false, List, [], ◌∷◌, ◌++◌, Option, None, Some, length, get_or, refl, sym, ap, subst, ◌∙◌, arith, IsTrue, append-nil, append_assoc, length-append}
+use Rattle.std.proofs.Common.{◌≡◌, ℕ, ◌+◌, ◌-◌, ◌^◌, ◌<◌, ◌≤◌, min, false, List, [], ◌∷◌, ◌++◌, Option, None, Some, length, get_or, refl, sym, ap, subst, ◌∙◌, arith, IsTrue, append-nil, append_assoc, length-append}
 use Rattle.std.specs.Prelude.{Contains}
 use Rattle.std.proofs.lemmas.Bool.{not_from_false}
 use Rattle.rcc5_core.specs.declared.Rel.{Rel}
-use Rattle.world_model.specs.Problem.{Problem, is_problem, pair_count}
+use Rattle.world_model.specs.Problem.{Problem, is_problem}
 use Rattle.world_model.specs.Family.{IsPossibleWorld}
-use Rattle.world_model.specs.Listing.{is_below, is_before_end, is_between, IsListing}
+use Rattle.world_model.specs.Listing.{is_below, is_between, IsListing}
 use Rattle.world_model.specs.Laws.{is_not_above_end}
 use Rattle.world_model.specs.Trial.{worlds_between}
 use Rattle.world_model.proofs.OrderListings.{listings_join_law, one_listing_law}
 use Rattle.world_model.proofs.OrderPositions.{below_itself}
-use Rattle.world_model.proofs.PointPositions.{world_is_full}
 use Rattle.world_model.proofs.TrialLaws.{trial_is_right_law}
 use Rattle.table_walk.specs.Ahead.{IsOnward, Lists}
 use Rattle.table_walk.specs.Tables.{TablesState, IsAtWorld, PassedTold}
-use Rattle.table_walk.proofs.WentOn.{lists_nowhere}
-use Rattle.world_search.specs.Searching.{SearchState, Passes, Came}
 use Rattle.world_model.specs.Saturated.{saturated}
 use Rattle.world_watch.specs.Steps.{Texts, AllTook}
 use Rattle.report_run.specs.Steps.{all_worlds, HaveSeen, AreShownAll}
@@ -27,18 +24,6 @@ none_first (r ∷ m) = refl
 not_above : (m : List Rel) (other : Option (List Rel)) → IsOnward m other → IsTrue (is_not_above_end m other)
 not_above m None onward = refl
 not_above m (Some end) onward = onward
-
--- what a search passes stands between its places
-lists_of : (p : Problem) (one other : Option (List Rel)) (nodes worlds : List (List Rel)) → Passes p one other nodes worlds → Lists p one other worlds
-lists_of p None other nodes worlds passes = (passes.0, passes.2)
-lists_of p (Some one) other nodes worlds between = record { onward = onward other between.onward; exactly = between.worlds_are }
-  where
-    onward : (o : Option (List Rel)) → ((m : List Rel) → IsTrue (not (is_before_end m o)) → IsTrue (not (is_below m one))) → IsOnward one o
-    onward None each = tt
-    onward (Some end) each = each end (rw (below_itself end) refl)
-
-pub came_lists : (p : Problem) (one other : SearchState) (before left : Option ℕ) (worlds : List (List Rel)) → one.problem ≡ p → Came one other before left worlds → Lists p one.at other.at worlds
-came_lists p one other before left worlds same came = lists_of p one.at other.at came.nodes worlds (subst (λ q. Passes q one.at other.at came.nodes worlds) same came.passed)
 
 -- what stands up to a place, and from there up to another
 upto_on : (p : Problem) (mid other : Option (List Rel)) (worlds more : List (List Rel)) → IsListing p [] mid worlds → Lists p mid other more → IsListing p [] other (worlds ++ more)
@@ -80,10 +65,6 @@ one_left p valid t world =
     let found : Contains (worlds_between p t None) t = ((trial_is_right_law.worlds p valid t None).members t).1 (world, there) in
     omega (arith, found.1)
 
--- fewer worlds are left behind one that a search found
-pub found_fewer : (p : Problem) → IsTrue (is_problem p) → (one other : Option (List Rel)) (t : List Rel) → Lists p one other (t ∷ []) → length (worlds_from p other) < length (worlds_from p one)
-found_fewer p valid one other t lists = omega (arith, lists_left p valid one other (t ∷ []) lists)
-
 -- and behind one that a table told
 pub told_fewer : (p : Problem) → IsTrue (is_problem p) → (old new : TablesState) → old.problem ≡ p → PassedTold old new → IsAtWorld new
     → length (worlds_from p new.at) - length new.told < length (worlds_from p old.at) - length old.told
@@ -109,11 +90,6 @@ seen_more name text p worlds t old mid new seen took = record {
       };
 }
 
--- a world that stands between two places has a relation for each pair
-pub full_world : (p : Problem) (one other : Option (List Rel)) (t : List Rel) → Lists p one other (t ∷ []) → length t ≡ pair_count p
-full_world p None other t lists = absurd (omega (arith, ap length lists.1))
-full_world p (Some one) other t lists = world_is_full p t ((lists.exactly.members t).0 (0, omega arith, refl)).0
-
 -- watchers have seen the worlds up to a place, and some told worlds from there on, so many
 pub record AreShownTo {W : Type 0} (old new : List W) (name : W → List ℕ) (text : W → Texts) (p : Problem) (at : Option (List Rel)) (told : List (List Rel)) (count : ℕ) : Type 0 where
   pub passed : List (List Rel)
@@ -130,9 +106,6 @@ shown_first name text p at told ws upto none = record {
   seen = subst (λ ts. HaveSeen name text p ts ws ws) (sym none) (seen_none name text p ws);
   counted = ap (λ (ts : List (List Rel)). saturated (length ts)) (sym none);
 }
-
-pub shown_begun : {W : Type 0} (name : W → List ℕ) (text : W → Texts) (p : Problem) (at : Option (List Rel)) (ws : List W) → at ≡ Some [] → AreShownTo ws ws name text p at [] 0
-shown_begun name text p at ws begun = shown_first name text p at [] ws (subst (λ o. IsListing p [] o []) (sym begun) (lists_nowhere p (Some [])).exactly) refl
 
 -- a call passes the told worlds
 pub shown_passed : {W : Type 0} (name : W → List ℕ) (text : W → Texts) (p : Problem) (at other : Option (List Rel)) (told : List (List Rel)) (old new : List W) (count : ℕ)
@@ -181,13 +154,3 @@ shown_past name text p one other old new count valid same shown passed end =
     shown_all name text p valid old new count
     (subst (λ o. AreShownTo old new name text p o [] count) end
     (shown_passed name text p one.at other.at one.told old new count shown (subst (λ q. Lists q one.at other.at one.told) same passed.passed)))
-
--- a search's next world is shown, and where it has none, all are
-pub shown_found : {W : Type 0} (name : W → List ℕ) (text : W → Texts) (p : Problem) (at other : Option (List Rel)) (t : List Rel) (old mid new : List W) (count count' : ℕ)
-    → AreShownTo old mid name text p at [] count → Lists p at other (t ∷ []) → AllTook name text p t mid new → count' ≡ min (count + 1) (2 ^ 64 - 1) → AreShownTo old new name text p other [] count'
-shown_found name text p at other t old mid new count count' shown lists took more =
-    shown_passed name text p at other (t ∷ []) old new count' (shown_more name text p at t old mid new count count' shown took more) lists
-
-pub shown_end : {W : Type 0} (name : W → List ℕ) (text : W → Texts) (p : Problem) (at : Option (List Rel)) (old new : List W) (count : ℕ)
-    → IsTrue (is_problem p) → AreShownTo old new name text p at [] count → Lists p at None [] → AreShownAll name text p old new count
-shown_end name text p at old new count valid shown lists = shown_all name text p valid old new count (shown_passed name text p at None [] old new count shown lists)

@@ -1,4 +1,4 @@
--- What a listing by a table is seen as.
+-- What a listing along alive paths is seen as.
 use Rattle.std.specs.Prelude.{◌≡◌, ℕ, ◌↔◌, List, [], ◌∷◌, Option, Some}
 use Rattle.rcc5_core.specs.declared.Rel.{Rel}
 use Rattle.world_model.specs.Problem.{Problem, pairs}
