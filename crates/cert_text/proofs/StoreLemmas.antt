@@ -109,14 +109,27 @@ told_added (Some bytes) new line e one = by (lines_in bytes) refl
     by None f = tt
     by (Some lines) f = ap (lines_held false) e ∙ line_added bytes lines line f one
 
--- so it does where a call answers Ok that put the line
-pub told_ok : {T E : Type 0} (r : Result T E) (old new : Option (List ℕ)) (line : CertLine) → IsCertLine line → OnOk r (new ≡ added old (cert_text line ++ 10 ∷ [])) →
-    OnOk r (IsToldWith (lines_held false old) line (lines_held false new))
-told_ok (Ok v) old new line one e = told_added old new line e one
-told_ok (Err k) old new line one e = tt
-
 -- what a name holds whose lines are told
 pub told_bytes : (refused : Bool) (held : Option (List ℕ)) (lines : List CertLine) → lines_held refused held ≡ Some lines → (bytes : List ℕ) × (held ≡ Some bytes) × (lines_in bytes ≡ Some lines)
 told_bytes true held lines e = absurd (cc)
 told_bytes false None lines e = absurd (cc)
 told_bytes false (Some bytes) lines e = (bytes, refl, e)
+
+-- nothing behind told bytes, and one piece behind another
+pub added_nothing : (held : Option (List ℕ)) → added held [] ≡ held
+added_nothing None = refl
+added_nothing (Some bytes) = ap Some (append-nil bytes)
+
+pub added_twice : (held : Option (List ℕ)) (first second : List ℕ) → added (added held first) second ≡ added held (first ++ second)
+added_twice None first second = refl
+added_twice (Some bytes) first second = ap Some (append_assoc bytes first second)
+
+-- where no text waits, a log's lines are those that its name holds
+pub held_all : (refused : Bool) (held : Option (List ℕ)) (text : List ℕ) → text ≡ [] → lines_held refused (added held text) ≡ lines_held refused held
+held_all refused held text none = ap (λ text. lines_held refused (added held text)) none ∙ ap (lines_held refused) (added_nothing held)
+
+-- a line's text behind the text that waits tells one line more, whether it waits there or is appended
+pub told_waiting : (old new : Option (List ℕ)) (before text left : List ℕ) (line : CertLine) → text ≡ before ++ (cert_text line ++ 10 ∷ []) → IsCertLine line → added new left ≡ added old text →
+    IsToldWith (lines_held false (added old before)) line (lines_held false (added new left))
+told_waiting old new before text left line is one same =
+    told_added (added old before) (added new left) line (same ∙ ap (added old) is ∙ sym (added_twice old before (cert_text line ++ 10 ∷ []))) one

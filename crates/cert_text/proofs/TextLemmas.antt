@@ -11,11 +11,6 @@ pub elements-parted : (set : List ℕ) → 0 < length set → elements_word set 
 elements-parted [] some = absurd (omega arith)
 elements-parted (x ∷ xs) some = joined-parted 44 (decimal x) (map decimal xs)
 
--- what follows where a call answers Ok
-pub on_ok : {V E P Q : Type 0} (r : Result V E) → (P → Q) → OnOk r P → OnOk r Q
-on_ok (Ok v) f h = f h
-on_ok (Err e) f h = tt
-
 -- all members but the first
 rest_whole : (set : List ℕ) → take (length set - 1) (drop 1 set) ≡ drop 1 set
 rest_whole [] = refl

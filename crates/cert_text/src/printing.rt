@@ -9,7 +9,7 @@ ghost use Rattle.cert_text.specs.declared.line.CertLine.TheVariants.{Certificate
 use crate::line::{CertLine, RawFamily, Subject};
 use crate::pieces::{put_family, put_node, put_number, put_position, put_subject, put_version};
 use lits_core::Line;
-use proof_text::print_line;
+use proof_text::put_line;
 use rcc5_core::{Position, Rel};
 use std::alloc::{AllocError, Global};
 use world_model::Switches;
@@ -21,23 +21,23 @@ pub fn print_cert(alloc: Global, line: &CertLine) -> Result<Vec<u8>, AllocError>
     ensures read { IfOk result (λ text. lines_in text.items ≡ Some (line.now ∷ [])) }
 {
     let mut out = Vec::new(alloc);
-    put_whole(alloc, &mut out, line)?;
+    put_whole(&mut out, line)?;
     Ok(out)
 }
 
 /// Puts a line's text at the end, with the LF that ends it.
-pub(crate) fn put_whole(alloc: Global, out: &mut Vec<u8>, line: &CertLine) -> Result<(), AllocError>
+pub(crate) fn put_whole(out: &mut Vec<u8>, line: &CertLine) -> Result<(), AllocError>
     requires { IdsFromOne line.now }
     ensures text { OnOk result (out.new.items ≡ out.old.items ++ (cert_text line.now ++ 10 ∷ [])) }
     ensures small { OnOk result (IsCertLine line.now) }
 {
-    put_text(alloc, out, line)?;
+    put_text(out, line)?;
     out.push(b'\n')?;
     Ok(())
 }
 
 /// Puts a line's text at the end.
-fn put_text(alloc: Global, out: &mut Vec<u8>, line: &CertLine) -> Result<(), AllocError>
+fn put_text(out: &mut Vec<u8>, line: &CertLine) -> Result<(), AllocError>
     requires { IdsFromOne line.now }
     ensures text { OnOk result (out.new.items ≡ out.old.items ++ cert_text line.now) }
     ensures small { OnOk result (IsCertLine line.now) }
@@ -45,7 +45,7 @@ fn put_text(alloc: Global, out: &mut Vec<u8>, line: &CertLine) -> Result<(), All
     match line {
         CertLine::Certificate { switches, from } => put_certificate(out, *switches, from),
         CertLine::Claims { switches } => put_claims(out, *switches),
-        CertLine::Proof(line) => put_proof(alloc, out, line),
+        CertLine::Proof(line) => put_proof(out, line),
         CertLine::Branch { depth, last } => put_branch(out, (*depth, *last)),
         CertLine::NoPoint {
             depth,
@@ -82,13 +82,12 @@ fn put_claims(out: &mut Vec<u8>, switches: Switches) -> Result<(), AllocError>
     put_version(out, switches)
 }
 
-fn put_proof(alloc: Global, out: &mut Vec<u8>, line: &Line) -> Result<(), AllocError>
+fn put_proof(out: &mut Vec<u8>, line: &Line) -> Result<(), AllocError>
     requires { FromOne line.now }
     ensures text { OnOk result (out.new.items ≡ out.old.items ++ cert_text (Proof line.now)) }
     ensures small { OnOk result (IsCertLine (Proof line.now)) }
 {
-    let text = print_line(alloc, line)?;
-    out.extend_from_slice(&text)
+    put_line(out, line)
 }
 
 fn put_branch(out: &mut Vec<u8>, node: (u32, Option<Rel>)) -> Result<(), AllocError>

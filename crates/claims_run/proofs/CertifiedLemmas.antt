@@ -1,5 +1,5 @@
 -- An answer whose certificate a store holds.
-use Rattle.std.proofs.Common.{◌≡◌, ℕ, ◌≤◌, Bool, false, length, List, [], ◌∷◌, ◌++◌, Option, None, Some, IfSome, IfOk, Result, Ok, Err, refl, sym, ap, subst, ◌∙◌}
+use Rattle.std.proofs.Common.{◌≡◌, ℕ, ◌≤◌, Bool, false, length, List, [], ◌∷◌, ◌++◌, Option, None, Some, IfSome, IfOk, OnOk, Result, Ok, Err, refl, sym, ap, subst, ◌∙◌}
 use Rattle.std.specs.Prelude.{⊤, ◌^◌}
 use Rattle.std.specs.Result.{IsErrAnd}
 use Rattle.std.specs.Borrow.{Bor}
@@ -13,8 +13,8 @@ use Rattle.cert_text.specs.declared.line.CertLine.{CertLine}
 use Rattle.cert_text.specs.declared.line.CertLine.TheVariants.{Claims, Done}
 use Rattle.cert_text.specs.Logs.{Told, lines_in, lines_held}
 use Rattle.cert_text.specs.declared.store_log.StoreLog.{StoreLog}
-use Rattle.cert_text.proofs.StoreLemmas.{told_bytes}
-use Rattle.cert_text.specs.StoreLogs.{log_store, log_name, is_refused}
+use Rattle.cert_text.proofs.StoreLemmas.{told_bytes, held_all}
+use Rattle.cert_text.specs.StoreLogs.{log_store, log_name, is_refused, waiting_text, log_lines, log_faults, log_steady, log_quiet}
 use Rattle.cert_reader.specs.Reading.{Reading}
 use Rattle.cert_rules.specs.Listings.{Going}
 use Rattle.cert_rules.specs.ClaimLists.{Claim, claim_start}
@@ -113,43 +113,45 @@ settled_in_store r p asked name refused store mid store' made others quiet right
 
 -- an answer with its certificate, by the log's own words, where the log's store is what is left of the store that it borrowed
 module _ {S : Type 0} (state : S → StoreState) where
-  abbrev lines_of : StoreLog S → Told
-  lines_of l = lines_held (is_refused l) ((state (log_store l).now).held (log_name l).now)
+  -- what the log tells is what its name holds, where nothing waits
+  told_there : (r : Result Answer StepFault) (p : Problem) (a b : StoreLog S) (before : Told) → log_lines state a ≡ before → OnOk r (waiting_text b ≡ [])
+      → IfOk r (λ answer. IsToldWhole p (IsClaimed p answer) (log_lines state a) (log_lines state b))
+      → IfOk r (λ answer. IsToldWhole p (IsClaimed p answer) before (lines_held (is_refused b) ((state (log_store b).now).held (log_name b).now)))
+  told_there (Ok answer) p a b before began none told =
+      subst (λ before. IsToldWhole p (IsClaimed p answer) before (lines_held (is_refused b) ((state (log_store b).now).held (log_name b).now))) began
+      (subst (IsToldWhole p (IsClaimed p answer) (log_lines state a)) (held_all (is_refused b) ((state (log_store b).now).held (log_name b).now) (waiting_text b) none) told)
+  told_there (Err fault) p a b before began none told = tt
 
-  abbrev faults_of : StoreLog S → ℕ
-  faults_of l = (state (log_store l).now).writes (log_name l).now
-
-  abbrev steady_of : StoreLog S → StoreLog S → Type 0
-  steady_of a b = (log_name b ≡ log_name a) × ((log_store b).ghost_name ≡ (log_store a).ghost_name) ×
-      OnlyWritten (log_name a).now (state (log_store a).now) (state (log_store b).now)
-
-  abbrev quiet_of : StoreLog S → StoreLog S → Type 0
-  quiet_of a b = IsQuiet (state (log_store a).now) (state (log_store b).now)
-
-  settled_over : (r : Result Answer StepFault) (p : Problem) (asked : Question) (store : S) (a b : StoreLog S) (drops : StoreLog S → Bool) → is_refused a ≡ false
+  settled_over : (r : Result Answer StepFault) (p : Problem) (asked : Question) (store : S) (a b : StoreLog S) (drops : StoreLog S → Bool)
+      → log_lines state a ≡ lines_held false ((state (log_store a).now).held (log_name a).now) → OnOk r (waiting_text b ≡ [])
       → (state (log_store a).now).held (log_name a).now ≡ emptied ((state store).held (log_name a).now) → OthersKept (log_name a).now (state store).held (state (log_store a).now).held
       → IsQuiet (state store) (state (log_store a).now)
-      → IfOk r (IsRight p asked) → IfOk r (λ answer. IsToldWhole p (IsClaimed p answer) (lines_of a) (lines_of b)) → LogGoes drops lines_of faults_of steady_of quiet_of r a b
+      → IfOk r (IsRight p asked) → IfOk r (λ answer. IsToldWhole p (IsClaimed p answer) (log_lines state a) (log_lines state b))
+      → LogGoes drops (log_lines state) (log_faults state) (log_steady state) (log_quiet state) r a b
       → IsSettledWith p asked (Some (log_name a).now) (as_stored r) (state store) (state (log_store b).now)
-  settled_over r p asked store a b drops fresh made others quiet right told goes =
+  settled_over r p asked store a b drops began none made others quiet right told goes =
       let name = (log_name a).now in
       let named : log_name b ≡ log_name a = goes.comes.0 in
       settled_in_store r p asked name (is_refused b) (state store) (state (log_store a).now) (state (log_store b).now) made others quiet right
       (subst (λ (n : Bor (List ℕ)). IfOk r (λ answer. IsToldWhole p (IsClaimed p answer) (lines_held false ((state (log_store a).now).held name)) (lines_held (is_refused b) ((state (log_store b).now).held n.now)))) named
-      (subst (λ (refused : Bool). IfOk r (λ answer. IsToldWhole p (IsClaimed p answer) (lines_held refused ((state (log_store a).now).held name)) (lines_of b))) fresh told))
+      (told_there r p a b (lines_held false ((state (log_store a).now).held name)) began none told))
       (subst (λ (n : Bor (List ℕ)). IfLogFailed r (Rose ((state (log_store a).now).writes name) ((state (log_store b).now).writes n.now)) ((state (log_store b).now).writes n.now ≡ (state (log_store a).now).writes name)) named goes.fault)
       goes.still goes.comes.2.others
 
   pub settled_over_as : (r : Result Answer StepFault) (out : Result Answer StoreFault) (p : Problem) (asked : Question) (name : List ℕ) (store mid left : S) (a b : StoreLog S) (drops : StoreLog S → Bool)
-      → out ≡ as_stored r → (log_store b).now ≡ left → (log_store a).now ≡ mid → (log_name a).now ≡ name → is_refused a ≡ false
+      → out ≡ as_stored r → (log_store b).now ≡ left → (log_store a).now ≡ mid → (log_name a).now ≡ name
+      → log_lines state a ≡ lines_held false ((state mid).held name) → OnOk r (waiting_text b ≡ [])
       → (state mid).held name ≡ emptied ((state store).held name) → OthersKept name (state store).held (state mid).held → IsQuiet (state store) (state mid)
-      → IfOk r (IsRight p asked) → IfOk r (λ answer. IsToldWhole p (IsClaimed p answer) (lines_of a) (lines_of b)) → LogGoes drops lines_of faults_of steady_of quiet_of r a b
+      → IfOk r (IsRight p asked) → IfOk r (λ answer. IsToldWhole p (IsClaimed p answer) (log_lines state a) (log_lines state b))
+      → LogGoes drops (log_lines state) (log_faults state) (log_steady state) (log_quiet state) r a b
       → IsSettledWith p asked (Some name) out (state store) (state left)
-  settled_over_as r out p asked name store mid left a b drops is_out is_left is_mid named fresh made others quiet right told goes =
+  settled_over_as r out p asked name store mid left a b drops is_out is_left is_mid named began none made others quiet right told goes =
       subst (λ (out : Result Answer StoreFault). IsSettledWith p asked (Some name) out (state store) (state left)) (sym is_out)
       (subst (λ (s : S). IsSettledWith p asked (Some name) (as_stored r) (state store) (state s)) is_left
       (subst (λ (n : List ℕ). IsSettledWith p asked (Some n) (as_stored r) (state store) (state (log_store b).now)) named
-      (settled_over r p asked store a b drops fresh
+      (settled_over r p asked store a b drops
+      (subst (λ (n : List ℕ). log_lines state a ≡ lines_held false ((state (log_store a).now).held n)) (sym named) (subst (λ (s : S). log_lines state a ≡ lines_held false ((state s).held name)) (sym is_mid) began))
+      none
       (subst (λ (n : List ℕ). (state (log_store a).now).held n ≡ emptied ((state store).held n)) (sym named) (subst (λ (s : S). (state s).held name ≡ emptied ((state store).held name)) (sym is_mid) made))
       (subst (λ (n : List ℕ). OthersKept n (state store).held (state (log_store a).now).held) (sym named) (subst (λ (s : S). OthersKept name (state store).held (state s).held) (sym is_mid) others))
       (subst (λ (s : S). IsQuiet (state store) (state s)) (sym is_mid) quiet)

@@ -1,8 +1,10 @@
 //! An answer with its certificate.
-ghost use Rattle.std.specs.Prelude.{◌≡◌, false, Some, IfOk};
+ghost use Rattle.std.specs.Prelude.{◌≡◌, [], false, Some, IfOk, OnOk};
 ghost use Rattle.constraint_set.specs.Facts.{IsAsRead};
-ghost use Rattle.claims_run.specs.Answering.{IsRight, has_too_many};
-ghost use Rattle.claims_run.specs.Certifying.{IsSettledWith};
+ghost use Rattle.cert_text.specs.StoreLogs.{log_lines, log_faults, log_steady, log_quiet, waiting_text};
+ghost use Rattle.search_log.specs.Logging.{LogGoes};
+ghost use Rattle.claims_run.specs.Answering.{IsRight, IsClaimed, has_too_many};
+ghost use Rattle.claims_run.specs.Certifying.{IsToldWhole, IsSettledWith};
 
 use crate::answering::tell;
 use crate::question::{Answer, Question};
@@ -10,8 +12,29 @@ use cert_text::{NoLog, StoreLog};
 use command_line::Word;
 use constraint_set::Problem;
 use outer_store::{Store, StoreFault};
-use search_log::store_fault;
+use search_log::{StepFault, store_fault};
 use std::alloc::{AllocError, Global};
+
+// Answers, and the claims are told and all in the store. That the log is the same one still is a clause of its own, since what a
+// log over a store leaves of it hangs on that.
+fn tell_to_end<S: Store>(
+    alloc: Global,
+    problem: &Problem,
+    asked: Question,
+    log: &mut StoreLog<S>,
+) -> Result<Answer, StepFault>
+    requires as_read { IsAsRead problem.now }
+    requires few { has_too_many problem.now asked ≡ false }
+    ensures right { IfOk result (IsRight problem.now asked) }
+    ensures told { IfOk result (λ answer. IsToldWhole problem.now (IsClaimed problem.now answer) (log_lines S.state log.old) (log_lines S.state log.new)) }
+    ensures log { LogGoes (λ _. false) (log_lines S.state) (log_faults S.state) (log_steady S.state) (log_quiet S.state) result log.old log.new }
+    ensures steady { log_steady S.state log.old log.new }
+    ensures none_waits { OnOk result (waiting_text log.new ≡ []) }
+{
+    let answer = tell(alloc, problem, asked, log)?;
+    log.finish()?;
+    Ok(answer)
+}
 
 // Answers, and the certificate is what the name then holds.
 fn settle_certified<S: Store>(
@@ -26,8 +49,9 @@ fn settle_certified<S: Store>(
     ensures { IsSettledWith problem.now asked (Some name.now) result (S.state store.old) (S.state store.new) }
 {
     store.create(name)?;
-    let mut log = StoreLog::new(alloc, store, name);
-    match tell(alloc, problem, asked, &mut log) {
+    let mut text = Vec::new(alloc);
+    let mut log = StoreLog::new(store, name, &mut text);
+    match tell_to_end(alloc, problem, asked, &mut log) {
         Ok(answer) => Ok(answer),
         Err(fault) => Err(store_fault(fault)),
     }

@@ -1,5 +1,5 @@
 -- A listing whose certificate a store holds.
-use Rattle.std.proofs.Common.{◌≡◌, ℕ, ◌≤◌, Bool, false, length, List, [], ◌∷◌, ◌++◌, Option, None, Some, IfSome, IfOk, OnErr, Result, Ok, Err, refl, sym, ap, subst, ◌∙◌, inl, inr, ⊎_elim}
+use Rattle.std.proofs.Common.{◌≡◌, ℕ, ◌≤◌, Bool, false, length, List, [], ◌∷◌, ◌++◌, Option, None, Some, IfSome, IfOk, OnOk, OnErr, Result, Ok, Err, refl, sym, ap, subst, ◌∙◌, inl, inr, ⊎_elim}
 use Rattle.std.specs.Prelude.{◌⊎◌}
 use Rattle.std.specs.Result.{IsErrAnd}
 use Rattle.std.proofs.lemmas.Bool.{true≢false}
@@ -18,7 +18,7 @@ use Rattle.cert_text.specs.declared.line.CertLine.TheVariants.{End}
 use Rattle.cert_text.specs.Logs.{Told, lines_in, lines_held}
 use Rattle.std.specs.Borrow.{Bor}
 use Rattle.cert_text.specs.declared.store_log.StoreLog.{StoreLog}
-use Rattle.cert_text.specs.StoreLogs.{log_store, log_name, is_refused}
+use Rattle.cert_text.specs.StoreLogs.{log_store, log_name, is_refused, waiting_text, log_lines, log_faults, log_steady, log_quiet}
 use Rattle.cert_reader.specs.Reading.{Reading}
 use Rattle.cert_rules.specs.Listings.{Going, listing_tree, start}
 use Rattle.cert_rules.specs.ShownNodes.{AllBranchesAlive}
@@ -38,7 +38,7 @@ use Rattle.listing_log.specs.Putting.{IsPutToStop, IsPutPartly}
 use Rattle.world_search.specs.Told.{IsToldWhole}
 use Rattle.listing_log.specs.Logged.{IsListedIn, IsCertLeft, IsListedWith}
 use Rattle.cert_check.proofs.WrittenLemmas.{written_is_read, written_is_accepted_law}
-use Rattle.cert_text.proofs.StoreLemmas.{told_bytes}
+use Rattle.cert_text.proofs.StoreLemmas.{told_bytes, held_all}
 
 -- a certificate's name that can't be made empty
 create_refused_by : (T : Type 0) (e : StoreFault) (plan : ListingPlan) (name : List ℕ) (store store' : StoreState) (sink : SinkState)
@@ -146,44 +146,44 @@ none_left (Err e) plan held = tt
 
 -- a listing with its certificate, by the log's own words
 module _ {S : Type 0} (state : S → StoreState) where
-  abbrev lines_of : StoreLog S → Told
-  lines_of l = lines_held (is_refused l) ((state (log_store l).now).held (log_name l).now)
+  -- what the log tells is what its name holds, where nothing waits
+  told_there : (r : Result Listed StoreFault) (plan : ListingPlan) (a b : StoreLog S) (before : Told) → log_lines state a ≡ before → OnOk r (waiting_text b ≡ [])
+      → IfOk r (λ l. IsToldWhole plan.problem plan.start (log_lines state a) (stop_place l.stop) (log_lines state b))
+      → IfOk r (λ l. IsToldWhole plan.problem plan.start before (stop_place l.stop) (lines_held (is_refused b) ((state (log_store b).now).held (log_name b).now)))
+  told_there (Ok l) plan a b before began none told =
+      subst (λ before. IsToldWhole plan.problem plan.start before (stop_place l.stop) (lines_held (is_refused b) ((state (log_store b).now).held (log_name b).now))) began
+      (subst (IsToldWhole plan.problem plan.start (log_lines state a) (stop_place l.stop)) (held_all (is_refused b) ((state (log_store b).now).held (log_name b).now) (waiting_text b) none) told)
+  told_there (Err e) plan a b before began none told = tt
 
-  abbrev faults_of : StoreLog S → ℕ
-  faults_of l = (state (log_store l).now).writes (log_name l).now
-
-  abbrev steady_of : StoreLog S → StoreLog S → Type 0
-  steady_of a b = (log_name b ≡ log_name a) × ((log_store b).ghost_name ≡ (log_store a).ghost_name) ×
-      OnlyWritten (log_name a).now (state (log_store a).now) (state (log_store b).now)
-
-  abbrev quiet_of : StoreLog S → StoreLog S → Type 0
-  quiet_of a b = IsQuiet (state (log_store a).now) (state (log_store b).now)
-
-  listed_over : (r : Result Listed StoreFault) (plan : ListingPlan) (store : S) (a b : StoreLog S) (sink sink' : SinkState) → IsBuilt plan.problem → IsPlan plan → is_refused a ≡ false
+  listed_over : (r : Result Listed StoreFault) (plan : ListingPlan) (store : S) (a b : StoreLog S) (sink sink' : SinkState) → IsBuilt plan.problem → IsPlan plan
+      → log_lines state a ≡ lines_held false ((state (log_store a).now).held (log_name a).now) → OnOk r (waiting_text b ≡ [])
       → (state (log_store a).now).held (log_name a).now ≡ emptied ((state store).held (log_name a).now) → OthersKept (log_name a).now (state store).held (state (log_store a).now).held
       → IsQuiet (state store) (state (log_store a).now)
-      → IsListedIn lines_of faults_of steady_of quiet_of (IsToldWhole plan.problem plan.start (lines_of a)) plan r sink sink' a b
+      → IsListedIn (log_lines state) (log_faults state) (log_steady state) (log_quiet state) (IsToldWhole plan.problem plan.start (log_lines state a)) plan r sink sink' a b
       → IsListedWith plan (Some (log_name a).now) r (state store) (state (log_store b).now) sink sink'
-  listed_over r plan store a b sink sink' built within fresh made others quiet listed =
+  listed_over r plan store a b sink sink' built within began none made others quiet listed =
       let name = (log_name a).now in
       let named : log_name b ≡ log_name a = listed.comes.0 in
       listed_in_store r plan name (is_refused b) (state store) (state (log_store a).now) (state (log_store b).now) sink sink' built within made others quiet listed.ok listed.err
       (subst (λ (n : Bor (List ℕ)). IfOk r (λ l. IsToldWhole plan.problem plan.start (lines_held false ((state (log_store a).now).held name)) (stop_place l.stop) (lines_held (is_refused b) ((state (log_store b).now).held n.now)))) named
-      (subst (λ (refused : Bool). IfOk r (λ l. IsToldWhole plan.problem plan.start (lines_held refused ((state (log_store a).now).held name)) (stop_place l.stop) (lines_of b))) fresh listed.told))
-      (subst (λ (n : Bor (List ℕ)). IfFailed r ((Rose sink.faults sink'.faults × quiet_of a b) ⊎ (Rose ((state (log_store a).now).writes name) ((state (log_store b).now).writes n.now) × (sink'.faults ≡ sink.faults)))
-      ((sink'.faults ≡ sink.faults) × ((state (log_store b).now).writes n.now ≡ (state (log_store a).now).writes name) × quiet_of a b)) named listed.cause)
+      (told_there r plan a b (lines_held false ((state (log_store a).now).held name)) began none listed.told))
+      (subst (λ (n : Bor (List ℕ)). IfFailed r ((Rose sink.faults sink'.faults × log_quiet state a b) ⊎ (Rose ((state (log_store a).now).writes name) ((state (log_store b).now).writes n.now) × (sink'.faults ≡ sink.faults)))
+      ((sink'.faults ≡ sink.faults) × ((state (log_store b).now).writes n.now ≡ (state (log_store a).now).writes name) × log_quiet state a b)) named listed.cause)
       listed.comes.2
 
   -- where the log's store is what is left of the store that it borrowed
   pub listed_over_as : (r : Result Listed StoreFault) (plan : ListingPlan) (name : List ℕ) (store mid left : S) (a b : StoreLog S) (sink sink' : SinkState) → IsBuilt plan.problem → IsPlan plan
-      → (log_store b).now ≡ left → (log_store a).now ≡ mid → (log_name a).now ≡ name → is_refused a ≡ false
+      → (log_store b).now ≡ left → (log_store a).now ≡ mid → (log_name a).now ≡ name
+      → log_lines state a ≡ lines_held false ((state mid).held name) → OnOk r (waiting_text b ≡ [])
       → (state mid).held name ≡ emptied ((state store).held name) → OthersKept name (state store).held (state mid).held → IsQuiet (state store) (state mid)
-      → IsListedIn lines_of faults_of steady_of quiet_of (IsToldWhole plan.problem plan.start (lines_of a)) plan r sink sink' a b
+      → IsListedIn (log_lines state) (log_faults state) (log_steady state) (log_quiet state) (IsToldWhole plan.problem plan.start (log_lines state a)) plan r sink sink' a b
       → IsListedWith plan (Some name) r (state store) (state left) sink sink'
-  listed_over_as r plan name store mid left a b sink sink' built within is_left is_mid named fresh made others quiet listed =
+  listed_over_as r plan name store mid left a b sink sink' built within is_left is_mid named began none made others quiet listed =
       subst (λ (s : S). IsListedWith plan (Some name) r (state store) (state s) sink sink') is_left
       (subst (λ (n : List ℕ). IsListedWith plan (Some n) r (state store) (state (log_store b).now) sink sink') named
-      (listed_over r plan store a b sink sink' built within fresh
+      (listed_over r plan store a b sink sink' built within
+      (subst (λ (n : List ℕ). log_lines state a ≡ lines_held false ((state (log_store a).now).held n)) (sym named) (subst (λ (s : S). log_lines state a ≡ lines_held false ((state s).held name)) (sym is_mid) began))
+      none
       (subst (λ (n : List ℕ). (state (log_store a).now).held n ≡ emptied ((state store).held n)) (sym named) (subst (λ (s : S). (state s).held name ≡ emptied ((state store).held name)) (sym is_mid) made))
       (subst (λ (n : List ℕ). OthersKept n (state store).held (state (log_store a).now).held) (sym named) (subst (λ (s : S). OthersKept name (state store).held (state s).held) (sym is_mid) others))
       (subst (λ (s : S). IsQuiet (state store) (state s)) (sym is_mid) quiet)

@@ -68,6 +68,12 @@ module _ {L : Type 0} {lines : L → Told} {faults : L → ℕ} {steady quiet : 
       → LogMoves {T = Listed} faults steady quiet (Ok listed) a b
   listed_moves plan listed old new a b done = record { cause = (done.cause.1, done.cause.2); comes = done.comes }
 
+  -- a refusal that is handed on
+  pub listed_as : (e : StoreFault) (r : Result Listed StoreFault) (plan : ListingPlan) (old new : SinkState) (a b : L) → IsErrAnd r (λ f. f ≡ e)
+      → IsListedIn lines faults steady quiet IsTold plan (Err e) old new a b → IsListedIn lines faults steady quiet IsTold plan r old new a b
+  listed_as e (Ok v) plan old new a b is listed = absurd is
+  listed_as e (Err f) plan old new a b is listed = subst (λ f. IsListedIn lines faults steady quiet IsTold plan (Err f) old new a b) (sym is) listed
+
   -- one whose next step or line is refused by the log, or finds no memory
   log_refused_by : (T : Type 0) (e : StoreFault) (plan : ListingPlan) (old new : SinkState) (a b : L) → IsPutPartly plan old.bytes new.bytes → new.faults ≡ old.faults
       → LogMoves {T = T} faults steady quiet (Err e) a b → IsListedIn lines faults steady quiet IsTold plan (Err e) old new a b

@@ -1,6 +1,7 @@
 //! A listing with its certificate, which is written while the worlds are put.
-ghost use Rattle.std.specs.Prelude.{◌≡◌, Some, IfOk};
+ghost use Rattle.std.specs.Prelude.{◌≡◌, [], Some, IfOk, OnOk};
 ghost use Rattle.cert_text.specs.declared.line.CertLine.TheVariants.{Certificate, End};
+ghost use Rattle.cert_text.specs.StoreLogs.{log_lines, log_faults, log_steady, log_quiet, waiting_text};
 ghost use Rattle.world_search.specs.Told.{IsToldWhole};
 ghost use Rattle.listing_log.specs.Plans.{IsPlan, stop_place};
 ghost use Rattle.listing_log.specs.Logged.{IsListedIn, IsListedWith};
@@ -51,18 +52,21 @@ fn put_lines<W: Sink, L: TreeLog>(
     Ok(listed)
 }
 
-// Puts the lines of a listing and of its certificate. That the log is the same one still is a clause of its own, since what a log over a store leaves of it hangs on that.
-fn put_with_log<W: Sink, L: TreeLog>(
+// Puts the lines of a listing and of its certificate, and then all that wait in the store. That the log is the same one still is a clause of its own, since what a log over a store leaves of it hangs on that.
+fn put_to_end<S: Store, W: Sink>(
     alloc: Global,
     out: &mut W,
     plan: &ListingPlan,
-    log: &mut L,
+    log: &mut StoreLog<S>,
 ) -> Result<Listed, StoreFault>
     requires { IsPlan plan.now }
-    ensures listed { IsListedIn L.lines L.faults L.steady L.quiet (IsToldWhole plan.now.problem plan.now.start (L.lines log.old)) plan.now result (W.state out.old) (W.state out.new) log.old log.new }
-    ensures steady { L.steady log.old log.new }
+    ensures listed { IsListedIn (log_lines S.state) (log_faults S.state) (log_steady S.state) (log_quiet S.state) (IsToldWhole plan.now.problem plan.now.start (log_lines S.state log.old)) plan.now result (W.state out.old) (W.state out.new) log.old log.new }
+    ensures steady { log_steady S.state log.old log.new }
+    ensures none_waits { OnOk result (waiting_text log.new ≡ []) }
 {
-    put_lines(alloc, out, plan, log)
+    let listed = put_lines(alloc, out, plan, log)?;
+    log.finish()?;
+    Ok(listed)
 }
 
 /// Puts the listing of a plan, and writes its certificate: just that is what the name then holds.
@@ -78,8 +82,9 @@ pub fn put_certified<S: Store, W: Sink>(
 {
     plan.problem.facts();
     store.create(name)?;
-    let mut log = StoreLog::new(alloc, store, name);
-    put_with_log(alloc, out, plan, &mut log)
+    let mut text = Vec::new(alloc);
+    let mut log = StoreLog::new(store, name, &mut text);
+    put_to_end(alloc, out, plan, &mut log)
 }
 
 /// Puts the listing of a plan, and writes its certificate where there is a name for one.

@@ -221,16 +221,14 @@ line_of-read bytes line e =
     let read = line_of_words-read (words_of 32 bytes) line e in
     (sym (join_with_byte-slice_split 32 bytes) ∙ ap (λ ws. join_with_byte 32 ws) read.0, read.1)
 
--- what is printed as a line's text is read as the line
-pub text_reads : {V E Q : Type 0} (items : V → List ℕ) (line : Line) (r : Result V E) → IfOk r (λ text. items text ≡ line_text line) → OnOk r Q → (Q → IsLine line) →
-    IfOk r (λ text. line_of (items text) ≡ Ok line)
-text_reads items line (Ok text) is_text holds is_line = ap line_of is_text ∙ line_of-text line (is_line holds)
-text_reads items line (Err e) is_text holds is_line = tt
+-- the text of a line whose literals a call shows to be small is read as the line
+pub text_reads : {V E Q : Type 0} (line : Line) (r : Result V E) → OnOk r Q → (Q → IsLine line) → OnOk r (line_of (line_text line) ≡ Ok line)
+text_reads line (Ok v) holds is_line = line_of-text line (is_line holds)
+text_reads line (Err e) holds is_line = tt
 
-pub line_text_reads : {V E : Type 0} (items : V → List ℕ) (line : Line) (r : Result V E) → IfOk r (λ text. items text ≡ line_text line) → IsLine line →
-    IfOk r (λ text. line_of (items text) ≡ Ok line)
-line_text_reads items line (Ok text) is_text is_line = ap line_of is_text ∙ line_of-text line is_line
-line_text_reads items line (Err e) is_text is_line = tt
+pub line_text_reads : {V E : Type 0} (line : Line) (r : Result V E) → IsLine line → OnOk r (line_of (line_text line) ≡ Ok line)
+line_text_reads line (Ok v) is_line = line_of-text line is_line
+line_text_reads line (Err e) is_line = tt
 
 -- what was read as a line is the line of its text, and has ids
 pub gives_text : (bytes : List ℕ) (r : Result Line LineTextFault) → Gives (λ line. line) r (line_of bytes) → IfOk r (λ line. bytes ≡ line_text line)

@@ -18,20 +18,23 @@ word_put word items before after all k within so_far is =
     ∙ sym (ap (λ rest. before ++ parted 32 (list_words word rest)) more)
     ∙ so_far
 
--- a derive line in its four pieces
-pub derive_text : (id : ℕ) (lits hints kind first front text : List ℕ) → kind ≡ codes "d" → first ≡ kind ++ 32 ∷ decimal id →
-    front ≡ first ++ parted 32 (list_words literal_text lits) → text ≡ front ++ parted 32 (list_words decimal hints) → text ≡ line_text (Derive id lits hints)
-derive_text id lits hints kind first front text is_kind is_first is_front is_text =
+-- a derive line in its four pieces, behind what was there before
+pub derive_text : (id : ℕ) (lits hints before kind first front text : List ℕ) → kind ≡ before ++ codes "d" → first ≡ kind ++ 32 ∷ decimal id →
+    front ≡ first ++ parted 32 (list_words literal_text lits) → text ≡ front ++ parted 32 (list_words decimal hints) → text ≡ before ++ line_text (Derive id lits hints)
+derive_text id lits hints before kind first front text is_kind is_first is_front is_text =
     let a = list_words literal_text lits in
     let b = list_words decimal hints in
-    is_text ∙ ap (λ t. t ++ parted 32 b) (is_front ∙ ap (λ t. t ++ parted 32 a) (is_first ∙ ap (λ t. t ++ 32 ∷ decimal id) is_kind))
-    ∙ append_assoc (codes "d" ++ 32 ∷ decimal id) (parted 32 a) (parted 32 b)
+    is_text ∙ ap (λ t. t ++ parted 32 b) (is_front ∙ ap (λ t. t ++ parted 32 a) (is_first ∙ ap (λ t. t ++ 32 ∷ decimal id) is_kind ∙ append_assoc before (codes "d") (32 ∷ decimal id))
+    ∙ append_assoc before (codes "d" ++ 32 ∷ decimal id) (parted 32 a))
+    ∙ append_assoc before ((codes "d" ++ 32 ∷ decimal id) ++ parted 32 a) (parted 32 b)
+    ∙ ap (λ t. before ++ t) (append_assoc (codes "d" ++ 32 ∷ decimal id) (parted 32 a) (parted 32 b)
     ∙ ap (λ t. (codes "d" ++ 32 ∷ decimal id) ++ t) (sym (parted-append 32 a b))
-    ∙ sym (joined-parted 32 (codes "d") (decimal id ∷ a ++ b))
+    ∙ sym (joined-parted 32 (codes "d") (decimal id ∷ a ++ b)))
 
-pub forget_text : (ids kind text : List ℕ) → kind ≡ codes "k" → text ≡ kind ++ parted 32 (list_words decimal ids) → text ≡ line_text (Forget ids)
-forget_text ids kind text is_kind is_text =
-    is_text ∙ ap (λ t. t ++ parted 32 (list_words decimal ids)) is_kind ∙ sym (joined-parted 32 (codes "k") (list_words decimal ids))
+pub forget_text : (ids before kind text : List ℕ) → kind ≡ before ++ codes "k" → text ≡ kind ++ parted 32 (list_words decimal ids) → text ≡ before ++ line_text (Forget ids)
+forget_text ids before kind text is_kind is_text =
+    is_text ∙ ap (λ t. t ++ parted 32 (list_words decimal ids)) is_kind ∙ append_assoc before (codes "k") (parted 32 (list_words decimal ids))
+    ∙ ap (λ t. before ++ t) (sym (joined-parted 32 (codes "k") (list_words decimal ids)))
 
 -- numbers that are at least 1 and below a bound
 pub ids_from : (ids : List ℕ) → All (λ id. 1 ≤ id) ids → All (λ id. id < 2 ^ 64) ids → All IsId ids

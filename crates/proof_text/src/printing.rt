@@ -16,31 +16,40 @@ pub fn print_line(alloc: Global, line: &Line) -> Result<Vec<u8>, AllocError>
     ensures text { IfOk result (λ text. text.items ≡ line_text line.now) }
     ensures read { IfOk result (λ text. line_of text.items ≡ Ok line.now) }
 {
+    let mut out = Vec::new(alloc);
+    put_line(&mut out, line)?;
+    Ok(out)
+}
+
+/// Puts a line's text at the end, with no LF behind it.
+pub fn put_line(out: &mut Vec<u8>, line: &Line) -> Result<(), AllocError>
+    requires { FromOne line.now }
+    ensures text { OnOk result (out.new.items ≡ out.old.items ++ line_text line.now) }
+    ensures read { OnOk result (line_of (line_text line.now) ≡ Ok line.now) }
+{
     match line {
-        Line::Derive { id, lits, hints } => print_derive(alloc, *id, lits.lits(), hints.list()),
-        Line::Forget { ids } => print_forget(alloc, ids.list()),
+        Line::Derive { id, lits, hints } => put_derive(out, *id, lits.lits(), hints.list()),
+        Line::Forget { ids } => put_forget(out, ids.list()),
     }
 }
 
-fn print_derive(alloc: Global, id: u64, lits: &[Lit], hints: &[u64]) -> Result<Vec<u8>, AllocError>
-    ensures text { IfOk result (λ text. text.items ≡ line_text (Derive id lits.now hints.now)) }
+fn put_derive(out: &mut Vec<u8>, id: u64, lits: &[Lit], hints: &[u64]) -> Result<(), AllocError>
+    ensures text { OnOk result (out.new.items ≡ out.old.items ++ line_text (Derive id lits.now hints.now)) }
     ensures ids { (id < 2 ^ 64) × All (λ hint. hint < 2 ^ 64) hints.now }
     ensures literals { OnOk result (All (λ lit. lit < 2 ^ 32) lits.now) }
 {
-    let mut out = Vec::from_slice(alloc, b"d")?;
-    put_id(&mut out, id)?;
-    put_literals(&mut out, lits)?;
-    put_ids(&mut out, hints)?;
-    Ok(out)
+    out.push(b'd')?;
+    put_id(out, id)?;
+    put_literals(out, lits)?;
+    put_ids(out, hints)
 }
 
-fn print_forget(alloc: Global, ids: &[u64]) -> Result<Vec<u8>, AllocError>
-    ensures text { IfOk result (λ text. text.items ≡ line_text (Forget ids.now)) }
+fn put_forget(out: &mut Vec<u8>, ids: &[u64]) -> Result<(), AllocError>
+    ensures text { OnOk result (out.new.items ≡ out.old.items ++ line_text (Forget ids.now)) }
     ensures ids { All (λ id. id < 2 ^ 64) ids.now }
 {
-    let mut out = Vec::from_slice(alloc, b"k")?;
-    put_ids(&mut out, ids)?;
-    Ok(out)
+    out.push(b'k')?;
+    put_ids(out, ids)
 }
 
 /// Puts a space and the id.

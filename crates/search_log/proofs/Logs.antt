@@ -74,6 +74,11 @@ module _ {L : Type 0} {drops : L → Bool} {lines : L → Told} {faults : L → 
   pub log_stays_ok : {T : Type 0} (v : T) (a : L) → steady a a → quiet a a → LogGoes {T = T} drops lines faults steady quiet (Ok v) a a
   log_stays_ok v a stays still = record { told = adds_none (lines a); fault = refl; later = omega arith; comes = stays; still = still; as_before = refl }
 
+  -- a call that adds no line
+  pub log_same_ok : {T : Type 0} (v : T) (a b : L) → lines b ≡ lines a → faults b ≡ faults a → steady a b → quiet a b → drops b ≡ drops a → LogGoes {T = T} drops lines faults steady quiet (Ok v) a b
+  log_same_ok v a b same fault comes still as_before =
+      record { told = subst (AddsLines (lines a)) (sym same) (adds_none (lines a)); fault = fault; later = omega (arith, fault); comes = comes; still = still; as_before = as_before }
+
   pub log_memory : {T : Type 0} (r : Result T StepFault) (a : L) → steady a a → quiet a a → IsErrAnd r (λ f. f ≡ NoMemory) → LogGoes {T = T} drops lines faults steady quiet r a a
   log_memory {T} (Ok v) a stays still h = absurd h
   log_memory {T} (Err f) a stays still h =

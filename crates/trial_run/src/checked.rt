@@ -22,9 +22,14 @@ fn write_cert(
 ) -> Result<u64, AllocError>
     ensures { IfOk result (AreFound problem.now None) }
 {
-    let mut log = StoreLog::new(alloc, store, name);
-    match put_listing(alloc, problem, &mut log) {
-        Ok(found) => Ok(found),
+    let mut text = Vec::new(alloc);
+    let mut log = StoreLog::new(store, name, &mut text);
+    let found = match put_listing(alloc, problem, &mut log) {
+        Ok(found) => found,
+        Err(_) => return Err(AllocError),
+    };
+    match log.finish() {
+        Ok(()) => Ok(found),
         Err(_) => Err(AllocError),
     }
 }

@@ -14,8 +14,8 @@ returns-in_err-create g c =
 
 pub returns : goal.returns
 returns g c =
-    listed_over_as g.S.Store.state c.put_with_log.result c.args.plan.now c.args.name.now c.args.store.now c.create.new.self _ c.new-log.result c.put_with_log.new.log
+    listed_over_as g.S.Store.state c.put_to_end.result c.args.plan.now c.args.name.now c.args.store.now c.create.new.self _ c.new-log.result c.put_to_end.new.log
     (g.W.Sink.state c.args.out.now)
-    (g.W.Sink.state c.put_with_log.new.out)
-    c.facts.ensures.built c.requires (search rules) c.new-log.ensures.store (ap (λ n. n.now) c.new-log.ensures.name) c.new-log.ensures.refused
-    c.in_ok-create.ensures.ok c.create.ensures.only_written.others c.in_ok-create.ensures.cause c.put_with_log.ensures.listed
+    (g.W.Sink.state c.put_to_end.new.out)
+    c.facts.ensures.built c.requires (search rules) c.new-log.ensures.store (ap (λ n. n.now) c.new-log.ensures.name) c.new-log.ensures.told c.put_to_end.ensures.none_waits
+    c.in_ok-create.ensures.ok c.create.ensures.only_written.others c.in_ok-create.ensures.cause c.put_to_end.ensures.listed

@@ -1,29 +1,7 @@
-use Rattle.std.proofs.Common.{◌≡◌, Ok, IfOk, sym, ap, subst, ◌∙◌}
-use Rattle.lits_core.specs.declared.Line.TheVariants.{Derive, Forget}
-use Rattle.lits_core.specs.Derivation.{FromOne}
-use Rattle.proof_text.specs.Lines.{line_of}
-use Rattle.proof_text.proofs.TextLemmas.{ids_from}
-use Rattle.proof_text.proofs.LineLemmas.{text_reads, line_text_reads}
+use Rattle.std.proofs.Common.{◌++◌, ap, ◌∙◌}
+use Rattle.proof_text.specs.Lines.{line_of, line_text}
 use Rattle.proof_text.proofs.printing.print_line.Goals as goal
 
-pub returns-in-Derive-clause-read : goal.returns-in-Derive-clause-read
-returns-in-Derive-clause-read c =
-    let id = c.in-Derive.id in
-    let lits = c.lits.result.now in
-    let hints = c.list.result.now in
-    let line_is : c.args.line.now ≡ Derive id lits hints =
-    c.in-Derive.is ∙ ap (λ l. Derive id l c.in-Derive.hints) (sym c.lits.ensures) ∙ ap (λ h. Derive id lits h) (sym c.list.ensures) in
-    let ids : FromOne (Derive id lits hints) = subst FromOne line_is c.requires in
-    let bounds = c.print_derive.ensures.ids in
-    let reads = text_reads (λ text. text.items) (Derive id lits hints) c.print_derive.result c.print_derive.ensures.text c.print_derive.ensures.literals
-    (λ small. ((ids.0, bounds.0), small, ids_from hints ids.1 bounds.1)) in
-    subst (λ line. IfOk c.print_derive.result (λ text. line_of text.items ≡ Ok line)) (sym line_is) reads
-
-pub returns-in-Forget-clause-read : goal.returns-in-Forget-clause-read
-returns-in-Forget-clause-read c =
-    let ids = c.list-in-Forget.result.now in
-    let line_is : c.args.line.now ≡ Forget ids = c.in-Forget.is ∙ ap Forget (sym c.list-in-Forget.ensures) in
-    let above : FromOne (Forget ids) = subst FromOne line_is c.requires in
-    let reads = line_text_reads (λ text. text.items) (Forget ids) c.print_forget.result c.print_forget.ensures.text
-    (ids_from ids above c.print_forget.ensures.ids) in
-    subst (λ line. IfOk c.print_forget.result (λ text. line_of text.items ≡ Ok line)) (sym line_is) reads
+pub returns-clause-read : goal.returns-clause-read
+returns-clause-read c =
+    ap line_of (c.in_ok-put_line.ensures.text ∙ ap (λ front. front ++ line_text c.args.line.now) c.new-out.ensures.items) ∙ c.in_ok-put_line.ensures.read
