@@ -16,8 +16,8 @@ returns-in-Ok g c =
     refl (search rules) c.new-log.ensures.store (ap (λ n. n.now) c.new-log.ensures.name) c.new-log.ensures.told c.in-Ok.ensures.none_waits
     c.in_ok-create.ensures.ok c.create.ensures.only_written.others c.in_ok-create.ensures.cause c.in-Ok.ensures.right c.in-Ok.ensures.told c.in-Ok.ensures.log
 
-pub returns-in-Err : goal.returns-in-Err
-returns-in-Err g c =
+pub returns : goal.returns
+returns g c =
     settled_over_as g.S.Store.state (Err c.in-Err.fault) (Err c.store_fault.result) c.args.problem.now c.args.asked c.args.name.now
     c.args.store.now c.create.new.self _ c.new-log.result c.tell_to_end.new.log _
     (ap Err c.store_fault.ensures.value) (search rules) c.new-log.ensures.store (ap (λ n. n.now) c.new-log.ensures.name) c.new-log.ensures.told tt
