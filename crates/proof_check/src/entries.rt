@@ -6,9 +6,10 @@ ghost use Rattle.proof_check.specs.Check.{Gives};
 ghost use Rattle.std.specs.Ordering.{nat_cmp};
 ghost use Rattle.std.specs.BTreeSet.{contains};
 
+use crate::places::Places;
 use lits_core::{Clause, LineFault, Lit};
 use std::alloc::{AllocError, Global};
-use std::collections::{BTreeMap, BTreeSet};
+use std::collections::BTreeSet;
 use std::marker::Model;
 
 /// Clauses with ids, no two of which are the same, seen as the list of these in the order they came. Each has a slot,
@@ -16,7 +17,7 @@ use std::marker::Model;
 #[derive(Drop)]
 pub struct Entries {
     slots: Vec<Option<(u64, Clause)>>,
-    places: BTreeMap<u64, usize>,
+    places: Places,
 }
 
 impl Model for Entries {
@@ -36,14 +37,14 @@ impl Entries {
     {
         Entries {
             slots: Vec::new(alloc),
-            places: BTreeMap::new(alloc),
+            places: Places::new(alloc),
         }
     }
 
     pub fn find(&self, id: u64) -> Option<&[Lit]>
         ensures { option_copied result ≡ derived_clause self.now id }
     {
-        let place = *self.places.get(&id)?;
+        let place = self.places.get(id)?;
         match &self.slots[place] {
             Some(entry) => Some(entry.1.lits()),
             None => None,
@@ -65,7 +66,7 @@ impl Entries {
     pub fn remove(&mut self, id: u64)
         ensures { self.new ≡ without_id self.old id }
     {
-        if let Some(place) = self.places.remove(&id) {
+        if let Some(place) = self.places.remove(id) {
             empty_slot(&mut self.slots, place);
         }
     }

@@ -5,6 +5,7 @@ mod clauses;
 mod entries;
 mod held;
 mod hint;
+mod places;
 
 ghost use Rattle.std.specs.Prelude.{◌≡◌, ℕ, Bool, List, [], IfOk, IfSome, OnOk, OnErr, IsTrue, option_copied};
 ghost use Rattle.lits_core.specs.Literals.{meets_all, clause_true};

@@ -24,7 +24,7 @@ pub(crate) struct Contents<'a> {
 fn is_digest_byte(b: u8) -> bool
     ensures { result ≡ is_digest_byte b }
 {
-    b.is_ascii_digit() || (b'a'..=b'f').contains(&b)
+    matches!(b, b'0'..=b'9' | b'a'..=b'f')
 }
 
 fn has_digest_bytes(word: &[u8]) -> bool

@@ -1,5 +1,6 @@
 //! The digest of a problem.
 ghost use Rattle.std.specs.Prelude.{◌≡◌, ◌++◌, string_bytes, IfOk, OnOk};
+ghost use Rattle.proof_text.specs.Words.{switch_word};
 ghost use Rattle.constraint_set.specs.Facts.{IsAsRead};
 ghost use Rattle.resume_token.specs.Token.{switches_line, digest_of};
 
@@ -14,12 +15,17 @@ fn put_switches(out: &mut Vec<u8>, switches: Switches) -> Result<(), AllocError>
     ensures { OnOk result (out.new.items ≡ out.old.items ++ switches_line switches) }
 {
     out.extend_from_slice(b"switches ")?;
-    out.extend_from_slice(switch_word(switches.nonempty))?;
-    out.extend_from_slice(b" ")?;
-    out.extend_from_slice(switch_word(switches.sibling))?;
-    out.extend_from_slice(b" ")?;
-    out.extend_from_slice(switch_word(switches.coverage))?;
-    out.extend_from_slice(b"\n")
+    put_switch(out, switches.nonempty, b" ")?;
+    put_switch(out, switches.sibling, b" ")?;
+    put_switch(out, switches.coverage, b"\n")
+}
+
+// Puts the word of a switch, and what stands behind it.
+fn put_switch(out: &mut Vec<u8>, switch: bool, behind: &[u8]) -> Result<(), AllocError>
+    ensures { OnOk result (out.new.items ≡ out.old.items ++ switch_word switch ++ behind.now) }
+{
+    out.extend_from_slice(switch_word(switch))?;
+    out.extend_from_slice(behind)
 }
 
 /// The digest of a problem, in hexadecimal digits.

@@ -1,6 +1,7 @@
 //! The texts of tokens.
-ghost use Rattle.std.specs.Prelude.{◌≡◌, ◌≤◌, ◌++◌, length, Ok, IfOk, OnOk};
+ghost use Rattle.std.specs.Prelude.{◌≡◌, ◌≤◌, [], ◌∷◌, ◌++◌, length, decimal, Ok, IfOk, OnOk};
 ghost use Rattle.world_model.specs.Problem.{pair_count};
+ghost use Rattle.proof_text.specs.Words.{position_word};
 ghost use Rattle.constraint_set.specs.Facts.{IsAsRead};
 ghost use Rattle.resume_token.specs.Token.{token_text, token_result};
 ghost use Rattle.resume_token.specs.Printing.{words_behind};
@@ -72,11 +73,25 @@ fn put_words(
 ) -> Result<(), AllocError>
     ensures { OnOk result (out.new.items ≡ out.old.items ++ words_behind problem.now digest.now position.now) }
 {
-    print_number(out, u64::from(problem.taxonomy_count()))?;
-    out.push(b' ')?;
-    print_number(out, u64::from(problem.pair_count()))?;
-    out.push(b' ')?;
+    put_number(out, u64::from(problem.taxonomy_count()))?;
+    put_number(out, u64::from(problem.pair_count()))?;
     out.extend_from_slice(digest)?;
+    put_position(out, position)
+}
+
+// Puts a number, and a space behind it.
+fn put_number(out: &mut Vec<u8>, number: u64) -> Result<(), AllocError>
+    ensures { OnOk result (out.new.items ≡ out.old.items ++ decimal number ++ 32 ∷ []) }
+{
+    print_number(out, number)?;
+    out.push(b' ')?;
+    Ok(())
+}
+
+// Puts a position, with a space before it and a line end behind it.
+fn put_position(out: &mut Vec<u8>, position: &Position) -> Result<(), AllocError>
+    ensures { OnOk result (out.new.items ≡ out.old.items ++ 32 ∷ position_word position.now ++ 10 ∷ []) }
+{
     out.push(b' ')?;
     print_position(out, position)?;
     out.push(b'\n')?;
