@@ -214,7 +214,7 @@ def crate_faults():
     ruled_out["proof_text"] -= {"rcc5_core"}
     ruled_out.update({crate: every - set(layer["solver"]) - set(layer["derivations"]) for crate in layer["solver"]})
     ruled_out.update({crate: asks for crate in layer["bridge"] if crate not in asks})
-    ruled_out.update({crate: asks | set(layer["search"]) for crate in layer["certificates"] + ["check_run", "join_run"]})
+    ruled_out.update({crate: asks | set(layer["search"]) for crate in layer["certificates"] + ["check_run"]})
     ruled_out["euler_align"] = set(layer["references"])
     for crate, others in ruled_out.items():
         faults += [f"docs/CODE.md: {crate} stands on {other}, which its layer rules out" for other in sorted(under[crate] & others)]

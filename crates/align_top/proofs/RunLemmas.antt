@@ -3,7 +3,7 @@ use Rattle.std.proofs.Common.{◌≡◌, ℕ, List, [], ◌∷◌, map, Result, 
 use Rattle.outer_store.specs.Contents.{Contents}
 use Rattle.outer_store.specs.States.{StoreState, SinkState}
 use Rattle.world_watch.specs.Steps.{Texts}
-use Rattle.trial_make.specs.Made.{IsSize}
+use Rattle.trial_run.specs.Made.{IsSize}
 use Rattle.command_line.specs.declared.UsageKind.{UsageKind}
 use Rattle.command_line.specs.declared.request.Request.{Request}
 use Rattle.command_line.specs.declared.request.Request.TheVariants.{Align, Check, Mir, Conflict, Lattice, Explain, Report, Parts, Part, Join, Trial}

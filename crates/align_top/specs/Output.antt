@@ -15,11 +15,11 @@ use Rattle.listing_run.specs.Output.{IsListingAnswer}
 use Rattle.check_run.specs.Checking.{IsCheckAnswer}
 use Rattle.claims_run.specs.declared.question.Question.TheVariants as question
 use Rattle.claims_run.specs.Answering.{IsClaimsAnswer}
-use Rattle.explain_run.specs.Answering.{IsExplainAnswer}
+use Rattle.claims_run.specs.Explain.Answering.{IsExplainAnswer}
 use Rattle.report_run.specs.Reporting.{Watched, IsReportAnswer}
 use Rattle.parts_run.specs.Answering.{IsPartsAnswer, ArePartsNames}
-use Rattle.part_run.specs.Answering.{IsPartAnswer}
-use Rattle.join_run.specs.Answering.{IsJoinAnswer}
+use Rattle.listing_run.specs.Part.Answering.{IsPartAnswer}
+use Rattle.check_run.specs.Join.Answering.{IsJoinAnswer}
 use Rattle.trial_run.specs.Trials.{IsTrialAnswer}
 
 -- the names that a request's run reads and may write: those that its words give, and where parts are asked for the tokens of the parts

@@ -6,14 +6,11 @@ ghost use Rattle.align_top.specs.Output.{IsRunFor, IsRun};
 ghost use Rattle.align_top.specs.Steps.{IsPlain, is_report};
 
 use crate::words::read_words;
-use check_run::run_check;
-use claims_run::{Question, run_claims};
+use check_run::{run_check, run_join};
+use claims_run::{Question, run_claims, run_explain};
 use command_line::{Request, WordsFault};
-use explain_run::run_explain;
-use join_run::run_join;
-use listing_run::run_listing;
+use listing_run::{run_listing, run_part};
 use outer_store::{Sink, Store};
-use part_run::run_part;
 use parts_run::run_parts;
 use report_run::run_report;
 use run_ends::{Status, put_end};

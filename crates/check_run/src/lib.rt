@@ -1,7 +1,9 @@
-//! The command that checks a certificate: what it reads, and the lines that it puts.
+//! The commands that check a certificate, and join those of parts: what they read, and the lines that they put.
 #![tactic(auto)]
 
 mod checking;
+mod join;
 mod verdict;
 
 pub use checking::run_check;
+pub use join::run_join;

@@ -1,3 +1,4 @@
 pub mod Answering
 pub mod Certifying
 pub mod Putting
+pub mod Explain

@@ -18,7 +18,7 @@ use Rattle.run_ends.proofs.TokenLemmas.{token_answers}
 use Rattle.run_ends.proofs.HeldLemmas.{read_first, read_later, filled, filled_told, filled_problem, filled_token}
 use Rattle.command_line.specs.declared.request.AlignArgs.{AlignArgs}
 use Rattle.command_line.specs.Requests.{AreApart, IsAlign}
-use Rattle.listing_log.specs.declared.ListingPlan.{ListingPlan}
+use Rattle.listing_run.specs.declared.plan.ListingPlan.{ListingPlan}
 use Rattle.listing_run.specs.Output.{start_of, plan_from, plan_by, ComesTo, listing_names, IsListingAnswer}
 
 -- a plan by what comes of its text and of its token

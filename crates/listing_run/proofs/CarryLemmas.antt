@@ -21,14 +21,14 @@ use Rattle.outer_store.specs.States.{StoreState, SinkState, IsQuiet, IsQuiet-joi
 use Rattle.run_ends.specs.Runs.{File, file_under, HasFailed, AreKeptBut, IsHeld, AreWritten, Answered, ending_of, IsWriteCause, IsByCause, IsPutPart, IsCarriedOut, LeavesPiece}
 use Rattle.run_ends.proofs.EndLemmas.{none_written}
 use Rattle.command_line.specs.Requests.{AreApart}
-use Rattle.listing_log.specs.declared.ListingPlan.{ListingPlan}
-use Rattle.listing_log.specs.declared.Stop.{Stop}
-use Rattle.listing_log.specs.declared.Stop.TheVariants as stop
-use Rattle.listing_log.specs.Plans.{IsStopOf, stop_place}
-use Rattle.listing_log.specs.Putting.{IsPutPartly}
-use Rattle.listing_log.specs.Logged.{IsCertLeft, IsListedWith}
-use Rattle.listing_log.proofs.LeftLemmas.{bytes_of, none_certified, cert_written, certified}
-use Rattle.listing_log.proofs.EndLemmas.{endless_stop}
+use Rattle.listing_run.specs.declared.plan.ListingPlan.{ListingPlan}
+use Rattle.listing_run.specs.declared.plan.Stop.{Stop}
+use Rattle.listing_run.specs.declared.plan.Stop.TheVariants as stop
+use Rattle.listing_run.specs.Plans.{IsStopOf, stop_place}
+use Rattle.listing_run.specs.Putting.{IsPutPartly}
+use Rattle.listing_run.specs.Logged.{IsCertLeft, IsListedWith}
+use Rattle.listing_run.proofs.LeftLemmas.{bytes_of, none_certified, cert_written, certified}
+use Rattle.listing_run.proofs.StopLemmas.{endless_stop}
 use Rattle.resume_token.specs.Token.{token_text}
 use Rattle.world_model.specs.Saturated.{count_of}
 use Rattle.part_rules.specs.Certs.{IsListingCert}

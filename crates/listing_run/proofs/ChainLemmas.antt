@@ -10,7 +10,7 @@ use Rattle.world_model.specs.Node.{IsCut}
 use Rattle.world_model.proofs.OrderListings.{listing, listings_join_law}
 use Rattle.listing_run.specs.Resuming.{ListingRun, IsChain}
 use Rattle.world_search.proofs.WorldsLeft.{nothing_there}
-use Rattle.listing_log.proofs.CutLemmas.{itself, later}
+use Rattle.listing_run.proofs.CutLemmas.{itself, later}
 
 -- what a chain lists, and that it ends not before its start
 record Chained (p : Problem) (from : List Rel) (end : Option (List Rel)) (runs : List ListingRun) : Type 0 where

@@ -6,7 +6,7 @@ use Rattle.outer_store.specs.States.{StoreState, SinkState}
 use Rattle.run_ends.specs.Runs.{IsCarriedOut}
 use Rattle.run_ends.proofs.EndLemmas.{carried_as}
 use Rattle.command_line.specs.declared.request.AlignArgs.{AlignArgs}
-use Rattle.listing_log.specs.declared.ListingPlan.{ListingPlan}
+use Rattle.listing_run.specs.declared.plan.ListingPlan.{ListingPlan}
 use Rattle.listing_run.specs.Output.{ComesTo, IsListingAnswer, written_names}
 use Rattle.listing_run.specs.Steps.{plan_answers}
 

@@ -3,3 +3,11 @@ pub mod CarryLemmas
 pub mod ChainLemmas
 pub mod EndLemmas
 pub mod FileLemmas
+pub mod CertifiedLemmas
+pub mod CutLemmas
+pub mod StopLemmas
+pub mod LeftLemmas
+pub mod ListingLemmas
+pub mod LoggedLemmas
+pub mod PlaceLemmas
+pub mod TableLemmas

@@ -19,7 +19,7 @@ use Rattle.run_ends.specs.Runs.{File, file_under, IsEndAlone}
 use Rattle.command_line.specs.declared.request.AlignArgs.{AlignArgs}
 use Rattle.command_line.specs.declared.request.Request.TheVariants.{Align}
 use Rattle.command_line.specs.Requests.{Names, names_of}
-use Rattle.listing_log.specs.declared.ListingPlan.{ListingPlan}
+use Rattle.listing_run.specs.declared.plan.ListingPlan.{ListingPlan}
 use Rattle.part_rules.specs.Certs.{IsListingCert}
 
 -- the last line of a listing of so many worlds that stopped before its end

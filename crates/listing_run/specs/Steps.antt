@@ -14,10 +14,10 @@ use Rattle.run_ends.specs.declared.Status.TheVariants.{Done, Cut, NoWorld}
 use Rattle.outer_store.specs.States.{StoreState, SinkState, IsQuiet}
 use Rattle.run_ends.specs.Runs.{Answers, AreWritten, IsWriteCause, IsByCause}
 use Rattle.command_line.specs.Requests.{AreApart}
-use Rattle.listing_log.specs.declared.ListingPlan.{ListingPlan}
-use Rattle.listing_log.specs.declared.Stop.{Stop}
-use Rattle.listing_log.specs.declared.Stop.TheVariants as stop
-use Rattle.listing_log.specs.Plans.{IsPlan}
+use Rattle.listing_run.specs.declared.plan.ListingPlan.{ListingPlan}
+use Rattle.listing_run.specs.declared.plan.Stop.{Stop}
+use Rattle.listing_run.specs.declared.plan.Stop.TheVariants as stop
+use Rattle.listing_run.specs.Plans.{IsPlan}
 use Rattle.listing_run.specs.Output.{token_under, IsListed, cut_line, last_line}
 
 -- a plan without an end that can be carried out, with the names for its certificate and its token

@@ -10,7 +10,8 @@ ghost use Rattle.listing_run.specs.Steps.{cut_of, status_at, IsListingReady, IsC
 
 use command_line::Word;
 use constraint_set::Problem;
-use listing_log::{Listed, ListingPlan, Stop, put_listing};
+use crate::certified::put_listing;
+use crate::plan::{Listed, ListingPlan, Stop};
 use outer_store::{Sink, Store, StoreFault};
 use rcc5_core::Position;
 use run_ends::{Status, put_complete, put_line, write_token};

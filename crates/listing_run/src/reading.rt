@@ -7,7 +7,7 @@ ghost use Rattle.listing_run.specs.Output.{ComesTo, listing_names, IsListingAnsw
 ghost use Rattle.listing_run.specs.Steps.{IsListingReady};
 
 use command_line::AlignArgs;
-use listing_log::ListingPlan;
+use crate::plan::ListingPlan;
 use outer_store::Store;
 use rcc5_core::Position;
 use run_ends::{Status, position_given, problem_under};

@@ -8,7 +8,7 @@ use Rattle.rcc5_core.specs.declared.Rel.{Rel}
 use Rattle.world_model.specs.Problem.{Problem}
 use Rattle.command_line.specs.Requests.{Names}
 use Rattle.command_line.specs.declared.request.PartsArgs.{PartsArgs}
-use Rattle.part_begin.specs.Beginnings.{AreBeginnings}
+use Rattle.parts_run.specs.Beginnings.{AreBeginnings}
 use Rattle.run_ends.specs.declared.Status.{Status}
 use Rattle.run_ends.specs.declared.Status.TheVariants as status
 use Rattle.run_ends.specs.Ends.{end_line, IsLastPut}

@@ -13,7 +13,7 @@ use Rattle.rcc5_core.specs.declared.Rel.{Rel}
 use Rattle.world_model.specs.Problem.{Problem}
 use Rattle.resume_token.specs.Token.{token_text}
 use Rattle.command_line.specs.declared.request.PartsArgs.{PartsArgs}
-use Rattle.part_begin.specs.Beginnings.{AreBeginnings}
+use Rattle.parts_run.specs.Beginnings.{AreBeginnings}
 use Rattle.run_ends.specs.declared.Status.{Status}
 use Rattle.run_ends.specs.declared.Status.TheVariants.{Done}
 use Rattle.run_ends.specs.Runs.{File, HasFailed, AreKeptBut, AreWritten, IsWriteCause, IsPutPart, IsCarriedOut, LeavesPiece}

@@ -11,7 +11,7 @@ use Rattle.cleantax_text.specs.Reading.{text_result}
 use Rattle.resume_token.specs.Token.{token_text}
 use Rattle.command_line.specs.Requests.{Names}
 use Rattle.command_line.specs.declared.request.PartsArgs.{PartsArgs}
-use Rattle.part_begin.specs.Beginnings.{AreBeginnings}
+use Rattle.parts_run.specs.Beginnings.{AreBeginnings}
 use Rattle.run_ends.specs.declared.Status.{Status}
 use Rattle.run_ends.specs.declared.Status.TheVariants.{Done, RefusedText}
 use Rattle.run_ends.specs.Ends.{line_of}

@@ -1,2 +1,4 @@
 pub mod Answering
 pub mod Steps
+pub mod Beginnings
+pub mod Levels

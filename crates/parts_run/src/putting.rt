@@ -2,7 +2,7 @@
 ghost use Rattle.std.specs.Prelude.{◌≡◌, ◌≤◌, ◌++◌, length, codes, decimal, string_bytes, IfOk};
 ghost use Rattle.world_model.specs.Problem.{pair_count};
 ghost use Rattle.constraint_set.specs.Facts.{IsAsRead};
-ghost use Rattle.part_begin.specs.Beginnings.{AreBeginnings};
+ghost use Rattle.parts_run.specs.Beginnings.{AreBeginnings};
 ghost use Rattle.run_ends.specs.Runs.{LeavesPiece, IsCarriedOut};
 ghost use Rattle.parts_run.specs.Answering.{part_line, parts_line, token_names, AreParts};
 ghost use Rattle.parts_run.specs.Steps.{IsPartPut};
@@ -11,7 +11,7 @@ use cert_text::put_position;
 use command_line::PartsArgs;
 use constraint_set::Problem;
 use outer_store::{Sink, Store, StoreFault};
-use part_begin::facts_of_beginnings;
+use crate::finding::facts_of_beginnings;
 use rcc5_core::Position;
 use resume_token::Tokens;
 use run_ends::{Status, put_line, write_file};

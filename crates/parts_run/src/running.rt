@@ -1,14 +1,14 @@
 //! Parts, from their words to their status.
 ghost use Rattle.std.specs.Prelude.{◌≤◌, IfOk};
 ghost use Rattle.command_line.specs.Requests.{IsParts};
-ghost use Rattle.part_begin.specs.Beginnings.{AreBeginnings};
+ghost use Rattle.parts_run.specs.Beginnings.{AreBeginnings};
 ghost use Rattle.parts_run.specs.Answering.{IsPartsRun};
 
 use crate::putting::put_parts;
 use command_line::PartsArgs;
 use constraint_set::Problem;
 use outer_store::{Sink, Store, StoreFault};
-use part_begin::beginnings;
+use crate::finding::beginnings;
 use point_query::Asker;
 use rcc5_core::Position;
 use run_ends::{Status, problem_under, put_end};

@@ -11,8 +11,8 @@ use Rattle.world_model.specs.Trial.{worlds_between}
 use Rattle.world_model.proofs.OrderListings.{listings_join_law, one_listing_law}
 use Rattle.world_model.proofs.OrderPositions.{below_itself}
 use Rattle.world_model.proofs.TrialLaws.{trial_is_right_law}
-use Rattle.table_walk.specs.Ahead.{IsOnward, Lists}
-use Rattle.table_walk.specs.Tables.{TablesState, IsAtWorld, PassedTold}
+use Rattle.world_walk.specs.Ahead.{IsOnward, Lists}
+use Rattle.world_walk.specs.Tables.{TablesState, IsAtWorld, PassedTold}
 use Rattle.world_model.specs.Saturated.{saturated}
 use Rattle.world_watch.specs.Steps.{Texts, AllTook}
 use Rattle.report_run.specs.Steps.{all_worlds, HaveSeen, AreShownAll}

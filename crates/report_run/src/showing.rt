@@ -2,13 +2,13 @@
 ghost use Rattle.std.specs.Prelude.{◌≡◌, ◌≤◌, [], ◌∷◌, length, take, None, IfOk, IfSome, IfNone, OnOk};
 ghost use Rattle.world_model.specs.Problem.{pair_count};
 ghost use Rattle.merge_print.specs.Json.{HasUtf8Names};
-ghost use Rattle.table_walk.specs.Tables.{IsNewListing};
+ghost use Rattle.world_walk.specs.Tables.{IsNewListing};
 ghost use Rattle.report_run.specs.Steps.{AreShownAll};
 
 use constraint_set::Problem;
 use rcc5_core::{Position, Rel};
 use std::alloc::{AllocError, Global};
-use table_walk::Tables;
+use world_walk::Tables;
 use world_watch::{WorldWatcher, feed};
 
 // Takes relations off the end until so many are left.

@@ -3,3 +3,9 @@ pub mod CheckedLemmas
 pub mod SummaryLemmas
 pub mod EndLemmas
 pub mod LineLemmas
+pub mod Rows
+pub mod Grown
+pub mod Listed
+pub mod Members
+pub mod Fits
+pub mod Drawn

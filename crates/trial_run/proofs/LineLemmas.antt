@@ -8,7 +8,7 @@ use Rattle.run_ends.specs.Ends.{line_of, in_lines}
 use Rattle.outer_store.specs.States.{SinkState}
 use Rattle.run_ends.specs.Runs.{LeavesPiece}
 use Rattle.run_ends.proofs.PieceLemmas.{IsEnded, ended_line, ended_behind, ended_lines}
-use Rattle.trial_make.specs.Made.{made}
+use Rattle.trial_run.specs.Made.{made}
 use Rattle.world_model.specs.Saturated.{count_of}
 use Rattle.trial_run.specs.Trials.{count_line, varied_count, problem_lines, world_lines, summary, IsSummary}
 

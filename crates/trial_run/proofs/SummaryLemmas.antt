@@ -14,7 +14,7 @@ use Rattle.world_model.specs.Listing.{IsListing, rel_at}
 use Rattle.world_model.proofs.PointPositions.{world_is_full}
 use Rattle.world_model.proofs.OrderListings.{one_listing_law}
 use Rattle.constraint_set.proofs.Lists.{range_more}
-use Rattle.trial_make.specs.Made.{made}
+use Rattle.trial_run.specs.Made.{made}
 use Rattle.world_model.specs.Saturated.{count_of}
 use Rattle.trial_run.specs.Trials.{count_line, summary, IsSummary}
 use Rattle.trial_run.specs.Steps.{AreFound}

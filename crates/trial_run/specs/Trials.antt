@@ -6,7 +6,7 @@ use Rattle.rcc5_core.specs.declared.Rel.{Rel}
 use Rattle.rcc5_core.specs.Relation.{same_rel}
 use Rattle.world_model.specs.Problem.{Problem, concept_count, pair_count, cross_pairs}
 use Rattle.world_model.specs.Listing.{IsListing, rel_at}
-use Rattle.trial_make.specs.Made.{made}
+use Rattle.trial_run.specs.Made.{made}
 use Rattle.world_model.specs.Saturated.{count_of}
 use Rattle.run_ends.specs.declared.Status.{Status}
 use Rattle.run_ends.specs.declared.Status.TheVariants.{Done}

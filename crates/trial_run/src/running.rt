@@ -1,6 +1,6 @@
 //! A trial, from its seed to its status.
 ghost use Rattle.std.specs.Prelude.{◌≡◌, IfOk};
-ghost use Rattle.trial_make.specs.Made.{IsSize};
+ghost use Rattle.trial_run.specs.Made.{IsSize};
 ghost use Rattle.outer_store.specs.States.{StoreState};
 ghost use Rattle.run_ends.specs.Runs.{LeavesPiece, IsRunOf};
 ghost use Rattle.trial_run.specs.Trials.{IsSummary, IsTrialAnswer, trial_names};
@@ -10,7 +10,7 @@ use crate::summary::summary;
 use outer_store::{Sink, StoreFault};
 use run_ends::{Status, put_end, put_lines};
 use std::alloc::{AllocError, Global};
-use trial_make::make_problem;
+use crate::making::make_problem;
 
 // The summary of a trial.
 fn trial_text(alloc: Global, seed: u64, size: u32) -> Result<Vec<u8>, AllocError>

@@ -9,7 +9,7 @@ use Rattle.world_model.specs.Listing.{is_below, is_before_end}
 use Rattle.world_model.proofs.Members.{here, there, in_from_contains, contains_from_in}
 use Rattle.world_model.proofs.OrderPositions.{below_itself, below_chain, below_cases, below_apart, below_upto}
 use Rattle.world_model.proofs.OrderLists.{between_parts, between_from}
-use Rattle.table_walk.specs.Ahead.{Lists, ListsBetween}
+use Rattle.world_walk.specs.Ahead.{Lists, ListsBetween}
 use Rattle.world_walk.specs.ToCome.{IsAbove, IsToCome, IsFirstToCome, IsFrom, IsLeftAt, Comes}
 
 -- where none is told, none is

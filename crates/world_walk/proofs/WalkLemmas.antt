@@ -7,8 +7,8 @@ use Rattle.world_model.specs.Problem.{Problem}
 use Rattle.world_model.specs.Family.{IsPossibleWorld}
 use Rattle.world_model.specs.Listing.{is_below, is_before_end}
 use Rattle.world_model.proofs.OrderPositions.{below_itself}
-use Rattle.table_walk.specs.Ahead.{IsOnward, Lists}
-use Rattle.table_walk.specs.Tables.{TablesState, IsNewListing, IsAtWorld, PassedTold}
+use Rattle.world_walk.specs.Ahead.{IsOnward, Lists}
+use Rattle.world_walk.specs.Tables.{TablesState, IsNewListing, IsAtWorld, PassedTold}
 use Rattle.world_walk.specs.declared.walk.Walk.{Walk}
 use Rattle.world_walk.specs.ToCome.{IsFrom, IsLeftAt, Comes, IsFirstToCome, NoneToCome}
 use Rattle.world_walk.specs.Walks.{IsLeft, IsNext, StandsBefore, StandsBehind}

@@ -7,7 +7,7 @@ ghost use Rattle.world_walk.specs.Walks.{IsWalk, StandsBefore, StandsBehind, IsN
 use constraint_set::Problem;
 use rcc5_core::{Position, Rel};
 use std::alloc::{AllocError, Global};
-use table_walk::Tables;
+use crate::tables::Tables;
 
 /// A walk along the possible worlds of a problem, in order.
 #[derive(Drop)]

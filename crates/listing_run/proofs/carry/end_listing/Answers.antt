@@ -1,5 +1,5 @@
 use Rattle.std.proofs.Common.{ℕ, List, Option, Some, sym, subst}
-use Rattle.listing_log.specs.declared.Stop.{Stop}
+use Rattle.listing_run.specs.declared.plan.Stop.{Stop}
 use Rattle.listing_run.specs.Steps.{cut_of, IsCutEnded, IsEnded}
 use Rattle.listing_run.proofs.CarryLemmas.{ended_cut}
 use Rattle.listing_run.proofs.carry.end_listing.Goals as goal

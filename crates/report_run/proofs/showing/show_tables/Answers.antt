@@ -1,7 +1,7 @@
 use Rattle.std.proofs.Common.{◌≡◌, ◌∙◌, [], ap, sym, subst, None}
 use Rattle.std.specs.Prelude.{IfSome, IfNone}
-use Rattle.table_walk.specs.Tables.{IsAtWorld}
-use Rattle.table_walk.specs.Ways.{told_table}
+use Rattle.world_walk.specs.Tables.{IsAtWorld}
+use Rattle.world_walk.specs.Ways.{told_table}
 use Rattle.report_run.proofs.ShowLemmas.{told_fewer, shown_told, shown_past}
 use Rattle.report_run.proofs.showing.show_tables.Goals as goal
 

@@ -1,5 +1,5 @@
 use Rattle.std.proofs.Common.{◌≡◌, ◌-◌, length}
-use Rattle.table_walk.specs.Ways.{told_table}
+use Rattle.world_walk.specs.Ways.{told_table}
 use Rattle.report_run.proofs.ShowLemmas.{worlds_from, AreShownTo}
 use Rattle.report_run.proofs.showing.show_tables.Given as goal
 

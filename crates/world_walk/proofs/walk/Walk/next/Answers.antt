@@ -1,6 +1,6 @@
 use Rattle.std.proofs.Common.{◌≡◌, ◌∙◌, [], ◌∷◌, sym, ap, subst}
 use Rattle.std.specs.Prelude.{IfSome}
-use Rattle.table_walk.specs.Tables.{IsAtWorld}
+use Rattle.world_walk.specs.Tables.{IsAtWorld}
 use Rattle.world_walk.proofs.WalkLemmas.{table_next}
 use Rattle.world_walk.proofs.walk.Walk.next.Goals as goal
 

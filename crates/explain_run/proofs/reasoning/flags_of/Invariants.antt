@@ -1,6 +1,0 @@
-use Rattle.std.proofs.Common.{◌≡◌, take}
-use Rattle.explain_run.proofs.reasoning.flags_of.Given as goal
-
--- the flags are the first of the articulations'
-abbrev pub invariant-loop-index : goal.invariant-loop-index
-invariant-loop-index l = l.flags.items ≡ take l.index l.kept

@@ -1,3 +1,0 @@
-pub mod LevelOrder
-pub mod LevelLemmas
-pub mod BeginningLemmas

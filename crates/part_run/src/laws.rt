@@ -1,7 +1,0 @@
-//! A law of parts that follow each other.
-ghost use Rattle.part_run.specs.Laws.{PartsJoin};
-
-/// Parts, each up to where the next begins, are joined by their certificates to the listing of all worlds.
-pub fn parts_join()
-    ensures { PartsJoin }
-{}

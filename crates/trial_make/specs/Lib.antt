@@ -1,4 +1,0 @@
-pub mod Draws
-pub mod Names
-pub mod Made
-pub mod Plans
