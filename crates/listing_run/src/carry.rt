@@ -8,10 +8,10 @@ ghost use Rattle.run_ends.specs.Ends.{complete_line};
 ghost use Rattle.run_ends.specs.Runs.{LeavesPiece, IsCarriedOut};
 ghost use Rattle.listing_run.specs.Steps.{cut_of, status_at, IsListingReady, IsCutEnded, IsEnded, plan_answers};
 
-use command_line::Word;
-use constraint_set::Problem;
 use crate::certified::put_listing;
 use crate::plan::{Listed, ListingPlan, Stop};
+use command_line::Word;
+use constraint_set::Problem;
 use outer_store::{Sink, Store, StoreFault};
 use rcc5_core::Position;
 use run_ends::{Status, put_complete, put_line, write_token};

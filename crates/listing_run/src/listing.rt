@@ -9,8 +9,8 @@ ghost use Rattle.listing_run.specs.Plans.{IsPlan};
 ghost use Rattle.listing_run.specs.Putting.{IsPutToStop, IsPutPartly, IsSearchOf, GoesToNext, IsListingStop};
 ghost use Rattle.listing_run.specs.Logged.{MetAt, StoppedAt, TellsOn, IsListedIn};
 
-use crate::table_listing::{put_tables, tables_for};
 use crate::plan::{Listed, ListingPlan, Stop};
+use crate::table_listing::{put_tables, tables_for};
 use cert_text::{NoLog, TreeLog};
 use outer_store::{Sink, StoreFault};
 use point_query::Asker;

@@ -6,8 +6,8 @@ ghost use Rattle.command_line.specs.Requests.{IsAlign};
 ghost use Rattle.listing_run.specs.Output.{ComesTo, listing_names, IsListingAnswer};
 ghost use Rattle.listing_run.specs.Steps.{IsListingReady};
 
-use command_line::AlignArgs;
 use crate::plan::ListingPlan;
+use command_line::AlignArgs;
 use outer_store::Store;
 use rcc5_core::Position;
 use run_ends::{Status, position_given, problem_under};

@@ -13,8 +13,8 @@ use constraint_set::Problem;
 use outer_store::{Sink, StoreFault};
 use rcc5_core::{Position, Rel};
 use std::alloc::{AllocError, Global};
-use world_walk::Tables;
 use world_search::{is_spent, node_behind, one_less};
+use world_walk::Tables;
 
 /// The worlds of a plan, if nothing ends it, nobody counts nodes, and a world may be put.
 pub(crate) fn tables_for(alloc: Global, plan: &ListingPlan) -> Result<Option<Tables>, AllocError>

@@ -7,11 +7,11 @@ ghost use Rattle.run_ends.specs.Runs.{LeavesPiece, IsCarriedOut};
 ghost use Rattle.parts_run.specs.Answering.{part_line, parts_line, token_names, AreParts};
 ghost use Rattle.parts_run.specs.Steps.{IsPartPut};
 
+use crate::finding::facts_of_beginnings;
 use cert_text::put_position;
 use command_line::PartsArgs;
 use constraint_set::Problem;
 use outer_store::{Sink, Store, StoreFault};
-use crate::finding::facts_of_beginnings;
 use rcc5_core::Position;
 use resume_token::Tokens;
 use run_ends::{Status, put_line, write_file};

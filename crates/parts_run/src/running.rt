@@ -4,11 +4,11 @@ ghost use Rattle.command_line.specs.Requests.{IsParts};
 ghost use Rattle.parts_run.specs.Beginnings.{AreBeginnings};
 ghost use Rattle.parts_run.specs.Answering.{IsPartsRun};
 
+use crate::finding::beginnings;
 use crate::putting::put_parts;
 use command_line::PartsArgs;
 use constraint_set::Problem;
 use outer_store::{Sink, Store, StoreFault};
-use crate::finding::beginnings;
 use point_query::Asker;
 use rcc5_core::Position;
 use run_ends::{Status, problem_under, put_end};

@@ -6,11 +6,11 @@ ghost use Rattle.run_ends.specs.Runs.{LeavesPiece, IsRunOf};
 ghost use Rattle.trial_run.specs.Trials.{IsSummary, IsTrialAnswer, trial_names};
 
 use crate::checked::checked_worlds;
+use crate::making::make_problem;
 use crate::summary::summary;
 use outer_store::{Sink, StoreFault};
 use run_ends::{Status, put_end, put_lines};
 use std::alloc::{AllocError, Global};
-use crate::making::make_problem;
 
 // The summary of a trial.
 fn trial_text(alloc: Global, seed: u64, size: u32) -> Result<Vec<u8>, AllocError>

@@ -6,8 +6,8 @@ ghost use Rattle.world_model.specs.Listing.{Begins};
 ghost use Rattle.world_walk.specs.Ways.{problem_of, IsWay, left_of, WentOn};
 ghost use Rattle.world_walk.specs.declared.way.Stage.TheVariants.{Standing};
 
-use crate::way::{Way, turn_off};
 use crate::path::AlivePath;
+use crate::way::{Way, turn_off};
 use std::alloc::AllocError;
 
 /// How long a way goes on without a world before it asks whether its path leads to one: a hint. A retreat asks about a prefix for

@@ -4,8 +4,8 @@ ghost use Rattle.world_model.specs.Problem.{pair_count, is_problem};
 ghost use Rattle.world_walk.specs.Ways.{problem_of, place, IsWay, told_of, AreNext, HasBegun, Follows};
 ghost use Rattle.world_walk.specs.declared.way.Stage.TheVariants.{Standing};
 
-use crate::way::{Stage, Way, add_waiting, go_on, next_set, turn_off};
 use crate::path::AlivePath;
+use crate::way::{Stage, Way, add_waiting, go_on, next_set, turn_off};
 use rcc5_core::{Position, Rel, RelSet};
 use std::alloc::{AllocError, Global};
 

@@ -3,9 +3,9 @@ ghost use Rattle.std.specs.Prelude.{◌≡◌, ◌≢◌, ◌≤◌, [], ◌∷�
 ghost use Rattle.world_model.specs.Problem.{pair_count};
 ghost use Rattle.world_walk.specs.Tables.{IsNewListing, IsAtWorld, PassedTold, Keeps};
 
+use crate::path::AlivePath;
 use crate::start::way_from;
 use crate::way::{Way, next_world};
-use crate::path::AlivePath;
 use constraint_set::Problem;
 use rcc5_core::{Position, Rel};
 use std::alloc::{AllocError, Global};

@@ -4,10 +4,10 @@ ghost use Rattle.world_model.specs.Problem.{pair_count};
 ghost use Rattle.world_model.specs.Family.{IsPossibleWorld};
 ghost use Rattle.world_walk.specs.Walks.{IsWalk, StandsBefore, StandsBehind, IsNext};
 
+use crate::tables::Tables;
 use constraint_set::Problem;
 use rcc5_core::{Position, Rel};
 use std::alloc::{AllocError, Global};
-use crate::tables::Tables;
 
 /// A walk along the possible worlds of a problem, in order.
 #[derive(Drop)]

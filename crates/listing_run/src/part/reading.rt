@@ -8,9 +8,9 @@ ghost use Rattle.run_ends.specs.Runs.{IsEarlyEnd};
 ghost use Rattle.listing_run.specs.Part.Answering.{plan_between, ComesTo, IsPartAnswer, part_names};
 ghost use Rattle.listing_run.specs.Part.Steps.{IsUncut};
 
+use crate::plan::ListingPlan;
 use command_line::PartArgs;
 use constraint_set::Problem;
-use crate::plan::ListingPlan;
 use outer_store::Store;
 use rcc5_core::Position;
 use run_ends::{Status, position_given, problem_under};
