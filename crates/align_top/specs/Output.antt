@@ -17,7 +17,7 @@ use Rattle.claims_run.specs.declared.question.Question.TheVariants as question
 use Rattle.claims_run.specs.Answering.{IsClaimsAnswer}
 use Rattle.claims_run.specs.Explain.Answering.{IsExplainAnswer}
 use Rattle.report_run.specs.Reporting.{Watched, IsReportAnswer}
-use Rattle.parts_run.specs.Answering.{IsPartsAnswer, ArePartsNames}
+use Rattle.listing_run.specs.Parts.Answering.{IsPartsAnswer, ArePartsNames}
 use Rattle.listing_run.specs.Part.Answering.{IsPartAnswer}
 use Rattle.check_run.specs.Join.Answering.{IsJoinAnswer}
 use Rattle.trial_run.specs.Trials.{IsTrialAnswer}

@@ -3,7 +3,7 @@ use Rattle.std.specs.Prelude.{◌≡◌, ℕ, ◌+◌, ◌^◌, ◌≤◌, List,
 use Rattle.rcc5_core.specs.declared.Rel.{Rel}
 use Rattle.lits_core.specs.Derivation.{State, first_state}
 use Rattle.world_model.specs.Problem.{Problem}
-use Rattle.cert_model.specs.Clauses.{given_clauses}
+use Rattle.point_encode.specs.Model.Clauses.{given_clauses}
 use Rattle.cert_text.specs.declared.line.CertLine.{CertLine}
 use Rattle.cert_text.specs.Ends.{TextEnd, Whole, Faulty}
 use Rattle.cert_reader.specs.declared.fault.CertTextKind.{CertTextKind}

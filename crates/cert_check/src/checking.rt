@@ -2,7 +2,7 @@
 
 ghost use Rattle.std.specs.Prelude.{◌≡◌, ◌≤◌, ◌+◌, ◌^◌, ◌<◌, None, Err, IfOk, OnOk, IfNone};
 ghost use Rattle.lits_core.specs.Derivation.{first_state};
-ghost use Rattle.cert_model.specs.Clauses.{given_clauses};
+ghost use Rattle.point_encode.specs.Model.Clauses.{given_clauses};
 ghost use Rattle.cert_reader.specs.Bytes.{IsSpent, ForSome, GoesOn};
 ghost use Rattle.cert_reader.specs.Reading.{Reading, with_first};
 ghost use Rattle.cert_reader.specs.Reader.{MayRead};

@@ -30,7 +30,7 @@ pub struct Checks<'a> {
 impl<'a> Model for Checks<'a> {
     ghost use Rattle.std.specs.Prelude.{◌≡◌};
     ghost use Rattle.world_model.specs.Problem.{Problem};
-    ghost use Rattle.cert_model.specs.Clauses.{given_clauses};
+    ghost use Rattle.point_encode.specs.Model.Clauses.{given_clauses};
 
     ghost Value = { Problem };
 

@@ -6,7 +6,7 @@ ghost use Rattle.lits_core.specs.Derivation.{State, first_state};
 ghost use Rattle.world_model.specs.Problem.{Problem, pair_count, narrowed};
 ghost use Rattle.world_model.specs.Family.{meets};
 ghost use Rattle.world_model.specs.Node.{pair_at};
-ghost use Rattle.cert_model.specs.Clauses.{given_clauses};
+ghost use Rattle.point_encode.specs.Model.Clauses.{given_clauses};
 ghost use Rattle.set_family.specs.Sets.{family_from};
 ghost use Rattle.cert_rules.specs.Trees.{fault_or, family_fault};
 ghost use Rattle.cert_rules.specs.ClaimLists.{claim_start, claim_role, ForNode, holds_fault, subject_fault, subject_problem, subject_tree};

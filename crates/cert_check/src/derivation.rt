@@ -2,7 +2,7 @@
 
 ghost use Rattle.std.specs.Prelude.{◌≡◌, IfOk};
 ghost use Rattle.lits_core.specs.Derivation.{first_state};
-ghost use Rattle.cert_model.specs.Clauses.{given_clauses};
+ghost use Rattle.point_encode.specs.Model.Clauses.{given_clauses};
 ghost use Rattle.cert_text.specs.declared.line.CertLine.TheVariants.{Proof};
 ghost use Rattle.cert_check.specs.declared.checker.Checker.{Checker};
 ghost use Rattle.cert_check.specs.Whole.{IsTaken};

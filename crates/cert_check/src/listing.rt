@@ -2,7 +2,7 @@
 
 ghost use Rattle.std.specs.Prelude.{◌≡◌, ◌++◌, ◌∷◌, [], false, IfOk, OnOk, None, Some};
 ghost use Rattle.lits_core.specs.Derivation.{State, first_state};
-ghost use Rattle.cert_model.specs.Clauses.{given_clauses};
+ghost use Rattle.point_encode.specs.Model.Clauses.{given_clauses};
 ghost use Rattle.cert_rules.specs.Listings.{listing_tree, start, with_world, role_of, ForTree};
 ghost use Rattle.cert_text.specs.declared.line.CertLine.TheVariants.{End};
 ghost use Rattle.cert_check.specs.declared.accepted.Accepted.TheVariants.{Listing as AcceptedListing};

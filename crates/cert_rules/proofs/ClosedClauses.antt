@@ -11,8 +11,8 @@ use Rattle.world_model.specs.Alive.{Need, problem_at, forced_pairs}
 use Rattle.world_model.proofs.Members.{In, here, there, all_at, in_from_contains, contains_from_in}
 use Rattle.world_model.proofs.PointOnce.{at_empty}
 use Rattle.constraint_set.specs.Readers.{sum_places}
-use Rattle.cert_model.specs.Clauses.{first_sum_selector}
-use Rattle.cert_model.specs.Forced.{need_lits, region_selectors, sum_selectors, asked_of, IsClosedAt}
+use Rattle.point_encode.specs.Model.Clauses.{first_sum_selector}
+use Rattle.point_encode.specs.Model.Forced.{need_lits, region_selectors, sum_selectors, asked_of, IsClosedAt}
 use Rattle.cert_rules.specs.Trees.{is_closed}
 
 pub has_in : (lits : List ℕ) (lit : ℕ) → In lit lits → has_lit lits lit ≡ true

@@ -7,7 +7,7 @@ use Rattle.world_model.specs.declared.Switches.{Switches}
 use Rattle.world_model.specs.Problem.{Problem, pair_count}
 use Rattle.constraint_set.specs.Facts.{IsBuilt}
 use Rattle.lits_core.proofs.DerivationLemmas.{DerivedFollow-first}
-use Rattle.cert_model.specs.Clauses.{given_clauses}
+use Rattle.point_encode.specs.Model.Clauses.{given_clauses}
 use Rattle.cert_rules.specs.declared.RejectKind.{RejectKind}
 use Rattle.cert_rules.specs.Listings.{Status, Going, Ended, Stand, Listed, unless, same_switches, header_fault, listing_tree, start}
 use Rattle.cert_rules.proofs.Sound.{IsSoundStatus, passes}

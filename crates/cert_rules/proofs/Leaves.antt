@@ -23,11 +23,11 @@ use Rattle.world_model.proofs.PointAlive.{IsNeed, In-needs}
 use Rattle.world_model.proofs.PointPositions.{has-only}
 use Rattle.world_model.proofs.PointOnce.{at_empty}
 use Rattle.constraint_set.specs.Facts.{IsBuilt}
-use Rattle.cert_model.specs.Clauses.{given_clauses}
-use Rattle.cert_model.specs.Forced.{region_with, selectors_of, need_count, need_at, need_with, need_lits, asked_of}
-use Rattle.cert_model.specs.Laws.{Extends}
-use Rattle.cert_model.proofs.Witness.{bits_of}
-use Rattle.cert_model.proofs.NeedLiterals.{need_truth}
+use Rattle.point_encode.specs.Model.Clauses.{given_clauses}
+use Rattle.point_encode.specs.Model.Forced.{region_with, selectors_of, need_count, need_at, need_with, need_lits, asked_of}
+use Rattle.point_encode.specs.Model.Laws.{Extends}
+use Rattle.point_encode.proofs.model.Witness.{bits_of}
+use Rattle.point_encode.proofs.model.NeedLiterals.{need_truth}
 use Rattle.cert_rules.specs.declared.RejectKind.{RejectKind}
 use Rattle.cert_rules.specs.Trees.{table_along, is_forced, is_closed, need_fault, clause_fault, point_fault, pair_fault}
 use Rattle.cert_rules.proofs.Nexts.{begins_parts}

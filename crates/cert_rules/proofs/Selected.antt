@@ -18,10 +18,10 @@ use Rattle.world_model.proofs.Members.{In}
 use Rattle.world_model.proofs.PointSets.{Forces}
 use Rattle.world_model.proofs.PointOnce.{at_empty}
 use Rattle.constraint_set.specs.Readers.{sum_places}
-use Rattle.cert_model.specs.Clauses.{is_so, first_sum_selector}
-use Rattle.cert_model.specs.Forced.{region_number, region_with, selectors_of, need_lits, asked_of}
-use Rattle.cert_model.proofs.Selectors.{flag_of, from_selectors, In-region_selectors, In-sum_selectors}
-use Rattle.cert_model.proofs.NeedLiterals.{region_again, part_below}
+use Rattle.point_encode.specs.Model.Clauses.{is_so, first_sum_selector}
+use Rattle.point_encode.specs.Model.Forced.{region_number, region_with, selectors_of, need_lits, asked_of}
+use Rattle.point_encode.proofs.model.Selectors.{flag_of, from_selectors, In-region_selectors, In-sum_selectors}
+use Rattle.point_encode.proofs.model.NeedLiterals.{region_again, part_below}
 use Rattle.cert_rules.specs.Trees.{is_closed}
 use Rattle.cert_rules.specs.Selected.{is_emptied, is_sum_kept, is_selected, is_asked, AskedByLiteral}
 use Rattle.cert_rules.proofs.ClosedClauses.{has_in, in_has}

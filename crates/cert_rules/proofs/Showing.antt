@@ -17,7 +17,7 @@ use Rattle.world_model.specs.Listing.{is_between}
 use Rattle.world_model.proofs.Members.{In, here, there, all_at, from_filter_map, in_from_contains, contains_from_in}
 use Rattle.world_model.proofs.PointAlive.{In-needs}
 use Rattle.constraint_set.specs.Facts.{IsBuilt}
-use Rattle.cert_model.specs.Forced.{asked_of, IsClosedAt}
+use Rattle.point_encode.specs.Model.Forced.{asked_of, IsClosedAt}
 use Rattle.set_family.specs.Sets.{family_from, is_set_below}
 use Rattle.cert_text.specs.declared.line.CertLine.{CertLine}
 use Rattle.cert_text.specs.declared.line.CertLine.TheVariants.{Certificate, Claims, Proof, Branch, NoPoint, NoRelation, World, End}

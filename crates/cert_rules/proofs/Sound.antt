@@ -21,7 +21,7 @@ use Rattle.world_model.proofs.OrderLists.{IsExactly, Between}
 use Rattle.world_model.proofs.PointRules.{met_parts}
 use Rattle.world_model.proofs.PointAlive.{related, met_is_alive}
 use Rattle.constraint_set.specs.Facts.{IsBuilt}
-use Rattle.cert_model.specs.Clauses.{given_clauses}
+use Rattle.point_encode.specs.Model.Clauses.{given_clauses}
 use Rattle.set_family.specs.Sets.{family_from, is_set_below}
 use Rattle.cert_text.specs.declared.line.CertLine.{CertLine}
 use Rattle.cert_text.specs.declared.line.CertLine.TheVariants.{Branch, NoPoint, NoRelation, World}

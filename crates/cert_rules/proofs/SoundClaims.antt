@@ -19,7 +19,7 @@ use Rattle.world_model.proofs.Members.{In, here, there, none_in, from_append, fr
 use Rattle.world_model.proofs.PointPairs.{from_pairs}
 use Rattle.world_model.proofs.OrderLists.{IsExactly, Between, between_from, between_parts}
 use Rattle.constraint_set.specs.Facts.{IsBuilt}
-use Rattle.cert_model.specs.Clauses.{given_clauses}
+use Rattle.point_encode.specs.Model.Clauses.{given_clauses}
 use Rattle.cert_text.specs.declared.line.Subject.{Subject}
 use Rattle.cert_text.specs.declared.line.Subject.TheVariants.{Narrowed, Kept}
 use Rattle.cert_text.specs.declared.line.CertLine.{CertLine}

@@ -5,7 +5,7 @@ use Rattle.world_model.proofs.Members.{none_in, in_from_contains}
 use Rattle.world_model.proofs.OrderListings.{listing}
 use Rattle.constraint_set.specs.Facts.{IsBuilt}
 use Rattle.lits_core.proofs.DerivationLemmas.{DerivedFollow-first}
-use Rattle.cert_model.specs.Clauses.{given_clauses}
+use Rattle.point_encode.specs.Model.Clauses.{given_clauses}
 use Rattle.cert_text.specs.declared.line.CertLine.{CertLine}
 use Rattle.cert_text.specs.declared.line.CertLine.TheVariants.{Certificate, Claims}
 use Rattle.cert_rules.specs.declared.RejectKind.{RejectKind}

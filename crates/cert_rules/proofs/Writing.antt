@@ -21,8 +21,8 @@ use Rattle.world_model.specs.Node.{pair_at}
 use Rattle.world_model.proofs.Members.{In, here, there, in_from_contains, contains_from_in}
 use Rattle.world_model.proofs.PointAlive.{IsNeed, from_needs}
 use Rattle.world_model.proofs.PointOnce.{at_empty}
-use Rattle.cert_model.specs.Clauses.{first_sum_selector}
-use Rattle.cert_model.specs.Forced.{need_with, need_lits, region_selectors, sum_selectors, asked_of, IsClosedAt}
+use Rattle.point_encode.specs.Model.Clauses.{first_sum_selector}
+use Rattle.point_encode.specs.Model.Forced.{need_with, need_lits, region_selectors, sum_selectors, asked_of, IsClosedAt}
 use Rattle.constraint_set.specs.Readers.{sum_places}
 use Rattle.set_family.specs.Sets.{family_from}
 use Rattle.cert_text.specs.declared.line.CertLine.{CertLine}

@@ -10,7 +10,7 @@ use Rattle.world_model.specs.Problem.{Problem, pairs, pair_count, narrowed, rest
 use Rattle.world_model.specs.Family.{Family}
 use Rattle.world_model.specs.Alive.{allowed}
 use Rattle.world_model.specs.Node.{pair_at}
-use Rattle.cert_model.specs.Clauses.{given_clauses}
+use Rattle.point_encode.specs.Model.Clauses.{given_clauses}
 use Rattle.set_family.specs.Sets.{family_from}
 use Rattle.cert_text.specs.declared.line.Subject.{Subject}
 use Rattle.cert_text.specs.declared.line.Subject.TheVariants.{Narrowed, Kept}

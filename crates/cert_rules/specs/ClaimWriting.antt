@@ -9,7 +9,7 @@ use Rattle.world_model.specs.Problem.{Problem, pair_count}
 use Rattle.world_model.specs.Family.{Family, meets}
 use Rattle.world_model.specs.Alive.{allowed}
 use Rattle.world_model.specs.Node.{pair_at}
-use Rattle.cert_model.specs.Clauses.{given_clauses}
+use Rattle.point_encode.specs.Model.Clauses.{given_clauses}
 use Rattle.set_family.specs.Sets.{is_set_below}
 use Rattle.cert_text.specs.declared.line.Subject.{Subject}
 use Rattle.cert_text.specs.declared.line.CertLine.{CertLine}

@@ -13,3 +13,4 @@ pub mod Selected
 pub mod NodeProblems
 pub mod Shape
 pub mod Showing
+pub mod Parts

@@ -9,7 +9,7 @@ use Rattle.lits_core.specs.Derivation.{State, first_state, line_fault, next_stat
 use Rattle.world_model.specs.declared.Switches.{Switches}
 use Rattle.world_model.specs.Problem.{Problem, pairs, pair_count}
 use Rattle.world_model.specs.Alive.{same_bool}
-use Rattle.cert_model.specs.Clauses.{given_clauses}
+use Rattle.point_encode.specs.Model.Clauses.{given_clauses}
 use Rattle.cert_text.specs.declared.line.CertLine.{CertLine}
 use Rattle.cert_text.specs.declared.line.CertLine.TheVariants.{Proof, World, End}
 use Rattle.cert_rules.specs.declared.RejectKind.{RejectKind}

@@ -7,7 +7,7 @@ use Rattle.lits_core.specs.declared.Line.TheVariants.{Derive, Forget}
 use Rattle.world_model.specs.declared.Articulation.TheVariants.{Pair}
 use Rattle.world_model.specs.Problem.{Problem}
 use Rattle.world_model.specs.Examples.{all_on, may_exceed, one_each, three_and_one, one_of_three, equals}
-use Rattle.cert_model.specs.Clauses.{is_so, is_not}
+use Rattle.point_encode.specs.Model.Clauses.{is_so, is_not}
 use Rattle.cert_text.specs.declared.line.Subject.TheVariants.{Narrowed, Kept}
 use Rattle.cert_text.specs.declared.line.CertLine.{CertLine}
 use Rattle.cert_text.specs.declared.line.CertLine.TheVariants.{Certificate, Claims, Proof, Branch, NoPoint, NoRelation, World, Holds, Fails, End, Quit, Done}

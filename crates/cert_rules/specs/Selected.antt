@@ -9,8 +9,8 @@ use Rattle.world_model.specs.Problem.{Problem, concept_count}
 use Rattle.world_model.specs.Alive.{Need, allowed}
 use Rattle.world_model.specs.Node.{pair_at}
 use Rattle.constraint_set.specs.Readers.{sum_places}
-use Rattle.cert_model.specs.Clauses.{first_sum_selector}
-use Rattle.cert_model.specs.Forced.{region_with, need_lits, asked_of}
+use Rattle.point_encode.specs.Model.Clauses.{first_sum_selector}
+use Rattle.point_encode.specs.Model.Forced.{region_with, need_lits, asked_of}
 use Rattle.cert_rules.specs.Trees.{is_closed}
 
 -- whether a region of a pair, both by their numbers, is forced empty

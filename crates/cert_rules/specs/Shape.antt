@@ -8,7 +8,7 @@ use Rattle.lits_core.specs.declared.Line.{Line}
 use Rattle.lits_core.specs.Derivation.{State, first_state, next_state, state_after, is_valid_derivation}
 use Rattle.world_model.specs.declared.Switches.{Switches}
 use Rattle.world_model.specs.Problem.{Problem}
-use Rattle.cert_model.specs.Clauses.{given_clauses}
+use Rattle.point_encode.specs.Model.Clauses.{given_clauses}
 use Rattle.cert_text.specs.declared.line.Subject.{Subject}
 use Rattle.cert_text.specs.declared.line.CertLine.{CertLine}
 use Rattle.cert_text.specs.declared.line.CertLine.TheVariants.{Proof, World, Fails, End}

@@ -7,7 +7,7 @@ use Rattle.world_model.specs.Family.{Family}
 use Rattle.world_model.specs.Listing.{Begins, is_between}
 use Rattle.world_model.specs.Alive.{problem_at, IsAlive}
 use Rattle.constraint_set.specs.Facts.{IsBuilt}
-use Rattle.cert_model.specs.Clauses.{given_clauses}
+use Rattle.point_encode.specs.Model.Clauses.{given_clauses}
 use Rattle.cert_text.specs.declared.line.CertLine.{CertLine}
 use Rattle.cert_text.specs.declared.line.CertLine.TheVariants.{World}
 use Rattle.cert_text.specs.Ends.{TextEnd}

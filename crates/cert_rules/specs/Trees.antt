@@ -13,7 +13,7 @@ use Rattle.world_model.specs.Problem.{Problem, pair_count}
 use Rattle.world_model.specs.Family.{Family, set_of, meets}
 use Rattle.world_model.specs.Alive.{Need, InRegion, InConcept, allowed, narrowings_at}
 use Rattle.world_model.specs.Node.{pair_at}
-use Rattle.cert_model.specs.Forced.{need_with, asked_of}
+use Rattle.point_encode.specs.Model.Forced.{need_with, asked_of}
 use Rattle.set_family.specs.Sets.{family_from}
 use Rattle.cert_text.specs.declared.line.CertLine.{CertLine}
 use Rattle.cert_text.specs.declared.line.CertLine.TheVariants.{Branch, NoPoint, NoRelation, World}

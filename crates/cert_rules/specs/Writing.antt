@@ -9,8 +9,8 @@ use Rattle.world_model.specs.Problem.{Problem, pair_count}
 use Rattle.world_model.specs.Family.{Family, meets, table_of}
 use Rattle.world_model.specs.Alive.{Need, allowed, needs, problem_at, IsAlive}
 use Rattle.world_model.specs.Node.{pair_at}
-use Rattle.cert_model.specs.Clauses.{given_clauses}
-use Rattle.cert_model.specs.Forced.{need_with, IsClosedAt}
+use Rattle.point_encode.specs.Model.Clauses.{given_clauses}
+use Rattle.point_encode.specs.Model.Forced.{need_with, IsClosedAt}
 use Rattle.set_family.specs.Sets.{is_set_below}
 use Rattle.cert_text.specs.declared.line.CertLine.{CertLine}
 use Rattle.cert_text.specs.declared.line.CertLine.TheVariants.{Certificate, Proof, Branch, NoPoint, NoRelation, World, End}

@@ -2,6 +2,7 @@
 #![tactic(auto)]
 
 mod laws;
+mod parts;
 mod samples;
 
 pub use laws::{
@@ -10,6 +11,7 @@ pub use laws::{
     claims_put_keep_up, expected_is_next, found_from_the_end, lines_are_nodes,
     missing_tables_are_refuted, put_keeps_up, told_stays_up, walked_is_next,
 };
+pub use parts::{PartKind, cert_lines_are_nodes};
 pub use samples::{
     claims_are_refused, claims_are_settled, down_and_back, faults_come_by_line, headers_are_told,
     needs_are_forced, no_point_is_left, nodes_come_in_order, nothing_is_allowed,

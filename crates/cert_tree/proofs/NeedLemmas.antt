@@ -6,7 +6,7 @@ use Rattle.rcc5_core.specs.RelationSet.{is_empty_set}
 use Rattle.world_model.specs.Problem.{Problem, concept_count, pair_count}
 use Rattle.world_model.specs.Alive.{allowed}
 use Rattle.world_model.specs.Node.{pair_at}
-use Rattle.cert_model.specs.Clauses.{first_sum_selector}
+use Rattle.point_encode.specs.Model.Clauses.{first_sum_selector}
 use Rattle.cert_rules.specs.declared.RejectKind.TheVariants.{PairNotEmpty}
 use Rattle.cert_rules.specs.Trees.{pair_fault}
 use Rattle.cert_rules.specs.Selected.{is_emptied, is_sum_kept, is_selected}

@@ -12,7 +12,7 @@ use Rattle.cert_reader.specs.declared.fault.CertTextKind.{CertTextKind}
 use Rattle.cert_reader.specs.Bytes.{MayHold, ForSome}
 use Rattle.cert_rules.specs.ClaimLists.{Claim}
 use Rattle.cert_rules.specs.Files.{Verdict, Listing, ClaimList, Answer, Accepts, Rejects, HasFault}
-use Rattle.part_rules.specs.Certs.{cert_answer}
+use Rattle.cert_rules.specs.Parts.Certs.{cert_answer}
 use Rattle.run_ends.specs.declared.Status.{Status}
 use Rattle.run_ends.specs.declared.Status.TheVariants.{Done, RefusedText, RefusedCert, Rejected}
 use Rattle.run_ends.specs.Ends.{line_of, world_line, end_line}

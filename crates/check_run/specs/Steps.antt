@@ -17,7 +17,7 @@ use Rattle.run_ends.specs.Ends.{end_line}
 use Rattle.outer_store.specs.States.{StoreState, SinkState, IsQuiet}
 use Rattle.run_ends.specs.Runs.{Leaves, Answered, ending_of}
 use Rattle.check_run.specs.Checking.{verdict_text, IsCertAnswer}
-use Rattle.part_rules.specs.Certs.{cert_answer}
+use Rattle.cert_rules.specs.Parts.Certs.{cert_answer}
 
 -- how a run ends by why a certificate is not accepted
 abbrev pub status_of : CheckFault → Status

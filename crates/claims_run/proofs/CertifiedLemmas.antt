@@ -24,7 +24,7 @@ use Rattle.search_log.specs.declared.fault.StepFault.{StepFault}
 use Rattle.search_log.specs.declared.fault.StepFault.TheVariants as step
 use Rattle.search_log.specs.Logging.{IfLogFailed, LogGoes, store_fault}
 use Rattle.split_search.specs.Claiming.{AllClaimBranchesAlive}
-use Rattle.claim_blocks.proofs.Steps.{alive_more}
+use Rattle.pick_search.proofs.blocks.Steps.{alive_more}
 use Rattle.outer_store.specs.States.{StoreState, IsQuiet, OnlyWritten, IsQuiet-joins}
 use Rattle.run_ends.specs.Runs.{HasFailed}
 use Rattle.run_ends.proofs.OneName.{kept_but_one, write_failed}

@@ -12,9 +12,9 @@ use Rattle.cert_rules.proofs.ClaimWriting.{claims_put_keep_up_law}
 use Rattle.search_log.specs.declared.fault.StepFault.{StepFault}
 use Rattle.search_log.specs.Logging.{AddsLines, AreToldWith, IsFlushed, IsSameButLines}
 use Rattle.split_search.specs.Claiming.{ClaimsBegin, ToldClaims}
-use Rattle.claim_blocks.specs.Blocks.{AreClaimsTold, AreClaimsMade, FromClaims, KeepsClaims}
-use Rattle.claim_blocks.proofs.Joins.{told_then, keeps_join, keeps_err}
-use Rattle.claim_blocks.proofs.Steps.{leads_flushed}
+use Rattle.pick_search.specs.Blocks.Blocks.{AreClaimsTold, AreClaimsMade, FromClaims, KeepsClaims}
+use Rattle.pick_search.proofs.blocks.Joins.{told_then, keeps_join, keeps_err}
+use Rattle.pick_search.proofs.blocks.Steps.{leads_flushed}
 use Rattle.mir_report.specs.declared.possible.MirSets.{MirSets}
 use Rattle.mir_report.specs.Possible.{claims_from, whole_claim}
 use Rattle.claims_run.specs.declared.question.Answer.{Answer}

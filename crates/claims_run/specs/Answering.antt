@@ -20,7 +20,7 @@ use Rattle.cert_rules.specs.Listings.{Going}
 use Rattle.cert_rules.specs.ClaimLists.{Claim, claim_start}
 use Rattle.cert_rules.specs.Files.{Accepts, ClaimList}
 use Rattle.split_search.specs.Claiming.{AllClaimBranchesAlive}
-use Rattle.claim_blocks.specs.Blocks.{claimed}
+use Rattle.pick_search.specs.Blocks.Blocks.{claimed}
 use Rattle.mir_report.specs.Possible.{ArePossibleSets, mir_claims}
 use Rattle.conflict_min.specs.Conflicts.{all_kept, places_from, conflict_claims}
 use Rattle.conflict_lattice.specs.Subsets.{Subsets}
@@ -31,7 +31,7 @@ use Rattle.run_ends.specs.declared.Status.TheVariants as status
 use Rattle.run_ends.specs.Ends.{line_of, end_line}
 use Rattle.command_line.specs.Requests.{Names}
 use Rattle.run_ends.specs.Runs.{File, file_under}
-use Rattle.part_rules.specs.Certs.{cert_answer}
+use Rattle.cert_rules.specs.Parts.Certs.{cert_answer}
 use Rattle.claims_run.specs.declared.question.Question.{Question}
 use Rattle.claims_run.specs.declared.question.Question.TheVariants as question
 use Rattle.claims_run.specs.declared.question.Answer.{Answer}

@@ -5,7 +5,7 @@ ghost use Rattle.constraint_set.specs.Shape.{shape_of};
 ghost use Rattle.point_query.specs.Asking.{IsNewAsker};
 ghost use Rattle.cert_text.specs.declared.line.CertLine.TheVariants.{Claims};
 ghost use Rattle.search_log.specs.Logging.{LogGoes};
-ghost use Rattle.claim_blocks.specs.Blocks.{KeepsClaims};
+ghost use Rattle.pick_search.specs.Blocks.Blocks.{KeepsClaims};
 ghost use Rattle.claims_run.specs.declared.question.Question.TheVariants as question;
 ghost use Rattle.claims_run.specs.Answering.{IsRight, IsClaimed, has_too_many};
 ghost use Rattle.claims_run.specs.Certifying.{AreAllTold, IsToldWhole};

@@ -7,9 +7,9 @@ use Rattle.world_model.specs.Questions.{IsConsistent}
 use Rattle.world_model.proofs.Members.{contains_from_in, In-get_or}
 use Rattle.cert_text.specs.declared.line.Subject.TheVariants.{Kept}
 use Rattle.cert_rules.specs.ClaimLists.{Claim}
-use Rattle.claim_blocks.specs.Blocks.{claimed}
-use Rattle.kept_solver.specs.Keeping.{IsClash}
-use Rattle.kept_solver.proofs.Fewer.{consistent_fewer}
+use Rattle.pick_search.specs.Blocks.Blocks.{claimed}
+use Rattle.family_solver.specs.Kept.Keeping.{IsClash}
+use Rattle.family_solver.proofs.kept.Fewer.{consistent_fewer}
 use Rattle.conflict_lattice.specs.Lattice.{IsLattice, IsMaximalConsistent, IsMinimalConflict, claims_of}
 use Rattle.conflict_lattice.specs.Subsets.{Subsets}
 

@@ -8,8 +8,8 @@ use Rattle.world_model.specs.Questions.{HasFlags}
 use Rattle.world_model.specs.Trial.{bit_lists}
 use Rattle.world_model.proofs.Members.{In, here, there, any_at, any_from, contains_from_in, in_from_contains, place_of, In-get_or}
 use Rattle.world_model.proofs.TrialPoints.{in_bit_lists}
-use Rattle.kept_solver.specs.Keeping.{IsWithin}
-use Rattle.kept_solver.proofs.Fewer.{consistent_fewer}
+use Rattle.family_solver.specs.Kept.Keeping.{IsWithin}
+use Rattle.family_solver.proofs.kept.Fewer.{consistent_fewer}
 use Rattle.conflict_lattice.specs.Lattice.{IsLattice, IsMaximalConsistent, IsMinimalConflict, Subsets, ascend}
 use Rattle.conflict_lattice.specs.Rounds.{IsFoundSoFar, holds_one, is_open, is_part, unexplored}
 use Rattle.conflict_lattice.proofs.Inserting.{Adds}

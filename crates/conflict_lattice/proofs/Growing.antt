@@ -12,8 +12,8 @@ use Rattle.world_model.proofs.Members.{any_at, place_of}
 use Rattle.set_family.specs.Meeting.{IsMetBy}
 use Rattle.set_family.specs.Rules.{articulation_holds, rules_at}
 use Rattle.set_family.proofs.Holding.{meets_together}
-use Rattle.kept_solver.specs.Keeping.{IsWithin}
-use Rattle.kept_solver.proofs.Fewer.{consistent_fewer}
+use Rattle.family_solver.specs.Kept.Keeping.{IsWithin}
+use Rattle.family_solver.proofs.kept.Fewer.{consistent_fewer}
 use Rattle.conflict_lattice.specs.Lattice.{IsMaximalConsistent, IsMinimalConflict}
 use Rattle.conflict_lattice.specs.Rounds.{IsGrown, holds_one, is_part}
 use Rattle.conflict_lattice.proofs.Parts.{both_there, flag_cases, in_length, on_within, part_within, set_here, within_all, within_have, within_on}

@@ -3,7 +3,7 @@ use Rattle.std.proofs.Common.{◌≡◌, ℕ, zero, suc, ◌<◌, Bool, true, fa
 use Rattle.std.specs.Prelude.{Some, None, slice_get, Option}
 use Rattle.std.proofs.lemmas.Bool.{cases_eq, false≢true}
 use Rattle.std.proofs.lemmas.Option.{slice_get_read}
-use Rattle.kept_solver.specs.Keeping.{IsWithin}
+use Rattle.family_solver.specs.Kept.Keeping.{IsWithin}
 use Rattle.conflict_lattice.specs.Rounds.{is_part}
 
 -- as a test, and as a fact

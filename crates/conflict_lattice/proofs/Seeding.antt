@@ -15,8 +15,8 @@ use Rattle.conflict_lattice.proofs.Parts.{part_within}
 use Rattle.point_query.proofs.Querying.{same_met}
 use Rattle.learn_solver.specs.Solving.{AddsGiven, GoesTo, IsModel, IsRefutation, SolverState}
 use Rattle.pick_search.proofs.Deciding.{given_stays}
-use Rattle.cert_model.specs.Clauses.{is_not, is_so}
-use Rattle.cert_model.proofs.Bits.{not_true, so_true}
+use Rattle.point_encode.specs.Model.Clauses.{is_not, is_so}
+use Rattle.point_encode.proofs.model.Bits.{not_true, so_true}
 use Rattle.conflict_lattice.specs.Lattice.{Subsets}
 use Rattle.conflict_lattice.specs.Rounds.{IsMap, Says, holds_none, holds_one, is_open, is_part}
 

@@ -6,8 +6,8 @@ use Rattle.world_model.specs.Problem.{Problem, restricted}
 use Rattle.world_model.specs.Family.{Family}
 use Rattle.world_model.specs.Questions.{IsConsistent}
 use Rattle.set_family.specs.Meeting.{IsMetBy}
-use Rattle.kept_solver.specs.Keeping.{IsClash, IsWithin}
-use Rattle.kept_solver.proofs.Fewer.{consistent_fewer}
+use Rattle.family_solver.specs.Kept.Keeping.{IsClash, IsWithin}
+use Rattle.family_solver.proofs.kept.Fewer.{consistent_fewer}
 use Rattle.conflict_lattice.specs.Lattice.{IsMinimalConflict}
 use Rattle.conflict_lattice.specs.Rounds.{IsShrunk}
 use Rattle.conflict_lattice.proofs.Parts.{in_length, off_lacks, off_within, within_all, within_lack, within_off}

@@ -4,7 +4,7 @@ use Rattle.std.specs.List.{list_all}
 use Rattle.std.specs.Ordering.{is_lt}
 use Rattle.cert_rules.specs.ClaimLists.{Claim}
 use Rattle.cert_text.specs.declared.line.Subject.TheVariants.{Kept}
-use Rattle.kept_solver.specs.Keeping.{IsWithin}
+use Rattle.family_solver.specs.Kept.Keeping.{IsWithin}
 use Rattle.search_log.specs.declared.fault.StepFault.{StepFault}
 use Rattle.search_log.specs.declared.fault.StepFault.TheVariants as step
 use Rattle.world_model.specs.Problem.{Problem}

@@ -1,7 +1,7 @@
 -- What is known between the rounds of a search for all minimal conflicts and all maximal consistent sets.
 use Rattle.std.specs.Prelude.{◌&&◌, ◌||◌, ◌∷◌, ◌≡◌, ◌<◌, ℕ, Bool, true, false, All, IfSome, IsTrue, List, [], Some, filter, length, map, not, set, slice_get}
 use Rattle.std.specs.List.{list_any}
-use Rattle.kept_solver.specs.Keeping.{IsClash, IsKeptSolver}
+use Rattle.family_solver.specs.Kept.Keeping.{IsClash, IsKeptSolver}
 use Rattle.learn_solver.specs.Solving.{SolverState}
 use Rattle.lits_core.specs.Literals.{clause_true, meets_all}
 use Rattle.set_family.specs.Meeting.{IsMetBy}

@@ -1,6 +1,6 @@
 //! What is claimed of what was found.
 ghost use Rattle.cert_text.specs.declared.line.Subject.TheVariants.{Kept};
-ghost use Rattle.claim_blocks.specs.Blocks.{KeepsClaims, claimed};
+ghost use Rattle.pick_search.specs.Blocks.Blocks.{KeepsClaims, claimed};
 ghost use Rattle.conflict_lattice.specs.Lattice.{IsLattice, IsMaximalConsistent, IsMinimalConflict, claims_of, lattice_claims};
 ghost use Rattle.conflict_lattice.specs.Rounds.{IsJudge};
 ghost use Rattle.constraint_set.specs.Shape.{shape_of};

@@ -1,12 +1,12 @@
 //! Whether some of the articulations hold together.
 ghost use Rattle.conflict_lattice.specs.Rounds.{IsJudge, IsJudged};
 ghost use Rattle.constraint_set.specs.Shape.{shape_of};
-ghost use Rattle.kept_solver.specs.Keeping.{IsKeptSolver, IsVerdict};
+ghost use Rattle.family_solver.specs.Kept.Keeping.{IsKeptSolver, IsVerdict};
 ghost use Rattle.std.specs.Prelude.{IfOk, IfSome, OnOk, ◌≡◌};
 ghost use Rattle.world_model.specs.Questions.{HasFlags};
 
 use constraint_set::Problem;
-use kept_solver::{KeptSolver, Verdict};
+use family_solver::{KeptSolver, Verdict};
 use pick_search::choose_by_picks;
 use point_query::Asker;
 use set_family::Family;

@@ -2,7 +2,7 @@
 ghost use Rattle.conflict_lattice.specs.Lattice.{IsMaximalConsistent, IsMinimalConflict};
 ghost use Rattle.conflict_lattice.specs.Rounds.{IsGrown, IsJudge, holds_one};
 ghost use Rattle.constraint_set.specs.Shape.{shape_of};
-ghost use Rattle.kept_solver.specs.Keeping.{IsWithin};
+ghost use Rattle.family_solver.specs.Kept.Keeping.{IsWithin};
 ghost use Rattle.set_family.specs.Meeting.{IsMetBy};
 ghost use Rattle.set_family.specs.Rules.{articulation_holds};
 ghost use Rattle.std.specs.Prelude.{All, IfOk, OnOk, length, map, ◌+◌, ◌<◌, ◌≡◌};

@@ -1,5 +1,5 @@
 //! Why a relation of a pair follows.
-ghost use Rattle.claim_blocks.specs.Blocks.{KeepsClaims};
+ghost use Rattle.pick_search.specs.Blocks.Blocks.{KeepsClaims};
 ghost use Rattle.conflict_lattice.specs.Explaining.{IsExplained, as_step};
 ghost use Rattle.constraint_set.specs.Shape.{shape_of};
 ghost use Rattle.search_log.specs.Leading.{KeepsLeading};

@@ -2,7 +2,7 @@
 ghost use Rattle.conflict_lattice.specs.Lattice.{IsMinimalConflict};
 ghost use Rattle.conflict_lattice.specs.Rounds.{IsJudge, IsShrunk};
 ghost use Rattle.constraint_set.specs.Shape.{shape_of};
-ghost use Rattle.kept_solver.specs.Keeping.{IsClash, IsWithin};
+ghost use Rattle.family_solver.specs.Kept.Keeping.{IsClash, IsWithin};
 ghost use Rattle.std.specs.Prelude.{IfOk, OnOk, length, ◌+◌, ◌<◌, ◌≡◌};
 
 use crate::decide::{Judge, Judged, decide};

@@ -18,8 +18,8 @@ use Rattle.search_log.specs.Logging.{AddsLines}
 use Rattle.search_log.proofs.Logs.{asker_stays}
 use Rattle.split_search.specs.declared.choice.Choice.{Choice}
 use Rattle.split_search.specs.declared.choice.Choice.TheVariants.{Refuted}
-use Rattle.claim_blocks.specs.Blocks.{IsProblemOf, claimed, settled, AreClaimsTold, AreClaimsMade, FromClaims, KeepsClaims}
-use Rattle.claim_blocks.proofs.Joins.{keeps_join, keeps_made, keeps_err, nothing_told}
+use Rattle.pick_search.specs.Blocks.Blocks.{IsProblemOf, claimed, settled, AreClaimsTold, AreClaimsMade, FromClaims, KeepsClaims}
+use Rattle.pick_search.proofs.blocks.Joins.{keeps_join, keeps_made, keeps_err, nothing_told}
 use Rattle.conflict_min.specs.Conflicts.{loss_claims, conflict_claims}
 use Rattle.conflict_min.specs.Shrinking.{IsDropped}
 

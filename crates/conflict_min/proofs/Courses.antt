@@ -5,8 +5,8 @@ use Rattle.world_model.specs.Problem.{Problem, restricted}
 use Rattle.world_model.specs.Family.{Family}
 use Rattle.world_model.specs.Questions.{IsConsistent}
 use Rattle.set_family.specs.Meeting.{IsMetBy}
-use Rattle.kept_solver.specs.Keeping.{IsWithin, IsClash}
-use Rattle.kept_solver.proofs.Fewer.{consistent_fewer}
+use Rattle.family_solver.specs.Kept.Keeping.{IsWithin, IsClash}
+use Rattle.family_solver.proofs.kept.Fewer.{consistent_fewer}
 use Rattle.conflict_min.specs.Conflicts.{all_kept}
 use Rattle.conflict_min.specs.Shrinking.{IsShrunk}
 use Rattle.conflict_min.proofs.Passes.{put_back, shrunk_none, shrunk_dropped, shrunk_kept}

@@ -6,7 +6,7 @@ use Rattle.std.proofs.lemmas.List.{take_more}
 use Rattle.std.proofs.lemmas.Option.{same_Some}
 use Rattle.world_model.specs.Questions.{flags_cmp}
 use Rattle.conflict_min.specs.Conflicts.{places_from}
-use Rattle.kept_solver.specs.Keeping.{IsWithin}
+use Rattle.family_solver.specs.Kept.Keeping.{IsWithin}
 use Rattle.conflict_min.specs.Shrinking.{cut}
 
 -- all flags true, one for each of a list

@@ -9,9 +9,9 @@ use Rattle.world_model.specs.Family.{Family}
 use Rattle.world_model.specs.Questions.{HasFlags, IsConsistent, IsLeastConflict, flags_cmp}
 use Rattle.set_family.specs.Meeting.{IsMetBy}
 use Rattle.conflict_min.specs.Conflicts.{all_kept, places_from, AreLosses}
-use Rattle.kept_solver.specs.Keeping.{IsWithin}
+use Rattle.family_solver.specs.Kept.Keeping.{IsWithin}
 use Rattle.conflict_min.specs.Shrinking.{cut, without_at, IsShrunk}
-use Rattle.kept_solver.proofs.Fewer.{consistent_fewer, met_by_fewer}
+use Rattle.family_solver.proofs.kept.Fewer.{consistent_fewer, met_by_fewer}
 use Rattle.conflict_min.proofs.Flags.{cut_none, cut_more, cut_within, within_cut, IsBefore, is_before, set_back, places_more, places_less, places_within, place_found, item_beside}
 
 -- before any is tried

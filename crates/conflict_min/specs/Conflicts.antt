@@ -8,7 +8,7 @@ use Rattle.cert_rules.specs.ClaimLists.{Claim}
 use Rattle.search_log.specs.declared.fault.StepFault.{StepFault}
 use Rattle.search_log.specs.declared.fault.StepFault.TheVariants as step
 use Rattle.set_family.specs.Meeting.{IsMetBy}
-use Rattle.claim_blocks.specs.Blocks.{claimed}
+use Rattle.pick_search.specs.Blocks.Blocks.{claimed}
 use Rattle.conflict_min.specs.declared.conflict.Conflict.{Conflict}
 use Rattle.conflict_min.specs.declared.conflict.ConflictFault.{ConflictFault}
 use Rattle.conflict_min.specs.declared.conflict.ConflictFault.TheVariants.{Consistent, LogFailed, NoMemory}

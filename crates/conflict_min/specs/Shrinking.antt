@@ -6,7 +6,7 @@ use Rattle.world_model.specs.Questions.{HasFlags, IsConsistent}
 use Rattle.cert_text.specs.declared.line.Subject.TheVariants.{Kept}
 use Rattle.cert_rules.specs.ClaimLists.{Claim}
 use Rattle.set_family.specs.Meeting.{IsMetBy}
-use Rattle.kept_solver.specs.Keeping.{IsClash}
+use Rattle.family_solver.specs.Kept.Keeping.{IsClash}
 use Rattle.conflict_min.specs.Conflicts.{all_kept, places_from}
 use Rattle.conflict_min.specs.declared.points.Course.{Course}
 

@@ -3,7 +3,7 @@ ghost use Rattle.std.specs.Prelude.{◌≡◌, IfOk};
 ghost use Rattle.constraint_set.specs.Shape.{shape_of};
 ghost use Rattle.search_log.specs.Leading.{KeepsLeading};
 ghost use Rattle.search_log.specs.Logging.{LogGoes};
-ghost use Rattle.claim_blocks.specs.Blocks.{KeepsClaims};
+ghost use Rattle.pick_search.specs.Blocks.Blocks.{KeepsClaims};
 ghost use Rattle.conflict_min.specs.Conflicts.{IsFound, IsClaimedOf, as_step};
 
 use crate::shrink::find;

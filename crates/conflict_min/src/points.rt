@@ -1,13 +1,13 @@
 //! The least conflict by a solver over points, of which it is asked what stands in conflict.
 ghost use Rattle.std.specs.Prelude.{◌≡◌, ◌+◌, ◌<◌, true, length, IfOk, IfSome};
-ghost use Rattle.kept_solver.specs.Keeping.{IsClash, IsKeptSolver};
+ghost use Rattle.family_solver.specs.Kept.Keeping.{IsClash, IsKeptSolver};
 ghost use Rattle.conflict_min.specs.Conflicts.{all_kept, IsFound, IsLeast};
 ghost use Rattle.conflict_min.specs.Shrinking.{IsCourse};
 
 use crate::conflict::{Conflict, Outcome};
 use crate::tries::{add_family, all_flags};
 use constraint_set::Problem;
-use kept_solver::{KeptSolver, Verdict};
+use family_solver::{KeptSolver, Verdict};
 use set_family::Family;
 use std::alloc::{AllocError, Global};
 

@@ -7,14 +7,14 @@ ghost use Rattle.cert_text.specs.declared.line.Subject.TheVariants.{Kept};
 ghost use Rattle.search_log.specs.Leading.{KeepsLeading};
 ghost use Rattle.search_log.specs.Logging.{LogGoes};
 ghost use Rattle.set_family.specs.Meeting.{IsMetBy};
-ghost use Rattle.claim_blocks.specs.Blocks.{claimed, KeepsClaims};
+ghost use Rattle.pick_search.specs.Blocks.Blocks.{claimed, KeepsClaims};
 ghost use Rattle.conflict_min.specs.declared.conflict.Outcome.TheVariants.{Least};
 ghost use Rattle.conflict_min.specs.Conflicts.{places_from, loss_claims, IsLeast, IsFound, IsClaimedOf};
 
 use crate::conflict::{Conflict, Outcome};
 use crate::tries::{all_flags, settle_kept};
 use cert_text::{Flags, Subject, TreeLog};
-use claim_blocks::show;
+use pick_search::show;
 use constraint_set::Problem;
 use point_query::Asker;
 use search_log::StepFault;

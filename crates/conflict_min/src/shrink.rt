@@ -4,7 +4,7 @@ ghost use Rattle.world_model.specs.Questions.{IsConsistent};
 ghost use Rattle.constraint_set.specs.Shape.{shape_of};
 ghost use Rattle.search_log.specs.Leading.{KeepsLeading};
 ghost use Rattle.search_log.specs.Logging.{LogGoes};
-ghost use Rattle.claim_blocks.specs.Blocks.{KeepsClaims};
+ghost use Rattle.pick_search.specs.Blocks.Blocks.{KeepsClaims};
 ghost use Rattle.conflict_min.specs.Conflicts.{all_kept, IsLeast, IsFound, IsClaimedOf};
 ghost use Rattle.conflict_min.specs.Shrinking.{IsShrunk, IsDropped};
 

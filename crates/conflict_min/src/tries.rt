@@ -7,12 +7,12 @@ ghost use Rattle.cert_text.specs.declared.line.Subject.TheVariants.{Kept};
 ghost use Rattle.search_log.specs.Leading.{KeepsLeading};
 ghost use Rattle.search_log.specs.Logging.{LogGoes};
 ghost use Rattle.split_search.specs.Choosing.{IsChoice};
-ghost use Rattle.claim_blocks.specs.Blocks.{settled, KeepsClaims};
+ghost use Rattle.pick_search.specs.Blocks.Blocks.{settled, KeepsClaims};
 ghost use Rattle.conflict_min.specs.Conflicts.{all_kept};
 ghost use Rattle.conflict_min.specs.Shrinking.{cut, IsCutOut, IsShrunk, IsDropped};
 
 use cert_text::{Flags, Subject, TreeLog};
-use claim_blocks::settle;
+use pick_search::settle;
 use constraint_set::Problem;
 use point_query::Asker;
 use search_log::StepFault;

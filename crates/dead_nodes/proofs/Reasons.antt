@@ -6,7 +6,7 @@ use Rattle.rcc5_core.specs.declared.Rel.{Rel}
 use Rattle.lits_core.specs.Derivation.{State, live_clause}
 use Rattle.world_model.specs.Problem.{Problem}
 use Rattle.world_model.specs.Alive.{Need, needs, problem_at}
-use Rattle.cert_model.specs.Forced.{need_with, IsClosedAt}
+use Rattle.point_encode.specs.Model.Forced.{need_with, IsClosedAt}
 use Rattle.point_query.specs.Asking.{AskerState}
 use Rattle.point_query.specs.Answers.{IsFirstClosed}
 use Rattle.cert_rules.specs.Writing.{IsClosedNeed}

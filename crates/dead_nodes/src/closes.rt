@@ -2,7 +2,7 @@
 ghost use Rattle.std.specs.Prelude.{◌≤◌, length, IsTrue, MatchOption};
 ghost use Rattle.lits_core.specs.Derivation.{live_clause};
 ghost use Rattle.world_model.specs.Problem.{pair_count};
-ghost use Rattle.cert_model.specs.Forced.{IsClosedAt};
+ghost use Rattle.point_encode.specs.Model.Forced.{IsClosedAt};
 ghost use Rattle.point_encode.specs.Needs.{IsInRange, need_seen};
 
 use constraint_set::Problem;

@@ -12,9 +12,9 @@ use Rattle.world_model.proofs.PointAlive.{In-needs}
 use Rattle.world_model.proofs.PointOnce.{at_empty}
 use Rattle.constraint_set.specs.Facts.{IsBuilt}
 use Rattle.constraint_set.specs.Shape.{shape_of}
-use Rattle.cert_model.specs.Clauses.{given_clauses, variable_count}
-use Rattle.cert_model.specs.Forced.{need_with, IsClosedAt}
-use Rattle.cert_model.specs.Laws.{ClausesArePoints, NeedsAreLiterals}
+use Rattle.point_encode.specs.Model.Clauses.{given_clauses, variable_count}
+use Rattle.point_encode.specs.Model.Forced.{need_with, IsClosedAt}
+use Rattle.point_encode.specs.Model.Laws.{ClausesArePoints, NeedsAreLiterals}
 use Rattle.point_query.specs.Asking.{AskerState, IsAsker}
 use Rattle.point_query.specs.Queries.{IsSolverOf}
 use Rattle.point_query.proofs.Querying.{known_is_closed}

@@ -2,7 +2,7 @@
 ghost use Rattle.std.specs.Prelude.{◌<◌, [], Contains, IsTrue, MatchOption};
 ghost use Rattle.lits_core.specs.Derivation.{live_clause};
 ghost use Rattle.world_model.specs.Problem.{pair_count};
-ghost use Rattle.cert_model.specs.Forced.{IsClosedAt, asked_of, selectors_of};
+ghost use Rattle.point_encode.specs.Model.Forced.{IsClosedAt, asked_of, selectors_of};
 ghost use Rattle.point_encode.specs.Needs.{IsInRange, need_seen};
 ghost use Rattle.dead_pairs.specs.Lone.{lone_problem};
 

@@ -7,7 +7,7 @@ use Rattle.outer_store.specs.States.{StoreState, IsQuiet}
 use Rattle.world_model.specs.Problem.{Problem}
 use Rattle.cleantax_text.specs.declared.TextKind.{TextKind}
 use Rattle.cert_reader.specs.Bytes.{MayHold, ForSome}
-use Rattle.desk_script.specs.Script.{Outcome, script_result}
+use Rattle.desk_run.specs.Script.Script.{Outcome, script_result}
 use Rattle.run_ends.specs.declared.Status.{Status}
 use Rattle.run_ends.specs.declared.Status.TheVariants as status
 use Rattle.run_ends.specs.Reads.{AreFront, problem_in, ComesOf, IsWithout}

@@ -7,7 +7,7 @@ use Rattle.outer_store.specs.States.{StoreState, SinkState, IsQuiet}
 use Rattle.outer_store.specs.declared.fault.StoreFault.TheVariants as fault
 use Rattle.outer_store.proofs.BytesLemmas.{GrownInPart-kept}
 use Rattle.world_model.specs.Problem.{Problem}
-use Rattle.desk_script.specs.declared.requests.DeskRequest.{DeskRequest}
+use Rattle.desk_run.specs.declared.script.requests.DeskRequest.{DeskRequest}
 use Rattle.command_line.specs.declared.request.DeskArgs.{DeskArgs}
 use Rattle.command_line.specs.Requests.{Names, desk_names}
 use Rattle.run_ends.specs.declared.Status.TheVariants as status

@@ -10,13 +10,13 @@ use Rattle.outer_store.specs.States.{SinkState}
 use Rattle.outer_store.specs.declared.fault.StoreFault.{StoreFault}
 use Rattle.outer_store.proofs.BytesLemmas.{added-added, GrownInPart-longer, GrownInPart-after}
 use Rattle.world_model.specs.Problem.{Problem}
-use Rattle.desk_script.specs.declared.requests.DeskRequest.{DeskRequest}
-use Rattle.desk_core.specs.declared.reply.Reply.{Reply}
-use Rattle.desk_core.specs.declared.reply.Reply.TheVariants.{NoMemory}
-use Rattle.desk_core.specs.Talks.{Exchange, Talk, is_starved, of_slot, IsAlone}
-use Rattle.desk_core.specs.Desks.{DeskState, slot_at, all_closed, IsExchange}
-use Rattle.desk_core.specs.Apart.{IsAfter}
-use Rattle.desk_core.proofs.ApartLemmas.{apart_law}
+use Rattle.desk_run.specs.declared.script.requests.DeskRequest.{DeskRequest}
+use Rattle.desk_run.specs.declared.desk.reply.Reply.{Reply}
+use Rattle.desk_run.specs.declared.desk.reply.Reply.TheVariants.{NoMemory}
+use Rattle.desk_run.specs.Desk.Talks.{Exchange, Talk, is_starved, of_slot, IsAlone}
+use Rattle.desk_run.specs.Desk.Desks.{DeskState, slot_at, all_closed, IsExchange}
+use Rattle.desk_run.specs.Desk.Apart.{IsAfter}
+use Rattle.desk_run.proofs.desk.ApartLemmas.{apart_law}
 use Rattle.run_ends.specs.Runs.{LeavesPiece}
 use Rattle.run_ends.proofs.PieceLemmas.{piece_after}
 use Rattle.desk_run.specs.Answering.{reply_line, served_line, IsTalkOf, IsServed}

@@ -6,12 +6,12 @@ use Rattle.world_model.specs.Problem.{Problem}
 use Rattle.cleantax_text.specs.declared.TextKind.{TextKind}
 use Rattle.cleantax_text.specs.Reading.{text_result}
 use Rattle.cert_reader.specs.Bytes.{MayHold}
-use Rattle.desk_script.specs.declared.requests.DeskRequest.{DeskRequest}
-use Rattle.desk_script.specs.Script.{Outcome, script_result}
-use Rattle.desk_core.specs.declared.reply.Reply.{Reply}
-use Rattle.desk_core.specs.declared.reply.Reply.TheVariants.{Opened, Kept, Narrowed, World, NoneLeft, Closed, SlotOpen, SlotClosed, NoMemory}
-use Rattle.desk_core.specs.Slots.{Slot}
-use Rattle.desk_core.specs.Talks.{Exchange, Talk, of_slot, IsAlone}
+use Rattle.desk_run.specs.declared.script.requests.DeskRequest.{DeskRequest}
+use Rattle.desk_run.specs.Script.Script.{Outcome, script_result}
+use Rattle.desk_run.specs.declared.desk.reply.Reply.{Reply}
+use Rattle.desk_run.specs.declared.desk.reply.Reply.TheVariants.{Opened, Kept, Narrowed, World, NoneLeft, Closed, SlotOpen, SlotClosed, NoMemory}
+use Rattle.desk_run.specs.Desk.Slots.{Slot}
+use Rattle.desk_run.specs.Desk.Talks.{Exchange, Talk, of_slot, IsAlone}
 use Rattle.command_line.specs.declared.request.DeskArgs.{DeskArgs}
 use Rattle.run_ends.specs.Ends.{line_of}
 use Rattle.run_ends.specs.Runs.{File}

@@ -3,8 +3,8 @@ use Rattle.std.specs.Prelude.{◌≡◌, ℕ, List, [], ◌++◌, ◌⊎◌, cod
 use Rattle.outer_store.specs.Bytes.{GrownInPart, added}
 use Rattle.outer_store.specs.Faults.{Rose}
 use Rattle.outer_store.specs.States.{SinkState}
-use Rattle.desk_script.specs.declared.ScriptKind.{ScriptKind}
-use Rattle.desk_script.specs.Script.{kind_name}
+use Rattle.desk_run.specs.declared.script.ScriptKind.{ScriptKind}
+use Rattle.desk_run.specs.Script.Script.{kind_name}
 use Rattle.run_ends.specs.declared.Status.{Status}
 use Rattle.run_ends.specs.declared.Status.TheVariants as status
 use Rattle.run_ends.specs.Ends.{line_of, end_line}

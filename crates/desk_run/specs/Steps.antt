@@ -7,9 +7,9 @@ use Rattle.outer_store.specs.declared.fault.StoreFault.{StoreFault}
 use Rattle.world_model.specs.Problem.{Problem}
 use Rattle.cleantax_text.specs.Reading.{text_result}
 use Rattle.cert_reader.specs.Bytes.{MayHold, ForSome}
-use Rattle.desk_script.specs.declared.ScriptKind.{ScriptKind}
-use Rattle.desk_script.specs.declared.requests.DeskRequest.{DeskRequest}
-use Rattle.desk_script.specs.Script.{Outcome, script_result}
+use Rattle.desk_run.specs.declared.script.ScriptKind.{ScriptKind}
+use Rattle.desk_run.specs.declared.script.requests.DeskRequest.{DeskRequest}
+use Rattle.desk_run.specs.Script.Script.{Outcome, script_result}
 use Rattle.command_line.specs.declared.request.DeskArgs.{DeskArgs}
 use Rattle.command_line.specs.Requests.{Names, desk_names}
 use Rattle.run_ends.specs.Runs.{Answers, Answered, HasFailed, LeavesPiece}

@@ -1,15 +1,15 @@
 //! What is asked: a problem, and a script for its desk.
 ghost use Rattle.std.specs.Prelude.{◌≡◌, Ok, All, IfOk, IfErr, OnOk};
 ghost use Rattle.outer_store.specs.States.{IsQuiet};
-ghost use Rattle.desk_script.specs.Requests.{IsRequest};
-ghost use Rattle.desk_script.specs.Script.{script_result};
+ghost use Rattle.desk_run.specs.Script.Requests.{IsRequest};
+ghost use Rattle.desk_run.specs.Script.Script.{script_result};
 ghost use Rattle.run_ends.specs.Reads.{AreFront};
 ghost use Rattle.desk_run.specs.Ends.{desk_status_of};
 ghost use Rattle.desk_run.specs.Steps.{IsProblemOf, IsAsked, AreRequestsOf, IsUnread, IsScriptEnd, IsWithoutScript, IsEarlyDeskEnd};
 
+use crate::script::{DeskRequest, ScriptFault, read_script};
 use crate::{DeskArgs, DeskStatus};
 use constraint_set::Problem;
-use desk_script::{DeskRequest, ScriptFault, read_script};
 use outer_store::{Store, StoreFault};
 use run_ends::{Status, TEXT_LIMIT, problem_under, read_front};
 use std::alloc::Global;

@@ -5,9 +5,9 @@ ghost use Rattle.run_ends.specs.Runs.{LeavesPiece};
 ghost use Rattle.desk_run.specs.Ends.{script_words, desk_end_line, IsDeskLastPut};
 
 use crate::DeskStatus;
+use crate::script::ScriptKind;
 use cleantax_text::TextKind;
 use command_line::UsageKind;
-use desk_script::ScriptKind;
 use outer_store::{Sink, StoreFault};
 use run_ends::{put_line, text_name};
 use std::alloc::{AllocError, Global};

@@ -1,23 +1,26 @@
 //! A script is served: a problem and a script for its desk are read, and the replies are put. This is all that the desk's program does with
-//! its words, a store and a sink.
+//! its words, a store and a sink. The desk itself does no input or output.
 #![tactic(auto)]
 
 ghost use Rattle.std.specs.Prelude.{◌≡◌};
 ghost use Rattle.desk_run.specs.Ends.{desk_code_of};
 
 mod asked;
+mod desk;
 mod ends;
 mod replies;
 mod running;
+mod script;
 mod serve_words;
 mod serving;
 
 use cleantax_text::TextKind;
 pub use command_line::DeskArgs;
 use command_line::UsageKind;
-use desk_script::ScriptKind;
+pub use desk::{Desk, Reply, slots_answer_alone, slots_stay_apart};
 pub use ends::put_desk_end;
 pub use running::run_desk;
+pub use script::{Act, DeskRequest, Flags, MAX_SCRIPT_LEN, ScriptFault, ScriptKind, read_script};
 pub use serve_words::serve;
 
 /// How a run of the desk ended.

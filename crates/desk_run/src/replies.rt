@@ -1,12 +1,12 @@
 //! The lines of replies.
 ghost use Rattle.std.specs.Prelude.{◌≡◌, ◌++◌, ◌∷◌, decimal, string_bytes, IfOk};
-ghost use Rattle.desk_core.specs.declared.reply.Reply.TheVariants.{World};
+ghost use Rattle.desk_run.specs.declared.desk.reply.Reply.TheVariants.{World};
 ghost use Rattle.run_ends.specs.Ends.{line_of};
 ghost use Rattle.run_ends.specs.Runs.{LeavesPiece};
 ghost use Rattle.desk_run.specs.Answering.{reply_words, reply_line, served_line};
 
-use desk_core::Reply;
-use desk_script::DeskRequest;
+use crate::desk::Reply;
+use crate::script::DeskRequest;
 use outer_store::{Sink, StoreFault};
 use proof_text::put_letters;
 use rcc5_core::Position;

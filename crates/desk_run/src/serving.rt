@@ -1,13 +1,13 @@
 //! Requests are handled one after another, and the reply to each is put.
 ghost use Rattle.std.specs.Prelude.{◌≡◌, All};
-ghost use Rattle.desk_script.specs.Requests.{IsRequest};
-ghost use Rattle.desk_core.specs.Desks.{all_closed};
+ghost use Rattle.desk_run.specs.Script.Requests.{IsRequest};
+ghost use Rattle.desk_run.specs.Desk.Desks.{all_closed};
 ghost use Rattle.desk_run.specs.Steps.{ArePut, IsServedOut};
 
+use crate::desk::Desk;
 use crate::replies::{put_reply, put_served};
+use crate::script::DeskRequest;
 use constraint_set::Problem;
-use desk_core::Desk;
-use desk_script::DeskRequest;
 use outer_store::{Sink, StoreFault};
 use std::alloc::Global;
 

@@ -2,8 +2,7 @@
 
 use crate::usage::explain_usage;
 use command_line::{Key, desk_row, fault_place};
-use desk_run::DeskStatus;
-use desk_script::ScriptKind;
+use desk_run::{DeskStatus, ScriptKind};
 use run_help::{
     explain_read, explain_text, line_of, read_again, show_line, unknown_name, value_of,
 };

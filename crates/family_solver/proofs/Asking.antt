@@ -8,7 +8,7 @@ use Rattle.lits_core.specs.Derivation.{DerivedClausesFollow, LiteralsAreSets, st
 use Rattle.lits_core.specs.Literals.{lit_true, meets_all, negation_of, variable_of}
 use Rattle.lits_core.proofs.LiteralLemmas.{negation-other, variable_of-literal_of, variable_of-negation}
 use Rattle.learn_solver.specs.Solving.{AreConsistent, GoesTo, IsRefutation, SolverState}
-use Rattle.cert_model.specs.Clauses.{is_not, is_so}
+use Rattle.point_encode.specs.Model.Clauses.{is_not, is_so}
 use Rattle.watch_arena.specs.Trails.{AreInRange}
 use Rattle.world_model.specs.Family.{Family, meets}
 use Rattle.world_model.specs.Laws.{PairsStandOnce}

@@ -15,8 +15,8 @@ use Rattle.rcc5_core.proofs.Sets.{relation_of-by}
 use Rattle.lits_core.specs.Derivation.{LiteralsAreSets, SameDerived, SameGiven}
 use Rattle.lits_core.specs.Literals.{clause_true, lit_true, meets_all}
 use Rattle.learn_solver.specs.Solving.{AddsGiven, SolverState}
-use Rattle.cert_model.specs.Clauses.{is_not, is_so}
-use Rattle.cert_model.proofs.Bits.{not_true, so_true}
+use Rattle.point_encode.specs.Model.Clauses.{is_not, is_so}
+use Rattle.point_encode.proofs.model.Bits.{not_true, so_true}
 use Rattle.watch_arena.specs.Trails.{AreInRange}
 use Rattle.world_model.specs.Alive.{allowed, lies_in, point_at}
 use Rattle.world_model.specs.Family.{Family, none_empty, set_of}

@@ -1,7 +1,7 @@
 -- What a family shows of the points and the pairs of a problem, and what a solver is told of it.
 use Rattle.std.specs.Prelude.{All, Bool, Contains, IsTrue, List, [], ℕ, length, map, not, slice_index_or, ◌%◌, ◌*◌, ◌+◌, ◌++◌, ◌/◌, ◌<◌, ◌==◌, ◌^◌, ◌≡◌, ◌≤◌, ◌⊎◌}
 use Rattle.std.specs.List.{list_all, list_any, range_with_len}
-use Rattle.cert_model.specs.Clauses.{is_not, is_so}
+use Rattle.point_encode.specs.Model.Clauses.{is_not, is_so}
 use Rattle.learn_solver.specs.Solving.{SolverState}
 use Rattle.lits_core.specs.Literals.{clause_true, lit_true, meets_all}
 use Rattle.rcc5_core.specs.Region.{row_of, same_word, word_at}

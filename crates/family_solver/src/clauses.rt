@@ -1,5 +1,5 @@
 //! The clauses on regions that have a point.
-ghost use Rattle.cert_model.specs.Clauses.{is_so};
+ghost use Rattle.point_encode.specs.Model.Clauses.{is_so};
 ghost use Rattle.family_solver.specs.Showing.{HasPoints, IsBegun, IsGround, IsSo, IsSoOrSeen, variable_count};
 ghost use Rattle.rcc5_core.specs.Region.{same_word};
 ghost use Rattle.rcc5_core.specs.declared.Occupancy.TheVariants.{Empty, Occupied};

@@ -1,5 +1,5 @@
 //! The clauses on the relations of pairs.
-ghost use Rattle.cert_model.specs.Clauses.{is_so};
+ghost use Rattle.point_encode.specs.Model.Clauses.{is_so};
 ghost use Rattle.family_solver.specs.Showing.{IsBegun, IsGround, IsRule, rel_variable, variable_count};
 ghost use Rattle.lits_core.specs.Literals.{literal_of};
 ghost use Rattle.rcc5_core.specs.Relation.{rank_of};

@@ -29,9 +29,9 @@ use Rattle.listing_run.specs.Putting.{IsPutPartly}
 use Rattle.listing_run.specs.Logged.{IsCertLeft, IsListedWith}
 use Rattle.listing_run.proofs.LeftLemmas.{bytes_of, none_certified, cert_written, certified}
 use Rattle.listing_run.proofs.StopLemmas.{endless_stop}
-use Rattle.resume_token.specs.Token.{token_text}
+use Rattle.run_ends.specs.Token.Token.{token_text}
 use Rattle.world_model.specs.Saturated.{count_of}
-use Rattle.part_rules.specs.Certs.{IsListingCert}
+use Rattle.cert_rules.specs.Parts.Certs.{IsListingCert}
 use Rattle.listing_run.specs.Output.{last_line, listing_text, listing_end, token_under, written_names}
 use Rattle.listing_run.specs.Steps.{cut_of, status_at, IsCutEnded, IsEnded, plan_answers}
 use Rattle.run_ends.proofs.OneName.{kept_but_one}

@@ -25,14 +25,14 @@ use Rattle.cert_rules.specs.ShownNodes.{AllBranchesAlive}
 use Rattle.cert_rules.specs.Writing.{KeepsUp, BeginsAndKeepsUp}
 use Rattle.cert_rules.specs.Files.{Accepts, Listing}
 use Rattle.cert_rules.proofs.Writing.{alive_append}
-use Rattle.part_rules.specs.Certs.{cert_answer}
+use Rattle.cert_rules.specs.Parts.Certs.{cert_answer}
 use Rattle.outer_store.specs.States.{StoreState, SinkState, IsQuiet, OnlyWritten, IsQuiet-joins}
 use Rattle.run_ends.specs.Runs.{IsWriteCause}
 use Rattle.run_ends.proofs.OneName.{kept_but_one, write_failed}
 use Rattle.run_ends.proofs.WrittenLemmas.{others_twice}
 use Rattle.listing_run.specs.declared.plan.Listed.{Listed}
 use Rattle.listing_run.specs.declared.plan.ListingPlan.{ListingPlan}
-use Rattle.part_rules.specs.Certs.{IsListingCert}
+use Rattle.cert_rules.specs.Parts.Certs.{IsListingCert}
 use Rattle.listing_run.specs.Plans.{IsPlan, stop_place}
 use Rattle.listing_run.specs.Putting.{IsPutToStop, IsPutPartly}
 use Rattle.world_search.specs.Told.{IsToldWhole}

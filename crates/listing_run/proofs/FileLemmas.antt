@@ -5,7 +5,7 @@ use Rattle.std.specs.Option.{option_to_list}
 use Rattle.outer_store.specs.Contents.{Contents}
 use Rattle.rcc5_core.specs.declared.Rel.{Rel}
 use Rattle.world_model.specs.Problem.{Problem}
-use Rattle.resume_token.specs.Token.{token_text}
+use Rattle.run_ends.specs.Token.Token.{token_text}
 use Rattle.run_ends.specs.Runs.{AreKeptBut, file_under}
 use Rattle.run_ends.proofs.WrittenLemmas.{in_none, in_one, names}
 use Rattle.listing_run.specs.Output.{token_under}

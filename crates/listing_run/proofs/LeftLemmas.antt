@@ -7,7 +7,7 @@ use Rattle.outer_store.specs.Contents.{Contents}
 use Rattle.rcc5_core.specs.declared.Rel.{Rel}
 use Rattle.world_model.specs.Problem.{Problem}
 use Rattle.world_model.specs.Listing.{IsListing}
-use Rattle.part_rules.specs.Certs.{IsListingCert}
+use Rattle.cert_rules.specs.Parts.Certs.{IsListingCert}
 use Rattle.run_ends.specs.Runs.{AreKeptBut, IsHeld, AreWritten, file_under}
 use Rattle.run_ends.proofs.WrittenLemmas.{written_one}
 use Rattle.listing_run.specs.Logged.{IsCertLeft}

@@ -5,3 +5,4 @@ pub mod Logged
 pub mod Plans
 pub mod Putting
 pub mod Part
+pub mod Parts

@@ -10,7 +10,7 @@ use Rattle.world_model.specs.Problem.{Problem}
 use Rattle.world_model.specs.Listing.{IsListing}
 use Rattle.cert_text.specs.Logs.{Told}
 use Rattle.point_query.specs.Asking.{AskerState}
-use Rattle.part_rules.specs.Certs.{IsListingCert}
+use Rattle.cert_rules.specs.Parts.Certs.{IsListingCert}
 use Rattle.world_search.specs.Logging.{KeepsOn, AddsLines}
 use Rattle.world_search.specs.Searching.{SearchState}
 use Rattle.run_ends.specs.Runs.{AreKeptBut, IsWriteCause}

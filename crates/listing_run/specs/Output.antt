@@ -8,8 +8,8 @@ use Rattle.world_model.specs.Listing.{IsListing}
 use Rattle.world_model.specs.Node.{IsCut}
 use Rattle.cleantax_text.specs.declared.TextKind.{TextKind}
 use Rattle.cleantax_text.specs.Reading.{text_result}
-use Rattle.resume_token.specs.declared.TokenKind.{TokenKind}
-use Rattle.resume_token.specs.Token.{token_text, token_result}
+use Rattle.run_ends.specs.declared.token.TokenKind.{TokenKind}
+use Rattle.run_ends.specs.Token.Token.{token_text, token_result}
 use Rattle.world_model.specs.Saturated.{count_of}
 use Rattle.run_ends.specs.declared.Status.{Status}
 use Rattle.run_ends.specs.declared.Status.TheVariants.{Done, RefusedText, Cut, NoWorld, RefusedToken}
@@ -20,7 +20,7 @@ use Rattle.command_line.specs.declared.request.AlignArgs.{AlignArgs}
 use Rattle.command_line.specs.declared.request.Request.TheVariants.{Align}
 use Rattle.command_line.specs.Requests.{Names, names_of}
 use Rattle.listing_run.specs.declared.plan.ListingPlan.{ListingPlan}
-use Rattle.part_rules.specs.Certs.{IsListingCert}
+use Rattle.cert_rules.specs.Parts.Certs.{IsListingCert}
 
 -- the last line of a listing of so many worlds that stopped before its end
 abbrev pub cut_line : ℕ → List ℕ

@@ -8,7 +8,7 @@ use Rattle.outer_store.specs.declared.fault.StoreFault.{StoreFault}
 use Rattle.rcc5_core.specs.declared.Rel.{Rel}
 use Rattle.world_model.specs.Problem.{Problem}
 use Rattle.constraint_set.specs.Facts.{IsAsRead}
-use Rattle.resume_token.specs.Token.{token_text}
+use Rattle.run_ends.specs.Token.Token.{token_text}
 use Rattle.run_ends.specs.declared.Status.{Status}
 use Rattle.run_ends.specs.declared.Status.TheVariants.{Done, Cut, NoWorld}
 use Rattle.outer_store.specs.States.{StoreState, SinkState, IsQuiet}

@@ -17,7 +17,7 @@ use Rattle.world_model.proofs.PointAlive.{related}
 use Rattle.world_model.proofs.PointPositions.{relation_in}
 use Rattle.cert_rules.proofs.Narrowing.{shown_is_met, met_is_shown}
 use Rattle.cert_text.specs.declared.line.Subject.TheVariants.{Kept}
-use Rattle.claim_blocks.specs.Blocks.{claimed}
+use Rattle.pick_search.specs.Blocks.Blocks.{claimed}
 use Rattle.mir_report.specs.Possible.{ArePossibleSets, whole_claim}
 
 -- the relation of a pair in the table of a family

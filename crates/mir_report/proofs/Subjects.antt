@@ -22,7 +22,7 @@ use Rattle.cert_rules.specs.ClaimWriting.{ShowsSubject}
 use Rattle.set_family.specs.Meeting.{IsMetBy}
 use Rattle.dead_pairs.specs.declared.why.Closing.{Closing}
 use Rattle.dead_pairs.specs.Lone.{IsClosing}
-use Rattle.claim_blocks.specs.Blocks.{IsProblemOf, IsClosedSubject}
+use Rattle.pick_search.specs.Blocks.Blocks.{IsProblemOf, IsClosedSubject}
 use Rattle.mir_report.specs.Steps.{ShowsAt}
 use Rattle.cert_rules.proofs.Narrowing.{shown_is_met, met_is_shown}
 use Rattle.mir_report.proofs.Laws.{possible_is_met}

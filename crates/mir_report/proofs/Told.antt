@@ -8,8 +8,8 @@ use Rattle.cert_rules.specs.ClaimLists.{Claim}
 use Rattle.search_log.specs.declared.fault.StepFault.{StepFault}
 use Rattle.search_log.specs.Logging.{AddsLines}
 use Rattle.search_log.proofs.Logs.{asker_stays}
-use Rattle.claim_blocks.specs.Blocks.{KeepsClaims}
-use Rattle.claim_blocks.proofs.Joins.{keeps_err, keeps_join, made_told, nothing_told}
+use Rattle.pick_search.specs.Blocks.Blocks.{KeepsClaims}
+use Rattle.pick_search.proofs.blocks.Joins.{keeps_err, keeps_join, made_told, nothing_told}
 
 -- before anything is told
 pub err_first : {T : Type 0} (Q : StepFault → Type 0) (r : Result T StepFault) (p : Problem) (IsMade : T → List Claim → Type 0) (told : Told) (one : AskerState) → IsErrAnd r Q → KeepsClaims p r IsMade told told one one

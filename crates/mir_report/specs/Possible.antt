@@ -10,7 +10,7 @@ use Rattle.world_model.specs.Node.{pair_at}
 use Rattle.world_model.specs.Questions.{IsPossibleRelation}
 use Rattle.cert_text.specs.declared.line.Subject.TheVariants.{Narrowed, Kept}
 use Rattle.cert_rules.specs.ClaimLists.{Claim}
-use Rattle.claim_blocks.specs.Blocks.{claimed}
+use Rattle.pick_search.specs.Blocks.Blocks.{claimed}
 
 -- a set has just the relations that some possible world has at a pair
 abbrev pub IsPossibleSet : Problem → ℕ → RelSet → Type 0

@@ -12,7 +12,7 @@ use Rattle.world_model.specs.Questions.{IsPossibleRelation}
 use Rattle.cert_text.specs.declared.line.Subject.TheVariants.{Narrowed}
 use Rattle.cert_rules.specs.ClaimLists.{Claim}
 use Rattle.set_family.specs.Meeting.{IsMetBy}
-use Rattle.claim_blocks.specs.Blocks.{claimed}
+use Rattle.pick_search.specs.Blocks.Blocks.{claimed}
 use Rattle.family_solver.specs.Showing.{IsGround, IsFamilySolver}
 use Rattle.pick_search.specs.Picking.{IsKnown}
 use Rattle.mir_report.specs.declared.sight.Granter.{Granter}

@@ -7,14 +7,14 @@ ghost use Rattle.cert_text.specs.declared.line.Subject.TheVariants.{Kept, Narrow
 ghost use Rattle.search_log.specs.Leading.{KeepsLeading};
 ghost use Rattle.search_log.specs.Logging.{LogGoes};
 ghost use Rattle.set_family.specs.Meeting.{IsMetBy};
-ghost use Rattle.claim_blocks.specs.Blocks.{claimed, KeepsClaims};
+ghost use Rattle.pick_search.specs.Blocks.Blocks.{claimed, KeepsClaims};
 ghost use Rattle.mir_report.specs.Possible.{IsPossibleSet, ArePossibleSets, pair_claims, claims_from, whole_claim};
 ghost use Rattle.mir_report.specs.Steps.{claim_if_allowed, claim_if_refuted};
 
 use crate::bare::bare_sets;
 use crate::found::{put, shown_by};
 use cert_text::{Flags, Subject, TreeLog};
-use claim_blocks::{refute, settle, show};
+use pick_search::{refute, settle, show};
 use constraint_set::Problem;
 use dead_pairs::{Hints, Lone, why_dead};
 use point_ladder::{MOST_POINTS, MOST_TRIES};

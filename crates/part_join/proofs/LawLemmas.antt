@@ -9,7 +9,7 @@ use Rattle.world_model.specs.Listing.{is_below, is_before_end}
 use Rattle.world_model.proofs.Members.{IsImage, from_map, in_from_contains, contains_from_in}
 use Rattle.world_model.proofs.OrderPositions.{below_cases}
 use Rattle.world_model.proofs.OrderListings.{one_listing_law}
-use Rattle.part_rules.specs.declared.PartKind.{PartKind}
+use Rattle.cert_rules.specs.declared.parts.PartKind.{PartKind}
 use Rattle.part_join.specs.Parts.{Part, is_covered, IsReach, IsNextBeginning, IsFirstGap}
 use Rattle.part_join.specs.Joining.{part_in, AreParts, IsFirstRefused, IsWhole, HasGap}
 use Rattle.part_join.specs.Laws.{OneJoin}

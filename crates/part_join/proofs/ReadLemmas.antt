@@ -18,7 +18,7 @@ use Rattle.cert_check.specs.declared.accepted.Accepted.{Accepted}
 use Rattle.cert_check.specs.declared.accepted.Accepted.TheVariants.{Listing, Claims}
 use Rattle.cert_check.specs.declared.fault.CheckFault.{CheckFault}
 use Rattle.cert_check.specs.declared.fault.CheckFault.TheVariants as unread
-use Rattle.part_rules.specs.declared.PartKind.{PartKind}
+use Rattle.cert_rules.specs.declared.parts.PartKind.{PartKind}
 use Rattle.part_join.specs.Parts.{Part}
 use Rattle.part_join.specs.Joining.{part_by, part_in, AreParts, IsJoin, MayHoldAll, SomeRose, IfReadFailed, IfReadFault}
 use Rattle.part_join.specs.Reads.{as_part, IsPartOf, IsUnread, IsReadOf}

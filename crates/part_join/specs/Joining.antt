@@ -10,9 +10,9 @@ use Rattle.cert_reader.specs.Bytes.{MayHold, ForSome}
 use Rattle.cert_reader.specs.declared.fault.CertTextKind.{CertTextKind}
 use Rattle.cert_reader.specs.declared.fault.CertTextKind.TheVariants.{BadLine}
 use Rattle.cert_rules.specs.Files.{Answer, Accepts, Rejects, HasFault, Listing, ClaimList}
-use Rattle.part_rules.specs.Certs.{cert_answer}
-use Rattle.part_rules.specs.declared.PartKind.{PartKind}
-use Rattle.part_rules.specs.declared.PartKind.TheVariants.{Text, Rejected}
+use Rattle.cert_rules.specs.Parts.Certs.{cert_answer}
+use Rattle.cert_rules.specs.declared.parts.PartKind.{PartKind}
+use Rattle.cert_rules.specs.declared.parts.PartKind.TheVariants.{Text, Rejected}
 use Rattle.part_join.specs.Parts.{Part, IsReach, IsFirstGap}
 use Rattle.part_join.specs.declared.fault.JoinFault.{JoinFault}
 use Rattle.part_join.specs.declared.fault.JoinFault.TheVariants.{PartRefused, Gap, ReadFault, NoMemory}

@@ -6,7 +6,7 @@ use Rattle.cert_check.specs.declared.accepted.Accepted.{Accepted}
 use Rattle.cert_check.specs.declared.accepted.Accepted.TheVariants.{Listing, Claims}
 use Rattle.cert_check.specs.declared.fault.CheckFault.{CheckFault}
 use Rattle.cert_check.specs.declared.fault.CheckFault.TheVariants as check
-use Rattle.part_rules.specs.declared.PartKind.TheVariants.{Text, Rejected}
+use Rattle.cert_rules.specs.declared.parts.PartKind.TheVariants.{Text, Rejected}
 use Rattle.part_join.specs.Parts.{Part}
 use Rattle.part_join.specs.Joining.{part_in, IsFirstRefused}
 use Rattle.part_join.specs.declared.fault.JoinFault.{JoinFault}

@@ -3,7 +3,7 @@
 ghost use Rattle.std.specs.Prelude.{◌≡◌};
 ghost use Rattle.part_join.specs.declared.fault.JoinFault.TheVariants.{NoMemory};
 
-use part_rules::PartKind;
+use cert_rules::PartKind;
 use rcc5_core::Position;
 use std::alloc::{AllocError, AllocFailed};
 use thiserror::Error;

@@ -11,4 +11,4 @@ mod sweep;
 pub use fault::JoinFault;
 pub use joining::{Joined, join};
 pub use laws::one_join;
-pub use part_rules::PartKind;
+pub use cert_rules::PartKind;

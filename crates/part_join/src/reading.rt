@@ -17,7 +17,7 @@ use cert_check::{Accepted, CheckFault, Checks};
 use cert_reader::CertTextKind;
 use constraint_set::Problem;
 use outer_store::{Store, StoreReader};
-use part_rules::PartKind;
+use cert_rules::PartKind;
 use std::alloc::Global;
 
 // Why the file of a number is no certificate of a part.

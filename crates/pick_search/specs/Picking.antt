@@ -1,7 +1,7 @@
 -- Picks: a relation for a pair, by the pair's place in a list of pairs.
 use Rattle.std.specs.Prelude.{All, Bool, Contains, IsTrue, List, [], ℕ, length, map, slice_index_or, ◌%◌, ◌*◌, ◌+◌, ◌/◌, ◌<◌, ◌==◌, ◌≡◌, ◌≤◌}
 use Rattle.std.specs.List.{range_with_len}
-use Rattle.cert_model.specs.Clauses.{is_not, is_so}
+use Rattle.point_encode.specs.Model.Clauses.{is_not, is_so}
 use Rattle.learn_solver.specs.Solving.{SolverState}
 use Rattle.lits_core.specs.Literals.{meets_all}
 use Rattle.rcc5_core.specs.Relation.{relation_of}

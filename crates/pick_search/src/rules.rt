@@ -1,5 +1,5 @@
 //! What the solver is given: each pair has a relation that it allows, and no clash is picked.
-ghost use Rattle.cert_model.specs.Clauses.{is_so};
+ghost use Rattle.point_encode.specs.Model.Clauses.{is_so};
 ghost use Rattle.lits_core.specs.Literals.{literal_of};
 ghost use Rattle.pick_search.specs.Picking.{AreClashes, IsClash, ArePicksRuled, IsRule, ban_clause, pick_variable};
 ghost use Rattle.rcc5_core.specs.RelationSet.{has};

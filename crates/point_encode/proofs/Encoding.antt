@@ -7,7 +7,7 @@ use Rattle.std.proofs.lemmas.Grind.{flat_map-append}
 use Rattle.std.proofs.lemmas.Option.{get_or_from_slice_get, slice_get_within}
 use Rattle.world_model.specs.Problem.{SumRule}
 use Rattle.constraint_set.proofs.Lists.{range_more}
-use Rattle.cert_model.specs.Clauses.{apart_clause, each_two, pair_clauses, pairs_clauses, sum_clauses, sums_clauses}
+use Rattle.point_encode.specs.Model.Clauses.{apart_clause, each_two, pair_clauses, pairs_clauses, sum_clauses, sums_clauses}
 
 -- one more number is looked at
 pub one_more : {Y : Type 0} (f : ℕ → List Y) (before done more : List Y) (n : ℕ) → more ≡ done ++ f n →

@@ -10,9 +10,9 @@ use Rattle.world_model.specs.Alive.{allowed, problem_at}
 use Rattle.world_model.specs.Node.{pair_at}
 use Rattle.world_model.proofs.Members.{contains_from_in}
 use Rattle.constraint_set.specs.Readers.{sum_places}
-use Rattle.cert_model.specs.Clauses.{is_so}
-use Rattle.cert_model.specs.Forced.{region_number, region_with, selectors_of}
-use Rattle.cert_model.proofs.Selectors.{flag_of, In-region_selectors, In-sum_selectors}
+use Rattle.point_encode.specs.Model.Clauses.{is_so}
+use Rattle.point_encode.specs.Model.Forced.{region_number, region_with, selectors_of}
+use Rattle.point_encode.proofs.model.Selectors.{flag_of, In-region_selectors, In-sum_selectors}
 use Rattle.point_encode.specs.declared.asked.Selector.{Selector}
 use Rattle.point_encode.specs.declared.asked.Selector.TheVariants.{Empty, Kept}
 use Rattle.point_encode.specs.Selectors.{IsSelector, selector_lit}

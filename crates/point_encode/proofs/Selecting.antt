@@ -8,8 +8,8 @@ use Rattle.rcc5_core.specs.Region.{forced_regions}
 use Rattle.world_model.specs.Problem.{Problem, pairs, pair_count}
 use Rattle.world_model.specs.Alive.{allowed, forced_of, problem_at}
 use Rattle.world_model.specs.Node.{pair_at}
-use Rattle.cert_model.specs.Clauses.{is_so}
-use Rattle.cert_model.specs.Forced.{pair_selectors, region_selectors, sum_selectors}
+use Rattle.point_encode.specs.Model.Clauses.{is_so}
+use Rattle.point_encode.specs.Model.Forced.{pair_selectors, region_selectors, sum_selectors}
 
 -- one more pair is looked at
 pub pair_selected : (p : Problem) (m : List Rel) (done more all : List ℕ) (first k : ℕ) → k < pair_count p →

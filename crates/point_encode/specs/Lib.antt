@@ -1,3 +1,4 @@
 pub mod Needs
 pub mod Numbers
 pub mod Selectors
+pub mod Model

@@ -3,7 +3,7 @@ use Rattle.std.specs.Prelude.{ℕ, ◌+◌, ◌*◌, ◌<◌, List, ◌∷◌, [
 use Rattle.world_model.specs.Problem.{Problem, concept_count, pair_count}
 use Rattle.world_model.specs.Node.{pair_at}
 use Rattle.world_model.specs.Alive.{InRegion, InConcept}
-use Rattle.cert_model.specs.Forced.{region_with}
+use Rattle.point_encode.specs.Model.Forced.{region_with}
 use Rattle.point_encode.specs.declared.need.Need.{Need}
 use Rattle.point_encode.specs.declared.need.Need.TheVariants.{Region, Concept}
 

@@ -1,5 +1,5 @@
 -- The needs of a problem by their numbers, and points that serve them.
-use Rattle.cert_model.specs.Forced.{need_at, region_with}
+use Rattle.point_encode.specs.Model.Forced.{need_at, region_with}
 use Rattle.point_encode.specs.declared.numbers.Wanted.{Wanted}
 use Rattle.point_encode.specs.declared.numbers.Wanted.TheVariants.{Concept, Region}
 use Rattle.rcc5_core.specs.Region.{same_word, word_at}

@@ -2,7 +2,7 @@
 use Rattle.std.specs.Prelude.{ℕ, ◌+◌, ◌*◌, ◌<◌, length}
 use Rattle.world_model.specs.Problem.{Problem, concept_count, pair_count}
 use Rattle.constraint_set.specs.Readers.{sum_places}
-use Rattle.cert_model.specs.Clauses.{first_sum_selector, is_so}
+use Rattle.point_encode.specs.Model.Clauses.{first_sum_selector, is_so}
 use Rattle.point_encode.specs.declared.asked.Selector.{Selector}
 use Rattle.point_encode.specs.declared.asked.Selector.TheVariants.{Empty, Kept}
 

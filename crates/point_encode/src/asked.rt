@@ -1,5 +1,5 @@
 //! What must be true of a point in a need: the literals of the need, and the selectors.
-ghost use Rattle.cert_model.specs.Forced.{asked_of, need_lits, region_with, selectors_of};
+ghost use Rattle.point_encode.specs.Model.Forced.{asked_of, need_lits, region_with, selectors_of};
 ghost use Rattle.constraint_set.specs.Readers.{sum_places};
 ghost use Rattle.point_encode.specs.Needs.{IsInRange, lits_there, need_seen};
 ghost use Rattle.point_encode.specs.Selectors.{IsSelector, selector_lit};

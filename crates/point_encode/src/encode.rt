@@ -2,7 +2,7 @@
 ghost use Rattle.std.specs.Prelude.{◌≡◌, ◌+◌, ◌<◌, ◌≤◌, ◌==◌, [], ◌∷◌, ◌++◌, length, map, flat_map, if◌then◌else◌, All, IfOk, OnOk};
 ghost use Rattle.world_model.specs.Problem.{concept_count, concepts, children_of, pairs};
 ghost use Rattle.constraint_set.specs.Readers.{all_sums};
-ghost use Rattle.cert_model.specs.Clauses.{is_so, is_not, within_clauses, each_two, apart_clause, covered_clause, first_sum_selector, given_clauses, pair_clauses, pairs_clauses, sum_clauses, sums_clauses};
+ghost use Rattle.point_encode.specs.Model.Clauses.{is_so, is_not, within_clauses, each_two, apart_clause, covered_clause, first_sum_selector, given_clauses, pair_clauses, pairs_clauses, sum_clauses, sums_clauses};
 
 use crate::variables::{
     MAX_SUM_START, MAX_VARIABLES, children_of, concept_count, first_selector, is_not, is_so,

@@ -3,6 +3,7 @@
 
 mod asked;
 mod encode;
+mod model;
 mod need;
 mod numbers;
 mod select;
@@ -10,6 +11,7 @@ mod variables;
 
 pub use asked::{Selector, is_asked, is_empty, is_need_lit, is_sum_kept, selector_of};
 pub use encode::given_clauses;
+pub use model::{clauses_are_points, needs_are_literals, one_shape_one_list};
 pub use need::{Need, is_forced, need_lits, needs_of};
 pub use numbers::{
     Wanted, by_concepts, count_needs, count_pairs, is_in, lies_in, need_at, need_number, need_of,

@@ -5,7 +5,7 @@ ghost use Rattle.rcc5_core.specs.Region.{all_regions, word_at, same_word};
 ghost use Rattle.world_model.specs.Problem.{concepts, pair_count};
 ghost use Rattle.world_model.specs.Node.{pair_at};
 ghost use Rattle.world_model.specs.Alive.{InConcept, needs, needs_at, problem_at};
-ghost use Rattle.cert_model.specs.Forced.{need_lits, region_with};
+ghost use Rattle.point_encode.specs.Model.Forced.{need_lits, region_with};
 ghost use Rattle.point_encode.specs.Needs.{need_seen, lits_there, IsInRange};
 
 use crate::select::forced_at;

@@ -1,5 +1,5 @@
 //! The needs of a problem by their numbers, and the regions that they speak of.
-ghost use Rattle.cert_model.specs.Forced.{need_at, need_count, need_with, region_with};
+ghost use Rattle.point_encode.specs.Model.Forced.{need_at, need_count, need_with, region_with};
 ghost use Rattle.point_encode.specs.Needs.{IsInRange, need_number, need_seen};
 ghost use Rattle.point_encode.specs.Numbers.{IsBelow, wanted_seen};
 ghost use Rattle.rcc5_core.specs.Region.{word_at};

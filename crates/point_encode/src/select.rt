@@ -5,8 +5,8 @@ ghost use Rattle.world_model.specs.Problem.{pair_count};
 ghost use Rattle.world_model.specs.Alive.{allowed, problem_at};
 ghost use Rattle.world_model.specs.Node.{pair_at};
 ghost use Rattle.constraint_set.specs.Readers.{sum_places};
-ghost use Rattle.cert_model.specs.Clauses.{first_sum_selector};
-ghost use Rattle.cert_model.specs.Forced.{pair_selectors, selectors_of, sum_selectors};
+ghost use Rattle.point_encode.specs.Model.Clauses.{first_sum_selector};
+ghost use Rattle.point_encode.specs.Model.Forced.{pair_selectors, selectors_of, sum_selectors};
 
 use crate::variables::{MAX_SUM_START, first_selector, is_so, sum_count};
 use constraint_set::Problem;

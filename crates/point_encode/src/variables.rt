@@ -3,7 +3,7 @@ ghost use Rattle.std.specs.Prelude.{◌≡◌, ◌+◌, ◌*◌, ◌<◌, ◌≤
 ghost use Rattle.lits_core.specs.Literals.{literal_of};
 ghost use Rattle.world_model.specs.Problem.{concept_count, parent_of, children_of, pair_count};
 ghost use Rattle.constraint_set.specs.Readers.{all_sums, sum_places};
-ghost use Rattle.cert_model.specs.Clauses.{first_sum_selector, is_not, is_so, variable_count};
+ghost use Rattle.point_encode.specs.Model.Clauses.{first_sum_selector, is_not, is_so, variable_count};
 
 use constraint_set::{MAX_ARTICULATIONS, MAX_CONCEPTS, MAX_PAIRS, Problem};
 use lits_core::Lit;

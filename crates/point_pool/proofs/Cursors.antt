@@ -12,7 +12,7 @@ use Rattle.rcc5_core.specs.Region.{forced_regions, row_of, word_at, same_word}
 use Rattle.world_model.specs.Problem.{Problem, pair_count, concept_count}
 use Rattle.world_model.specs.Node.{pair_at}
 use Rattle.world_model.specs.Alive.{allowed, problem_at}
-use Rattle.cert_model.specs.Forced.{region_with, pair_selectors}
+use Rattle.point_encode.specs.Model.Forced.{region_with, pair_selectors}
 use Rattle.world_model.specs.Laws.{PositionsNarrow}
 use Rattle.point_pool.specs.Cursors.{IsOpen, AreForced, IsCursor, start_selectors, kept_selectors, path_selectors}
 use Rattle.world_model.specs.Points.{forced_at}

@@ -11,7 +11,7 @@ use Rattle.world_model.specs.Alive.{Need, is_point, is_in_need, each_has_one, pr
 use Rattle.world_model.proofs.Members.{In, any_from, in_from_contains}
 use Rattle.point_pool.specs.declared.pool.Pool.{Pool}
 use Rattle.point_encode.specs.Numbers.{AreServing, is_needed, needs_below}
-use Rattle.cert_model.specs.Forced.{need_at, need_count}
+use Rattle.point_encode.specs.Model.Forced.{need_at, need_count}
 use Rattle.point_pool.specs.Pools.{IsPool, AreGathered}
 use Rattle.point_pool.proofs.Settling.{served_now}
 use Rattle.point_pool.proofs.Numbering.{needs_more}

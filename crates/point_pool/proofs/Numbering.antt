@@ -14,7 +14,7 @@ use Rattle.world_model.specs.Node.{pair_at}
 use Rattle.world_model.specs.Alive.{Need, InRegion, InConcept, allowed, forced_of, needs_at, needs}
 use Rattle.world_model.proofs.Members.{In, here, there, none_in, In-flat_map, from_flat_map, In-range, from_range, IsOf}
 use Rattle.constraint_set.proofs.Lists.{range_split, range_more}
-use Rattle.cert_model.specs.Forced.{region_with, need_at, need_count}
+use Rattle.point_encode.specs.Model.Forced.{region_with, need_at, need_count}
 use Rattle.world_model.specs.Points.{forced_at}
 use Rattle.point_encode.specs.Numbers.{is_needed, one_need, needs_below}
 use Rattle.point_pool.proofs.Prefixes.{needed_by, needed_past}

@@ -14,13 +14,13 @@ use Rattle.world_model.specs.Laws.{PositionsNarrow}
 use Rattle.rcc5_core.specs.Region.{row_of}
 use Rattle.constraint_set.specs.Shape.{shape_of}
 use Rattle.point_draft.specs.declared.drafts.Drafts.{Drafts}
-use Rattle.point_places.specs.Places.{PlaceState, IsUsed}
-use Rattle.point_places.specs.Places as rows
+use Rattle.point_table.specs.Places.Places.{PlaceState, IsUsed}
+use Rattle.point_table.specs.Places.Places as rows
 use Rattle.point_pool.specs.declared.pool.Pool.{Pool}
 use Rattle.point_pool.specs.declared.waiting.Numbers.{Numbers}
 use Rattle.point_pool.specs.Cursors.{CursorState, IsOpen}
 use Rattle.point_encode.specs.Numbers.{is_needed}
-use Rattle.cert_model.specs.Forced.{need_at, need_count}
+use Rattle.point_encode.specs.Model.Forced.{need_at, need_count}
 use Rattle.point_pool.specs.Pools.{served_at, ArePooled, AllAvoid, IsPlaceOf, IsListed, IsFit, IsWitness, FitsNeed, HasWitness, IsAdded, IsKept, IsNeeded, IsPool, IsPoolBut, StrikesOut, IsStriking}
 use Rattle.point_pool.proofs.Prefixes.{point_more, point_later, needed_later, needed_before}
 

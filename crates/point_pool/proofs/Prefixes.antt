@@ -17,7 +17,7 @@ use Rattle.world_model.specs.Laws.{PositionsNarrow}
 use Rattle.world_model.proofs.Members.{In, all_at, In-get_or, place_of, IsPlaced}
 use Rattle.world_model.proofs.PointSets.{Forces, forces_inside, In-all_regions}
 use Rattle.world_model.proofs.PointAlive.{Pointed, point_parts, point_whole}
-use Rattle.cert_model.specs.Forced.{region_with}
+use Rattle.point_encode.specs.Model.Forced.{region_with}
 use Rattle.point_pool.specs.Cursors.{IsOpen}
 use Rattle.world_model.specs.Points.{forced_at}
 use Rattle.point_encode.specs.Numbers.{is_needed}

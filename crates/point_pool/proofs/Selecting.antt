@@ -18,8 +18,8 @@ use Rattle.world_model.proofs.Members.{In, none_in, In-map, from_map, In-filter,
 use Rattle.world_model.proofs.PointSets.{Forces}
 use Rattle.constraint_set.specs.Readers.{sum_places}
 use Rattle.constraint_set.proofs.Lists.{range_more}
-use Rattle.cert_model.specs.Clauses.{is_so, first_sum_selector}
-use Rattle.cert_model.specs.Forced.{region_number, region_selectors, sum_selectors, selectors_of, pair_selectors}
+use Rattle.point_encode.specs.Model.Clauses.{is_so, first_sum_selector}
+use Rattle.point_encode.specs.Model.Forced.{region_number, region_selectors, sum_selectors, selectors_of, pair_selectors}
 use Rattle.point_pool.specs.Cursors.{IsOpen, kept_selector, start_selectors, kept_selectors, path_selectors, AreSelectors}
 use Rattle.world_model.specs.Points.{forced_at}
 use Rattle.point_pool.proofs.Prefixes.{forced_later}

@@ -8,7 +8,7 @@ use Rattle.world_model.specs.Problem.{Problem, pair_count}
 use Rattle.world_model.specs.Node.{pair_at}
 use Rattle.world_model.specs.Alive.{InRegion, InConcept, all_allow, needs, problem_at, HasPoint, IsAlive, point_at}
 use Rattle.world_model.proofs.Members.{In, none_in, in_from_contains}
-use Rattle.cert_model.specs.Forced.{region_with, IsNeed, need_at, need_count}
+use Rattle.point_encode.specs.Model.Forced.{region_with, IsNeed, need_at, need_count}
 use Rattle.point_encode.specs.declared.need.Need as code
 use Rattle.point_encode.specs.declared.need.Need.TheVariants.{Region, Concept}
 use Rattle.point_encode.specs.Needs.{need_seen, IsInRange, need_number}

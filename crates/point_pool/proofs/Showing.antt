@@ -4,7 +4,7 @@ use Rattle.std.specs.Prelude.{IsTrue, ◌==◌}
 use Rattle.std.proofs.lemmas.Bool.{and_from, and_parts, cases_eq, cases_lt, false≢true, false_from_ne_true, lt-ltb}
 use Rattle.std.proofs.lemmas.List.{length-append, get_or_push}
 use Rattle.bit_rows.specs.Rows.{has_bit}
-use Rattle.cert_model.specs.Forced.{need_at, need_count, region_with}
+use Rattle.point_encode.specs.Model.Forced.{need_at, need_count, region_with}
 use Rattle.rcc5_core.specs.Region.{row_of, same_word, word_at}
 use Rattle.rcc5_core.specs.RelationSet.{has, is_empty_set}
 use Rattle.rcc5_core.specs.declared.Occupancy.{Occupancy}
@@ -13,7 +13,7 @@ use Rattle.rcc5_core.specs.declared.Regions.{Regions}
 use Rattle.rcc5_core.specs.declared.Rel.{Rel}
 use Rattle.rcc5_core.specs.declared.Rel.TheVariants.{Equals}
 use Rattle.point_encode.specs.Numbers.{is_needed}
-use Rattle.point_places.specs.Places.{PlaceState, meets, are_as, shows_at}
+use Rattle.point_table.specs.Places.Places.{PlaceState, meets, are_as, shows_at}
 use Rattle.world_model.specs.Alive.{InConcept, InRegion, HasPoint, IsAlive, all_allow, allowed, avoids, bit_of, is_in_need, is_point, lies_by, lies_in, needs, point_at, problem_at}
 use Rattle.world_model.specs.Laws.{PositionsNarrow}
 use Rattle.world_model.specs.Node.{pair_at}

@@ -10,13 +10,13 @@ use Rattle.rcc5_core.specs.declared.Occupancy.TheVariants.{Empty, Occupied, Free
 use Rattle.rcc5_core.specs.declared.Region.{Region}
 use Rattle.rcc5_core.specs.declared.Region.TheVariants.{LeftOnly, Both, RightOnly}
 use Rattle.rcc5_core.specs.declared.Regions.{Regions}
-use Rattle.cert_model.specs.Forced.{region_with}
+use Rattle.point_encode.specs.Model.Forced.{region_with}
 use Rattle.world_model.specs.Problem.{Problem, pairs, pair_count, kept_sums}
 use Rattle.world_model.specs.Node.{pair_at}
 use Rattle.world_model.specs.Alive.{forced_pairs, allowed, bit_of, avoids, avoids_by, lies_by, point_sums, is_point, point_at, meets_trees}
 use Rattle.constraint_set.proofs.PointTests.{forced_avoids}
 use Rattle.world_model.specs.Points.{forced_at, avoids_at}
-use Rattle.point_places.specs.Places.{PlaceState, IsNextMet, IsStruck, AreStruck}
+use Rattle.point_table.specs.Places.Places.{PlaceState, IsNextMet, IsStruck, AreStruck}
 use Rattle.point_pool.specs.Pools.{AllAvoid, CellAvoids, IsFewer}
 
 -- bits that meet the trees, the sums and the pairs are a point

@@ -1,6 +1,6 @@
 -- A prefix of a problem each of whose pairs allows its relation, and what is forced of each pair there.
-use Rattle.cert_model.specs.Clauses.{first_sum_selector, is_so}
-use Rattle.cert_model.specs.Forced.{pair_selectors, selectors_of}
+use Rattle.point_encode.specs.Model.Clauses.{first_sum_selector, is_so}
+use Rattle.point_encode.specs.Model.Forced.{pair_selectors, selectors_of}
 use Rattle.constraint_set.specs.Readers.{sum_places}
 use Rattle.world_model.specs.Points.{forced_at}
 use Rattle.rcc5_core.specs.RelationSet.{has, is_empty_set}

@@ -1,8 +1,8 @@
 -- Points that were found, at a prefix: which of them are points of it, and which needs they serve.
 use Rattle.bit_rows.specs.Rows.{has_bit}
-use Rattle.cert_model.specs.Forced.{need_at, need_count, region_with}
+use Rattle.point_encode.specs.Model.Forced.{need_at, need_count, region_with}
 use Rattle.point_encode.specs.Numbers.{AreServing, is_needed, needs_below}
-use Rattle.point_places.specs.Places.{IsStruck, PlaceState}
+use Rattle.point_table.specs.Places.Places.{IsStruck, PlaceState}
 use Rattle.point_pool.specs.declared.pool.Pool.{Pool}
 use Rattle.rcc5_core.specs.Region.{row_of, word_at}
 use Rattle.rcc5_core.specs.declared.Occupancy.TheVariants.{Empty, Occupied}

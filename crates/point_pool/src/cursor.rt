@@ -1,5 +1,5 @@
 //! A prefix of a problem, with what is forced of each pair there.
-ghost use Rattle.cert_model.specs.Forced.{pair_selectors};
+ghost use Rattle.point_encode.specs.Model.Forced.{pair_selectors};
 ghost use Rattle.point_pool.specs.Cursors.{AreForced, AreSelectors, IsEmptyPair, IsOpen};
 ghost use Rattle.world_model.specs.Points.{forced_at};
 ghost use Rattle.point_encode.specs.Numbers.{is_needed};

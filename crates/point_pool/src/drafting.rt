@@ -1,6 +1,6 @@
 //! What is drafted for a need at the prefix.
 ghost use Rattle.point_pool.specs.Drafted.{AvoidsPair, AvoidsPairsOf};
-ghost use Rattle.cert_model.specs.Forced.{need_at, need_count};
+ghost use Rattle.point_encode.specs.Model.Forced.{need_at, need_count};
 ghost use Rattle.point_pool.specs.Pools.{HasWitness, IsPool, IsPoolBut};
 ghost use Rattle.std.specs.Prelude.{IfOk, IsTrue, OnOk, length, true, ℕ, ◌+◌, ◌<◌, ◌≡◌};
 ghost use Rattle.world_model.specs.Alive.{bit_of, is_in_need, is_point, problem_at};

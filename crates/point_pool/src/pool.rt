@@ -2,7 +2,7 @@
 ghost use Rattle.constraint_set.specs.Shape.{SameShape};
 ghost use Rattle.point_pool.specs.Cursors.{IsEmptyPair};
 ghost use Rattle.point_encode.specs.Numbers.{is_needed};
-ghost use Rattle.cert_model.specs.Forced.{need_count};
+ghost use Rattle.point_encode.specs.Model.Forced.{need_count};
 ghost use Rattle.bit_rows.specs.Rows.{has_bit};
 ghost use Rattle.point_pool.specs.Pools.{IsKept, IsListed, IsPlaceOf, IsPool, IsPoolAt};
 ghost use Rattle.rcc5_core.specs.RelationSet.{has};
@@ -20,7 +20,7 @@ use constraint_set::Problem;
 use lits_core::Bits;
 use point_draft::Drafts;
 use point_encode::count_needs;
-use point_places::Places;
+use point_table::Places;
 use rcc5_core::{Position, Rel, RelSet};
 use std::alloc::{AllocError, Global};
 use std::mem;

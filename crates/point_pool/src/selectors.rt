@@ -1,5 +1,5 @@
 //! The selectors that a problem and the relations of a prefix make true.
-ghost use Rattle.cert_model.specs.Forced.{pair_selectors};
+ghost use Rattle.point_encode.specs.Model.Forced.{pair_selectors};
 ghost use Rattle.constraint_set.specs.Readers.{sum_places};
 ghost use Rattle.point_pool.specs.Cursors.{AreForced, kept_selector, kept_selectors, start_selectors};
 ghost use Rattle.std.specs.Prelude.{IfOk, OnOk, length, ◌*◌, ◌++◌, ◌+◌, ◌<◌, ◌≡◌};

@@ -12,8 +12,7 @@ use crate::copies::copy;
 use crate::cursor::Cursor;
 use constraint_set::{Articulation, Problem};
 use lits_core::Bits;
-use point_places::Places;
-use point_table::avoids_by;
+use point_table::{Places, avoids_by};
 use rcc5_core::Regions;
 use std::alloc::{AllocError, Global};
 

@@ -1,7 +1,7 @@
 //! What one more relation strikes out, and the needs that it adds.
-ghost use Rattle.cert_model.specs.Forced.{need_count};
+ghost use Rattle.point_encode.specs.Model.Forced.{need_count};
 ghost use Rattle.bit_rows.specs.Rows.{has_bit};
-ghost use Rattle.point_places.specs.Places.{IsStruck};
+ghost use Rattle.point_table.specs.Places.Places.{IsStruck};
 ghost use Rattle.point_pool.specs.Pools.{AllAvoid, CellAvoids, IsFewer, IsPool, IsPoolBut, IsStriking, StrikesOut};
 ghost use Rattle.std.specs.Prelude.{OnOk, length, true, ◌*◌, ◌+◌, ◌<◌, ◌≡◌};
 ghost use Rattle.world_model.specs.Node.{pair_at};

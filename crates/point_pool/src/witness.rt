@@ -1,7 +1,7 @@
 //! The points that serve the needs.
 ghost use Rattle.bit_rows.specs.Rows.{has_bit};
 ghost use Rattle.point_encode.specs.Numbers.{AreServing, EachServed, IsBelow, needs_below, wanted_seen};
-ghost use Rattle.cert_model.specs.Forced.{need_at, need_count};
+ghost use Rattle.point_encode.specs.Model.Forced.{need_at, need_count};
 ghost use Rattle.point_pool.specs.Pools.{AreGathered, FitsNeed, HasWitness, IsAdded, IsFit, IsKept, IsPool, IsPoolBut, served_at};
 ghost use Rattle.std.specs.Prelude.{Contains, IfOk, IfSome, IsTrue, OnOk, [], length, true, ℕ, ◌+◌, ◌<◌, ◌≡◌};
 ghost use Rattle.world_model.specs.Alive.{is_in_need, is_point, needs, problem_at};

@@ -9,7 +9,7 @@ use Rattle.world_model.specs.Alive.{Need, all_allow, needs, problem_at, HasPoint
 use Rattle.world_model.proofs.Members.{in_from_contains}
 use Rattle.point_pool.specs.declared.pool.Pool.{Pool}
 use Rattle.point_encode.specs.Numbers.{EachServed, needs_below}
-use Rattle.cert_model.specs.Forced.{need_at}
+use Rattle.point_encode.specs.Model.Forced.{need_at}
 use Rattle.point_query.specs.Answers.{IsServed, IsFirstClosed}
 use Rattle.point_query.specs.Queries.{asker_with}
 use Rattle.point_query.specs.Closing.{IsFirstStuck}

@@ -7,7 +7,7 @@ use Rattle.rcc5_core.specs.declared.Rel.{Rel}
 use Rattle.rcc5_core.specs.declared.Rel.TheVariants.{Equals}
 use Rattle.rcc5_core.specs.Region.{row_of, same_word, word_at}
 use Rattle.rcc5_core.specs.RelationSet.{has}
-use Rattle.cert_model.specs.Forced.{region_with, need_at}
+use Rattle.point_encode.specs.Model.Forced.{region_with, need_at}
 use Rattle.world_model.specs.Alive.{HasPoint, IsAlive, allowed, is_point, problem_at}
 use Rattle.world_model.specs.Laws.{PositionsNarrow}
 use Rattle.world_model.specs.Node.{pair_at}

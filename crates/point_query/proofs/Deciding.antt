@@ -10,7 +10,7 @@ use Rattle.world_model.specs.Alive.{Need, allowed, needs, problem_at, HasPoint, 
 use Rattle.world_model.proofs.Members.{here, In-right, contains_from_in, all_at, In-get_or}
 use Rattle.point_query.specs.Asking.{AskerState}
 use Rattle.point_encode.specs.Numbers.{is_needed}
-use Rattle.cert_model.specs.Forced.{need_at, need_count}
+use Rattle.point_encode.specs.Model.Forced.{need_at, need_count}
 use Rattle.point_pool.specs.declared.pool.Pool.{Pool}
 use Rattle.point_pool.specs.Pools.{IsPool, IsPoolBut}
 use Rattle.point_pool.proofs.Numbering.{need_in}

@@ -19,9 +19,9 @@ use Rattle.world_model.specs.Alive.{Need, is_point, is_in_need, problem_at}
 use Rattle.world_model.proofs.Members.{all_at, all_from, in_from_contains, contains_from_in}
 use Rattle.constraint_set.specs.Facts.{IsBuilt}
 use Rattle.constraint_set.specs.Shape.{shape_of, SameShape}
-use Rattle.cert_model.specs.Clauses.{given_clauses, variable_count}
-use Rattle.cert_model.specs.Forced.{selectors_of, need_lits, asked_of, IsClosedAt, IsNeed}
-use Rattle.cert_model.specs.Laws.{ClausesArePoints, NeedsAreLiterals, Extends}
+use Rattle.point_encode.specs.Model.Clauses.{given_clauses, variable_count}
+use Rattle.point_encode.specs.Model.Forced.{selectors_of, need_lits, asked_of, IsClosedAt, IsNeed}
+use Rattle.point_encode.specs.Model.Laws.{ClausesArePoints, NeedsAreLiterals, Extends}
 use Rattle.point_query.specs.Asking.{AskerState, AskerGoes}
 use Rattle.point_query.specs.Answers.{IsClosed}
 use Rattle.point_query.specs.Queries.{IsSolverOf, KeepsSolver, asker_with}

@@ -15,7 +15,7 @@ use Rattle.world_model.proofs.PointPairs.{concept_below, from_pairs}
 use Rattle.constraint_set.specs.Facts.{IsBuilt}
 use Rattle.constraint_set.specs.Readers.{all_sums}
 use Rattle.watch_arena.specs.Trails.{AreInRange}
-use Rattle.cert_model.specs.Clauses.{is_so, is_not, within_clause, within_clauses, each_two, apart_clause, apart_clauses, covered_clause, covered_clauses, pair_clauses, pairs_clauses, sum_clauses, sums_clauses, first_sum_selector, given_clauses, variable_count}
+use Rattle.point_encode.specs.Model.Clauses.{is_so, is_not, within_clause, within_clauses, each_two, apart_clause, apart_clauses, covered_clause, covered_clauses, pair_clauses, pairs_clauses, sum_clauses, sums_clauses, first_sum_selector, given_clauses, variable_count}
 
 -- the literals of a clause are of variables below v, and those of several clauses
 abbrev IsBelow : ℕ → List ℕ → Type 0

@@ -4,7 +4,7 @@ use Rattle.rcc5_core.specs.declared.Rel.{Rel}
 use Rattle.lits_core.specs.Derivation.{live_clause}
 use Rattle.world_model.specs.Problem.{Problem}
 use Rattle.world_model.specs.Alive.{Need, all_allow, needs, problem_at, is_point, is_in_need, HasPoint, IsAlive, serves}
-use Rattle.cert_model.specs.Forced.{IsClosedAt}
+use Rattle.point_encode.specs.Model.Forced.{IsClosedAt}
 use Rattle.point_encode.specs.Needs.{need_seen, IsInRange}
 use Rattle.point_query.specs.declared.answers.Found.{Found}
 use Rattle.point_query.specs.declared.answers.Found.TheVariants.{Point, Closed}

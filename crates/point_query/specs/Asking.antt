@@ -3,7 +3,7 @@ use Rattle.std.specs.Prelude.{◌≡◌, []}
 use Rattle.lits_core.specs.Derivation.{first_state, SameGiven, SameState}
 use Rattle.world_model.specs.Problem.{Problem}
 use Rattle.constraint_set.specs.Shape.{shape_of}
-use Rattle.cert_model.specs.Clauses.{given_clauses, variable_count}
+use Rattle.point_encode.specs.Model.Clauses.{given_clauses, variable_count}
 use Rattle.learn_solver.specs.Solving.{SolverState, GoesTo, IsSolver}
 
 -- the shape of the problems that it may be asked about, and its solver

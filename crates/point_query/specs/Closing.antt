@@ -7,7 +7,7 @@ use Rattle.point_pool.specs.declared.pool.Pool.{Pool}
 use Rattle.learn_solver.specs.Solving.{SolverState}
 use Rattle.point_query.specs.Answers.{IsClosed}
 use Rattle.point_encode.specs.Numbers.{is_needed}
-use Rattle.cert_model.specs.Forced.{need_count, need_at}
+use Rattle.point_encode.specs.Model.Forced.{need_count, need_at}
 use Rattle.point_pool.specs.Pools.{IsPool, IsPoolBut}
 use Rattle.point_query.specs.Queries.{IsSolverOf, asker_with}
 

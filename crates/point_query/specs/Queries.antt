@@ -7,7 +7,7 @@ use Rattle.lits_core.specs.Derivation.{SameGiven}
 use Rattle.world_model.specs.Problem.{Problem}
 use Rattle.world_model.specs.Alive.{IsAlive, is_point, problem_at}
 use Rattle.constraint_set.specs.Shape.{shape_of}
-use Rattle.cert_model.specs.Clauses.{given_clauses, variable_count}
+use Rattle.point_encode.specs.Model.Clauses.{given_clauses, variable_count}
 use Rattle.learn_solver.specs.Solving.{SolverState, GoesTo}
 use Rattle.point_query.specs.Asking.{AskerState}
 

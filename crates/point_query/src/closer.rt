@@ -1,5 +1,5 @@
 //! The solver of an asker, with the clauses that closed needs before.
-ghost use Rattle.cert_model.specs.Forced.{IsClosedAt, need_at, need_count};
+ghost use Rattle.point_encode.specs.Model.Forced.{IsClosedAt, need_at, need_count};
 ghost use Rattle.learn_solver.specs.Solving.{GoesTo, IsSolver, IsTidied};
 ghost use Rattle.lits_core.specs.Derivation.{live_clause};
 ghost use Rattle.point_encode.specs.Needs.{IsInRange, need_seen};
@@ -14,12 +14,11 @@ use crate::closes::closes;
 use crate::closings::{Closings, forget_idle};
 use crate::drafted::add_steps;
 use crate::question::query;
-use cert_model::{clauses_are_points, needs_are_literals};
+use point_encode::{Need, clauses_are_points, count_needs, need_at, needs_are_literals, selectors_of};
 use constraint_set::Problem;
 use learn_solver::Solver;
 use lits_core::{Line, Lit, law_literals_are_sets};
 use point_draft::Draft;
-use point_encode::{Need, count_needs, need_at, selectors_of};
 use point_pool::Cursor;
 use rcc5_core::Position;
 use std::alloc::{AllocError, Global};

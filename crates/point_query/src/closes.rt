@@ -1,5 +1,5 @@
 //! Whether a clause closes a need: its literals are read.
-ghost use Rattle.cert_model.specs.Forced.{IsClosedAt, asked_of, need_at, need_count, selectors_of};
+ghost use Rattle.point_encode.specs.Model.Forced.{IsClosedAt, asked_of, need_at, need_count, selectors_of};
 ghost use Rattle.lits_core.specs.Derivation.{live_clause};
 ghost use Rattle.std.specs.Prelude.{Contains, IsTrue, MatchOption, ◌<◌, ◌≡◌};
 

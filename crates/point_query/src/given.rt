@@ -1,5 +1,5 @@
 //! A solver over the given clauses of a problem.
-ghost use Rattle.cert_model.specs.Clauses.{given_clauses, variable_count};
+ghost use Rattle.point_encode.specs.Model.Clauses.{given_clauses, variable_count};
 ghost use Rattle.lits_core.specs.Derivation.{SameState, first_state};
 ghost use Rattle.point_query.specs.Asking.{IsNewAsker};
 ghost use Rattle.point_query.specs.Queries.{asker_with};

@@ -1,5 +1,5 @@
 //! Asking the solver for one point.
-ghost use Rattle.cert_model.specs.Forced.{need_lits};
+ghost use Rattle.point_encode.specs.Model.Forced.{need_lits};
 ghost use Rattle.point_encode.specs.Needs.{IsInRange, lits_there, need_seen};
 ghost use Rattle.point_pool.specs.Cursors.{AreSelectors};
 ghost use Rattle.point_query.specs.Answers.{IsFound};
@@ -7,11 +7,10 @@ ghost use Rattle.point_query.specs.Queries.{IsSolverOf, KeepsSolver, asker_with}
 ghost use Rattle.std.specs.Prelude.{IfOk, None, OnOk, ◌++◌, ◌+◌, ◌≡◌};
 
 use crate::answers::Found;
-use cert_model::{clauses_are_points, needs_are_literals};
+use point_encode::{Need, clauses_are_points, need_lits, needs_are_literals};
 use constraint_set::Problem;
 use learn_solver::{Answer, Solver};
 use lits_core::{Lit, law_derived_clauses_follow, law_literals_are_sets};
-use point_encode::{Need, need_lits};
 use point_pool::front;
 use rcc5_core::Rel;
 use std::alloc::{AllocError, Global};

@@ -1,5 +1,5 @@
 //! Sees to it that the needs of a pool's prefix have points.
-ghost use Rattle.cert_model.specs.Forced.{need_count};
+ghost use Rattle.point_encode.specs.Model.Forced.{need_count};
 ghost use Rattle.point_pool.specs.Pools.{HasWitness, IsPool, IsPoolBut};
 ghost use Rattle.point_query.specs.Closing.{IsClosedNow, IsFirstStuck, IsStuck};
 ghost use Rattle.point_query.specs.Queries.{IsSolverOf, KeepsSolver};

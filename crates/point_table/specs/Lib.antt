@@ -1,3 +1,4 @@
 pub mod Points
 pub mod Growing
 pub mod Table
+pub mod Places

@@ -4,11 +4,11 @@ use Rattle.std.specs.Prelude.{nat_lt, nat_le, if◌then◌else◌, not, ok_or, o
 use Rattle.std.proofs.lemmas.Bool.{ltb-true, lt-ltb, ltb-false, leb-true}
 use Rattle.rcc5_core.specs.declared.Rel.{Rel}
 use Rattle.world_model.specs.Problem.{Problem, pair_count}
-use Rattle.resume_token.specs.declared.TokenKind.{TokenKind}
-use Rattle.resume_token.specs.declared.TokenKind.TheVariants.{OtherProblem, BadPosition}
-use Rattle.resume_token.specs.declared.TokenFault.{TokenFault}
-use Rattle.resume_token.specs.Contents as token
-use Rattle.resume_token.specs.Token.{position_in, position_for, are_of, contents_result, token_result, kind_of}
+use Rattle.run_ends.specs.declared.token.TokenKind.{TokenKind}
+use Rattle.run_ends.specs.declared.token.TokenKind.TheVariants.{OtherProblem, BadPosition}
+use Rattle.run_ends.specs.declared.token.TokenFault.{TokenFault}
+use Rattle.run_ends.specs.Token.Contents as token
+use Rattle.run_ends.specs.Token.Token.{position_in, position_for, are_of, contents_result, token_result, kind_of}
 use Rattle.run_ends.specs.declared.Status.{Status}
 use Rattle.run_ends.specs.declared.Status.TheVariants.{RefusedToken}
 use Rattle.run_ends.specs.Runs.{Answered, ending_of}

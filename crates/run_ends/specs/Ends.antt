@@ -7,14 +7,14 @@ use Rattle.outer_store.specs.Faults.{Rose}
 use Rattle.outer_store.specs.States.{SinkState}
 use Rattle.cleantax_text.specs.declared.TextKind.{TextKind}
 use Rattle.cleantax_text.specs.declared.TextKind.TheVariants as text
-use Rattle.resume_token.specs.declared.TokenKind.{TokenKind}
-use Rattle.resume_token.specs.declared.TokenKind.TheVariants as token
+use Rattle.run_ends.specs.declared.token.TokenKind.{TokenKind}
+use Rattle.run_ends.specs.declared.token.TokenKind.TheVariants as token
 use Rattle.cert_reader.specs.declared.fault.CertTextKind.{CertTextKind}
 use Rattle.cert_reader.specs.declared.fault.CertTextKind.TheVariants as cert
 use Rattle.cert_rules.specs.declared.RejectKind.{RejectKind}
 use Rattle.cert_rules.specs.declared.RejectKind.TheVariants as reject
-use Rattle.part_rules.specs.declared.PartKind.{PartKind}
-use Rattle.part_rules.specs.declared.PartKind.TheVariants as part
+use Rattle.cert_rules.specs.declared.parts.PartKind.{PartKind}
+use Rattle.cert_rules.specs.declared.parts.PartKind.TheVariants as part
 use Rattle.proof_text.specs.Words.{position_word}
 use Rattle.cert_text.specs.Lines.{end_word}
 use Rattle.command_line.specs.declared.UsageKind.{UsageKind}

@@ -7,8 +7,8 @@ use Rattle.world_model.specs.declared.Switches.{Switches}
 use Rattle.world_model.specs.Problem.{Problem}
 use Rattle.cleantax_text.specs.declared.TextKind.{TextKind}
 use Rattle.cleantax_text.specs.Reading.{text_result}
-use Rattle.resume_token.specs.declared.TokenKind.{TokenKind}
-use Rattle.resume_token.specs.Token.{token_result}
+use Rattle.run_ends.specs.declared.token.TokenKind.{TokenKind}
+use Rattle.run_ends.specs.Token.Token.{token_result}
 use Rattle.run_ends.specs.declared.Status.{Status}
 use Rattle.run_ends.specs.declared.Status.TheVariants.{RefusedText, ReadFault, RefusedToken, NoMemory}
 use Rattle.outer_store.specs.States.{StoreState, IsQuiet}

@@ -2,13 +2,13 @@
 ghost use Rattle.std.specs.Prelude.{◌≤◌, length};
 ghost use Rattle.world_model.specs.Problem.{pair_count};
 ghost use Rattle.constraint_set.specs.Facts.{IsAsRead};
-ghost use Rattle.resume_token.specs.Token.{token_text};
+ghost use Rattle.run_ends.specs.Token.Token.{token_text};
 ghost use Rattle.run_ends.specs.Writes.{IsFileWritten};
 
+use crate::token::print_token;
 use constraint_set::Problem;
 use outer_store::{Store, StoreFault};
 use rcc5_core::Position;
-use resume_token::print_token;
 use std::alloc::Global;
 
 /// Makes a name hold these bytes alone.

@@ -8,23 +8,23 @@ mod names;
 mod put;
 mod read;
 mod texts;
+mod token;
 mod tokens;
 mod worlds;
 
 use cert_reader::CertTextKind;
-use cert_rules::RejectKind;
+use cert_rules::{PartKind, RejectKind};
 use cleantax_text::TextKind;
 use command_line::UsageKind;
 pub use files::{write_file, write_token};
 pub use help::text_help;
 pub use lines::put_lines;
 pub use names::{cert_name, pair_name, part_name, reject_name, text_name, token_name};
-use part_rules::PartKind;
 pub use put::{put_complete, put_end, put_line};
 use rcc5_core::Position;
 pub use read::{TEXT_LIMIT, read_front};
-use resume_token::TokenKind;
 pub use texts::{bytes_under, problem_under};
+pub use token::{TokenFault, TokenKind, Tokens, print_token, printing_reads_back, read_token};
 pub use tokens::{position_given, position_under};
 pub use worlds::{put_world, put_worlds};
 

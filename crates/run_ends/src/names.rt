@@ -2,12 +2,11 @@
 ghost use Rattle.std.specs.Prelude.{◌≡◌};
 ghost use Rattle.run_ends.specs.Ends.{code_of, text_name, token_name, cert_name, reject_name, pair_name, part_name};
 
+use crate::token::TokenKind;
 use crate::{PairKind, Status};
 use cert_reader::CertTextKind;
-use cert_rules::RejectKind;
+use cert_rules::{PartKind, RejectKind};
 use cleantax_text::TextKind;
-use part_rules::PartKind;
-use resume_token::TokenKind;
 
 impl Status {
     /// The exit code.

@@ -6,18 +6,17 @@ ghost use Rattle.cert_text.specs.Lines.{end_word};
 ghost use Rattle.run_ends.specs.Ends.{line_of, refused_words, usage_words, token_words, cert_words, rejected_words, pair_words, part_words, gap_line, complete_line, end_line, IsLastPut};
 ghost use Rattle.run_ends.specs.Runs.{LeavesPiece};
 
+use crate::token::TokenKind;
 use crate::{
     PairKind, Status, cert_name, pair_name, part_name, reject_name, text_name, token_name,
 };
 use cert_reader::CertTextKind;
-use cert_rules::RejectKind;
+use cert_rules::{PartKind, RejectKind};
 use cert_text::put_position;
 use cleantax_text::TextKind;
 use command_line::UsageKind;
 use outer_store::{Sink, StoreFault};
-use part_rules::PartKind;
 use rcc5_core::Position;
-use resume_token::TokenKind;
 use std::alloc::{AllocError, Global};
 
 /// Puts a line, its words and its end, in one put.

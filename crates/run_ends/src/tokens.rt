@@ -3,15 +3,15 @@ ghost use Rattle.std.specs.Prelude.{◌≡◌, ◌≤◌, length, Ok, IfOk, IfEr
 ghost use Rattle.world_model.specs.Problem.{pair_count};
 ghost use Rattle.constraint_set.specs.Facts.{IsAsRead};
 ghost use Rattle.outer_store.specs.States.{IsQuiet};
-ghost use Rattle.resume_token.specs.Token.{kind_of};
+ghost use Rattle.run_ends.specs.Token.Token.{kind_of};
 ghost use Rattle.run_ends.specs.Reads.{token_in, token_end, IsRefused, ComesOf, IsWithout, IsGiven, IsWithoutGiven};
 
+use crate::token::{TokenFault, read_token};
 use crate::{Status, bytes_under};
 use command_line::Word;
 use constraint_set::Problem;
 use outer_store::Store;
 use rcc5_core::Position;
-use resume_token::{TokenFault, read_token};
 use std::alloc::Global;
 
 // How a run ends whose token is refused.

@@ -2,7 +2,7 @@
 
 use cert_reader::CertTextKind;
 use cert_rules::RejectKind;
-use resume_token::TokenKind;
+use run_ends::TokenKind;
 
 /// What a fault of a token means, and what to do about it.
 pub fn token_help(kind: TokenKind) -> &'static str {

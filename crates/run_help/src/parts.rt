@@ -8,9 +8,9 @@ use crate::words::{switch_words, value_of};
 use cleantax_text::read_problem;
 use command_line::Key;
 use constraint_set::{Problem, Switches};
-use part_rules::PartKind;
+use cert_rules::PartKind;
 use rcc5_core::Position;
-use resume_token::read_token;
+use run_ends::read_token;
 use std::alloc::{AllocError, Global};
 use std::io;
 

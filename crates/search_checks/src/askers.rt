@@ -5,10 +5,10 @@ ghost use Rattle.world_model.specs.Problem.{pair_count};
 ghost use Rattle.world_model.specs.Alive.{problem_at, IsAlive};
 ghost use Rattle.constraint_set.specs.Shape.{shape_of};
 
+use crate::asker::PlainAsker;
 use crate::nodes::{go_in, go_on};
 use crate::problems::problem_of;
 use constraint_set::Problem;
-use plain_asker::PlainAsker;
 use point_query::{Alive, Asker, Probe};
 use rcc5_core::{Position, Rel, RelSet};
 use std::alloc::{AllocError, Global};

@@ -11,6 +11,7 @@
 //! SWITCHES is `all`, or the one switch that is off: `nonempty`, `sibling` or `coverage`.
 #![tactic(auto)]
 
+mod asker;
 mod askers;
 mod nodes;
 mod problems;

@@ -9,7 +9,7 @@ use Rattle.world_model.specs.Problem.{Problem, concept_count, pair_count}
 use Rattle.world_model.specs.Alive.{InRegion, InConcept, problem_at, IsAlive}
 use Rattle.world_model.specs.Node.{pair_at}
 use Rattle.world_model.proofs.PointOnce.{at_empty}
-use Rattle.cert_model.specs.Forced.{need_at, need_count, need_with}
+use Rattle.point_encode.specs.Model.Forced.{need_at, need_count, need_with}
 use Rattle.point_encode.specs.declared.need.Need.{Need}
 use Rattle.point_encode.specs.Needs.{need_seen, IsInRange, need_number}
 use Rattle.point_pool.proofs.Settling.{numbered_need}

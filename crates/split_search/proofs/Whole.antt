@@ -15,7 +15,7 @@ use Rattle.world_model.proofs.OrderLists.{IsExactly, Between, between_parts, bet
 use Rattle.world_model.proofs.PointRules.{met_parts, met_whole}
 use Rattle.world_model.proofs.PointWhole.{single_is_whole, allows_at, about_from}
 use Rattle.constraint_set.specs.Facts.{IsBuilt}
-use Rattle.cert_model.specs.Clauses.{given_clauses}
+use Rattle.point_encode.specs.Model.Clauses.{given_clauses}
 use Rattle.cert_rules.specs.Trees.{node_problem, table_along, sets_of}
 use Rattle.cert_rules.specs.ClaimLists.{split_pairs}
 use Rattle.cert_rules.proofs.Nexts.{next_after, below_nothing}

@@ -13,7 +13,7 @@ use Rattle.world_model.specs.Listing.{IsListing}
 use Rattle.world_model.specs.Node.{IsSpent}
 use Rattle.world_model.specs.Saturated.{count_of}
 use Rattle.world_search.specs.Searching.{IsNodeAtEnd}
-use Rattle.part_rules.specs.Certs.{IsListingCert}
+use Rattle.cert_rules.specs.Parts.Certs.{IsListingCert}
 use Rattle.run_ends.specs.declared.Status.{Status}
 use Rattle.run_ends.specs.declared.Status.TheVariants as status
 use Rattle.run_ends.specs.Ends.{world_line}

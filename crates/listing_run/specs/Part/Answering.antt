@@ -6,7 +6,7 @@ use Rattle.world_model.specs.Problem.{Problem}
 use Rattle.world_model.specs.Listing.{is_before_end, IsListing}
 use Rattle.world_model.specs.Saturated.{count_of}
 use Rattle.world_search.specs.Searching.{IsNodeAtEnd}
-use Rattle.part_rules.specs.Certs.{IsListingCert}
+use Rattle.cert_rules.specs.Parts.Certs.{IsListingCert}
 use Rattle.command_line.specs.declared.request.PartArgs.{PartArgs}
 use Rattle.command_line.specs.declared.request.Request.TheVariants.{Part}
 use Rattle.command_line.specs.Requests.{Names, names_of}

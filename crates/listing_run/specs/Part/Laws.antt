@@ -4,7 +4,7 @@ use Rattle.rcc5_core.specs.declared.Rel.{Rel}
 use Rattle.world_model.specs.Problem.{Problem}
 use Rattle.world_model.specs.Listing.{IsListing}
 use Rattle.world_search.specs.Searching.{IsNodeAtEnd}
-use Rattle.part_rules.specs.Certs.{IsListingCert}
+use Rattle.cert_rules.specs.Parts.Certs.{IsListingCert}
 use Rattle.part_join.specs.Joining.{IsJoin}
 
 -- a file that a part from one position up to another leaves, of no more bytes than are checked

@@ -1,5 +1,5 @@
 use Rattle.std.proofs.Common.{Bool, List, Ok, sym, subst}
-use Rattle.claim_blocks.specs.Blocks.{KeepsClaims}
+use Rattle.pick_search.specs.Blocks.Blocks.{KeepsClaims}
 use Rattle.claims_run.specs.declared.question.Answer.TheVariants.{Conflict}
 use Rattle.claims_run.specs.Answering.{IsClaimed}
 use Rattle.claims_run.proofs.answering.conflict.Goals as goal

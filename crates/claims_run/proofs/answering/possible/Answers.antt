@@ -1,4 +1,4 @@
-use Rattle.claim_blocks.proofs.Joins.{keeps_err}
+use Rattle.pick_search.proofs.blocks.Joins.{keeps_err}
 use Rattle.search_log.proofs.Logs.{log_joins, log_ok_as, log_as}
 use Rattle.claims_run.specs.Answering.{IsClaimed}
 use Rattle.claims_run.proofs.ClaimedLemmas.{possible_made, possible_failed}

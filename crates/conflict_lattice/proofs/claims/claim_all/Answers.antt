@@ -1,6 +1,6 @@
 use Rattle.std.proofs.Common.{◌≡◌, ◌∙◌, ◌++◌, false, true, All, sym, ap, subst}
 use Rattle.search_log.proofs.Leading.{led_joins}
-use Rattle.claim_blocks.proofs.Joins.{keeps_join}
+use Rattle.pick_search.proofs.blocks.Joins.{keeps_join}
 use Rattle.conflict_lattice.specs.Lattice.{IsMaximalConsistent, IsMinimalConflict, claims_of, lattice_claims}
 use Rattle.conflict_lattice.proofs.Claiming.{lattice_maximal, lattice_minimal}
 use Rattle.conflict_lattice.proofs.claims.claim_all.Goals as goal

@@ -2,8 +2,8 @@ use Rattle.std.proofs.Common.{◌≡◌, ◌+◌, ◌∙◌, true, take, Ok}
 use Rattle.search_log.proofs.Leading.{led_joins}
 use Rattle.search_log.proofs.Logs.{log_joins, log_ok_as}
 use Rattle.cert_text.specs.declared.line.Subject.TheVariants.{Kept}
-use Rattle.claim_blocks.specs.Blocks.{claimed}
-use Rattle.claim_blocks.proofs.Joins.{keeps_err}
+use Rattle.pick_search.specs.Blocks.Blocks.{claimed}
+use Rattle.pick_search.proofs.blocks.Joins.{keeps_err}
 use Rattle.conflict_min.proofs.Claims.{made_joins, told_joins}
 use Rattle.conflict_lattice.specs.Lattice.{claims_of}
 use Rattle.conflict_lattice.proofs.Claiming.{claims_more}

@@ -1,7 +1,7 @@
 use Rattle.std.proofs.Common.{◌≡◌, true, take, Ok}
 use Rattle.search_log.specs.Leading.{KeepsLeading}
 use Rattle.search_log.specs.Logging.{LogGoes}
-use Rattle.claim_blocks.specs.Blocks.{AreClaimsMade, FromClaims}
+use Rattle.pick_search.specs.Blocks.Blocks.{AreClaimsMade, FromClaims}
 use Rattle.conflict_lattice.specs.Lattice.{claims_of}
 use Rattle.conflict_lattice.specs.Rounds.{IsJudge}
 use Rattle.conflict_lattice.proofs.claims.claim_sets.Given as goal

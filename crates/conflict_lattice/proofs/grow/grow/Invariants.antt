@@ -1,5 +1,5 @@
 use Rattle.std.proofs.Common.{◌≡◌}
-use Rattle.kept_solver.specs.Keeping.{IsWithin}
+use Rattle.family_solver.specs.Kept.Keeping.{IsWithin}
 use Rattle.conflict_lattice.specs.Rounds.{IsGrown, IsJudge}
 use Rattle.conflict_lattice.proofs.grow.grow.Given as goal
 

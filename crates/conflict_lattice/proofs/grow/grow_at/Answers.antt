@@ -1,7 +1,7 @@
 use Rattle.std.proofs.Common.{◌≡◌, ◌+◌, true, false, set, sym, ap, ◌∙◌, subst, arith}
 use Rattle.std.specs.Prelude.{Some, slice_get}
-use Rattle.kept_solver.specs.Keeping.{IsClash, IsWithin}
-use Rattle.kept_solver.proofs.Fewer.{consistent_fewer}
+use Rattle.family_solver.specs.Kept.Keeping.{IsClash, IsWithin}
+use Rattle.family_solver.proofs.kept.Fewer.{consistent_fewer}
 use Rattle.conflict_lattice.specs.Rounds.{IsGrown, IsJudged, holds_one}
 use Rattle.conflict_lattice.specs.declared.decide.Judged.TheVariants.{Met, Clash}
 use Rattle.conflict_lattice.proofs.Parts.{read_there, written_back}

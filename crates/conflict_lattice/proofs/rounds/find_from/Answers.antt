@@ -1,5 +1,5 @@
 use Rattle.std.proofs.Common.{length, subst}
-use Rattle.kept_solver.specs.Keeping.{IsClash}
+use Rattle.family_solver.specs.Kept.Keeping.{IsClash}
 use Rattle.conflict_lattice.specs.Rounds.{IsJudged, subsets_of}
 use Rattle.conflict_lattice.proofs.Parts.{within_all}
 use Rattle.conflict_lattice.proofs.Finding.{conflict_fresh, conflict_less, found_conflict, found_set, set_fresh, set_less}

@@ -1,6 +1,6 @@
 use Rattle.std.proofs.Common.{◌≡◌, ◌+◌, true, false, sym, subst, arith}
 use Rattle.std.specs.Prelude.{Some, slice_get}
-use Rattle.kept_solver.specs.Keeping.{IsWithin}
+use Rattle.family_solver.specs.Kept.Keeping.{IsWithin}
 use Rattle.conflict_lattice.specs.Rounds.{IsJudged, IsShrunk}
 use Rattle.conflict_lattice.specs.declared.decide.Judged.TheVariants.{Met, Clash}
 use Rattle.conflict_lattice.proofs.Parts.{read_there, written_back}

@@ -1,5 +1,5 @@
 use Rattle.std.proofs.Common.{Ok, subst}
-use Rattle.claim_blocks.specs.Blocks.{KeepsClaims}
+use Rattle.pick_search.specs.Blocks.Blocks.{KeepsClaims}
 use Rattle.conflict_min.specs.Conflicts.{IsClaimedOf}
 use Rattle.conflict_min.proofs.conflict.least_conflict.Goals as goal
 

@@ -1,6 +1,6 @@
 use Rattle.std.proofs.Common.{◌+◌, true, false, set, subst, sym}
-use Rattle.kept_solver.specs.Keeping.{IsClash, IsVerdict}
-use Rattle.kept_solver.specs.declared.solver.Verdict.TheVariants.{Met, Clash}
+use Rattle.family_solver.specs.Kept.Keeping.{IsClash, IsVerdict}
+use Rattle.family_solver.specs.declared.kept.solver.Verdict.TheVariants.{Met, Clash}
 use Rattle.conflict_min.specs.Shrinking.{IsShrunk}
 use Rattle.conflict_min.proofs.Courses.{course_dropped, course_kept, clash_kept_on}
 use Rattle.conflict_min.proofs.points.ask_without.Goals as goal

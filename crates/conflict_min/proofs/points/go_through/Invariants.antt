@@ -1,5 +1,5 @@
 use Rattle.std.proofs.Common.{◌≡◌, length}
-use Rattle.kept_solver.specs.Keeping.{IsKeptSolver}
+use Rattle.family_solver.specs.Kept.Keeping.{IsKeptSolver}
 use Rattle.conflict_min.specs.Shrinking.{IsCourse}
 use Rattle.conflict_min.proofs.points.go_through.Given as goal
 

@@ -1,6 +1,6 @@
 use Rattle.std.proofs.Common.{◌≡◌, ◌∙◌, false, ap}
 use Rattle.cert_text.specs.declared.line.Subject.TheVariants.{Kept}
-use Rattle.claim_blocks.specs.Blocks.{claimed, settled}
+use Rattle.pick_search.specs.Blocks.Blocks.{claimed, settled}
 use Rattle.conflict_min.proofs.Claims.{made_wider}
 use Rattle.conflict_min.proofs.shown.refute_kept.Goals as goal
 

@@ -1,8 +1,8 @@
 use Rattle.std.proofs.Common.{◌≡◌, ◌∙◌, false, ap}
 use Rattle.cert_text.specs.declared.line.Subject.TheVariants.{Kept}
 use Rattle.search_log.proofs.Leading.{led_joins}
-use Rattle.claim_blocks.specs.Blocks.{claimed}
-use Rattle.claim_blocks.proofs.Joins.{keeps_join}
+use Rattle.pick_search.specs.Blocks.Blocks.{claimed}
+use Rattle.pick_search.proofs.blocks.Joins.{keeps_join}
 use Rattle.conflict_min.specs.Conflicts.{loss_claims, IsClaimedOf}
 use Rattle.conflict_min.specs.declared.conflict.Outcome.TheVariants.{Least}
 use Rattle.conflict_min.proofs.Claims.{conflict_told}

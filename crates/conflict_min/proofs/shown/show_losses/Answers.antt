@@ -1,8 +1,8 @@
 use Rattle.std.proofs.Common.{◌≡◌, ◌+◌, ◌∙◌, map, length, take, false, true, set, refl, ap, arith, take_all, Ok}
 use Rattle.search_log.proofs.Logs.{log_stays_ok, log_joins, log_ok_as}
 use Rattle.cert_text.specs.declared.line.Subject.TheVariants.{Kept}
-use Rattle.claim_blocks.specs.Blocks.{claimed}
-use Rattle.claim_blocks.proofs.Joins.{keeps_nothing, keeps_err}
+use Rattle.pick_search.specs.Blocks.Blocks.{claimed}
+use Rattle.pick_search.proofs.blocks.Joins.{keeps_nothing, keeps_err}
 use Rattle.conflict_min.specs.Conflicts.{places_from, loss_claims}
 use Rattle.conflict_min.proofs.Claims.{untouched, loss, made_wider, made_joins, told_joins, losses_more}
 use Rattle.conflict_min.proofs.Passes.{loss_at}

@@ -1,7 +1,7 @@
 use Rattle.std.proofs.Common.{◌≡◌, map, take, Ok}
 use Rattle.search_log.specs.Leading.{KeepsLeading}
 use Rattle.search_log.specs.Logging.{LogGoes}
-use Rattle.claim_blocks.specs.Blocks.{AreClaimsMade, FromClaims}
+use Rattle.pick_search.specs.Blocks.Blocks.{AreClaimsMade, FromClaims}
 use Rattle.conflict_min.proofs.Claims.{loss}
 use Rattle.conflict_min.proofs.shown.show_losses.Given as goal
 

@@ -1,8 +1,8 @@
 use Rattle.std.proofs.Common.{◌≡◌, ◌∙◌, Contains, ap, true}
 use Rattle.cert_text.specs.declared.line.Subject.TheVariants.{Kept}
 use Rattle.search_log.proofs.Logs.{log_joins, log_ok_as}
-use Rattle.claim_blocks.specs.Blocks.{claimed, settled}
-use Rattle.claim_blocks.proofs.Joins.{keeps_err}
+use Rattle.pick_search.specs.Blocks.Blocks.{claimed, settled}
+use Rattle.pick_search.proofs.blocks.Joins.{keeps_err}
 use Rattle.conflict_min.specs.Conflicts.{all_kept, loss_claims, IsClaimedOf}
 use Rattle.conflict_min.specs.declared.conflict.Outcome.TheVariants.{Least}
 use Rattle.conflict_min.proofs.Claims.{fails, untouched, made_wider, made_joins, told_joins, shrunk_claimed, conflict_claimed}

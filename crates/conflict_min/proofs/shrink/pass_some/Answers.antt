@@ -1,7 +1,7 @@
 use Rattle.std.proofs.Common.{◌≡◌, ◌+◌, ◌∙◌, sym, ap, subst, arith}
 use Rattle.world_model.specs.Questions.{IsConsistent}
 use Rattle.search_log.proofs.Logs.{log_joins, log_ok_as}
-use Rattle.claim_blocks.proofs.Joins.{keeps_err}
+use Rattle.pick_search.proofs.blocks.Joins.{keeps_err}
 use Rattle.conflict_min.specs.Shrinking.{cut, IsShrunk, IsDropped}
 use Rattle.conflict_min.proofs.Claims.{made_joins, told_joins, dropped_joins}
 use Rattle.conflict_min.proofs.Flags.{cut_none}

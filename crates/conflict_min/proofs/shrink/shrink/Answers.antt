@@ -2,7 +2,7 @@ use Rattle.std.proofs.Common.{◌∙◌, true, length, inl, refl, sym, ap, subst
 use Rattle.std.proofs.lemmas.List.{length-map}
 use Rattle.world_model.specs.Questions.{IsConsistent}
 use Rattle.search_log.proofs.Logs.{log_stays_ok, log_joins, log_ok_as}
-use Rattle.claim_blocks.proofs.Joins.{keeps_nothing, keeps_err}
+use Rattle.pick_search.proofs.blocks.Joins.{keeps_nothing, keeps_err}
 use Rattle.conflict_min.specs.Conflicts.{all_kept}
 use Rattle.conflict_min.specs.Shrinking.{IsShrunk, IsDropped}
 use Rattle.conflict_min.proofs.Claims.{made_joins, told_joins, dropped_joins}

@@ -1,7 +1,7 @@
 use Rattle.std.proofs.Common.{◌≡◌, ◌≤◌, length, Ok}
 use Rattle.search_log.specs.Leading.{KeepsLeading}
 use Rattle.search_log.specs.Logging.{LogGoes}
-use Rattle.claim_blocks.specs.Blocks.{AreClaimsMade, FromClaims}
+use Rattle.pick_search.specs.Blocks.Blocks.{AreClaimsMade, FromClaims}
 use Rattle.conflict_min.specs.Shrinking.{IsShrunk, IsDropped}
 use Rattle.conflict_min.proofs.shrink.shrink.Given as goal
 

@@ -1,6 +1,6 @@
 use Rattle.std.proofs.Common.{◌≡◌, ◌∙◌, length, refl, sym, ap}
 use Rattle.cert_text.specs.declared.line.Subject.TheVariants.{Kept}
-use Rattle.claim_blocks.specs.Blocks.{settled}
+use Rattle.pick_search.specs.Blocks.Blocks.{settled}
 use Rattle.conflict_min.proofs.Claims.{untouched, refuted_dropped, kept_undropped}
 use Rattle.conflict_min.proofs.Flags.{cut_none, length_cut}
 use Rattle.search_log.proofs.Leading.{led_still}

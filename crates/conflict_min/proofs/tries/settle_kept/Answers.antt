@@ -1,6 +1,6 @@
 use Rattle.std.proofs.Common.{◌≡◌, ◌∙◌, subst}
 use Rattle.cert_text.specs.declared.line.Subject.TheVariants.{Kept}
-use Rattle.claim_blocks.specs.Blocks.{settled, KeepsClaims}
+use Rattle.pick_search.specs.Blocks.Blocks.{settled, KeepsClaims}
 use Rattle.conflict_min.proofs.Claims.{untouched, kept_subject}
 use Rattle.search_log.proofs.Leading.{led_still}
 use Rattle.conflict_min.proofs.tries.settle_kept.Goals as goal

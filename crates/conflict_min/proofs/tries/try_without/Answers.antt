@@ -3,8 +3,8 @@ use Rattle.world_model.specs.Problem.{restricted}
 use Rattle.set_family.specs.Meeting.{IsMetBy}
 use Rattle.split_search.specs.Choosing.{IsChoice}
 use Rattle.split_search.specs.declared.choice.Choice.TheVariants.{Refuted}
-use Rattle.claim_blocks.specs.Blocks.{settled}
-use Rattle.claim_blocks.proofs.Joins.{keeps_err}
+use Rattle.pick_search.specs.Blocks.Blocks.{settled}
+use Rattle.pick_search.proofs.blocks.Joins.{keeps_err}
 use Rattle.cert_text.specs.declared.line.Subject.TheVariants.{Kept}
 use Rattle.conflict_min.specs.Shrinking.{IsShrunk}
 use Rattle.conflict_min.proofs.Claims.{made_told, refuted_dropped, kept_undropped}

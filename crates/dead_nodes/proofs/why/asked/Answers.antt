@@ -1,6 +1,6 @@
 use Rattle.std.proofs.Common.{◌∙◌, ap, subst}
 use Rattle.std.specs.Prelude.{IfSome}
-use Rattle.cert_model.specs.Forced.{need_with}
+use Rattle.point_encode.specs.Model.Forced.{need_with}
 use Rattle.point_encode.specs.Needs.{need_seen, IsInRange}
 use Rattle.point_query.specs.Answers.{IsFirstClosed, IsProbeAnswer}
 use Rattle.dead_nodes.specs.Why.{Closes}

@@ -4,7 +4,7 @@ use Rattle.std.proofs.lemmas.Bool.{cases_lt}
 use Rattle.watch_arena.proofs.WatchedPair.{index_of}
 use Rattle.lits_core.specs.Literals.{negation_of}
 use Rattle.lits_core.specs.Derivation.{live_clause}
-use Rattle.cert_model.specs.Forced.{asked_of, IsClosedAt}
+use Rattle.point_encode.specs.Model.Forced.{asked_of, IsClosedAt}
 use Rattle.point_encode.specs.Needs.{need_seen}
 use Rattle.dead_pairs.specs.Lone.{lone_problem}
 use Rattle.dead_pairs.proofs.closes.closes.Goals as goal

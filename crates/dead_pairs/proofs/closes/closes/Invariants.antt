@@ -1,7 +1,7 @@
 use Rattle.std.proofs.Common.{ℕ, ◌<◌, [], get_or}
 use Rattle.std.specs.Prelude.{Contains}
 use Rattle.lits_core.specs.Literals.{negation_of}
-use Rattle.cert_model.specs.Forced.{asked_of}
+use Rattle.point_encode.specs.Model.Forced.{asked_of}
 use Rattle.point_encode.specs.Needs.{need_seen}
 use Rattle.dead_pairs.specs.Lone.{lone_problem}
 use Rattle.dead_pairs.proofs.closes.closes.Given as goal

@@ -1,6 +1,6 @@
 use Rattle.std.proofs.Common.{[]}
 use Rattle.std.proofs.lemmas.List.Elements.{Contains-append_left, Contains-append_right}
-use Rattle.cert_model.specs.Forced.{selectors_of, need_lits}
+use Rattle.point_encode.specs.Model.Forced.{selectors_of, need_lits}
 use Rattle.point_encode.specs.Needs.{need_seen}
 use Rattle.dead_pairs.specs.Lone.{lone_problem}
 use Rattle.dead_pairs.proofs.closes.is_asked.Goals as goal

@@ -1,6 +1,6 @@
 use Rattle.std.proofs.Common.{◌≡◌, ◌∙◌, Some, sym, ap, arith}
 use Rattle.std.specs.Prelude.{option_map}
-use Rattle.cert_model.specs.Forced.{need_with}
+use Rattle.point_encode.specs.Model.Forced.{need_with}
 use Rattle.point_encode.specs.Needs.{need_seen}
 use Rattle.dead_pairs.proofs.Deads.{closed_alone}
 use Rattle.dead_pairs.proofs.why.held.Goals as goal

@@ -1,5 +1,5 @@
 use Rattle.std.proofs.Common.{Ok, ap, sym, ◌∙◌}
-use Rattle.desk_script.specs.Script.{script_result}
+use Rattle.desk_run.specs.Script.Script.{script_result}
 use Rattle.desk_run.proofs.AskLemmas.{script_of, without_script}
 use Rattle.desk_run.proofs.asked.requests_under.Goals as goal
 

@@ -1,6 +1,6 @@
 use Rattle.std.proofs.Common.{rules, arith, flat_map, refl, sym, subst}
 use Rattle.outer_store.specs.Bytes.{GrownInPart}
-use Rattle.desk_script.specs.Requests.{IsRequest}
+use Rattle.desk_run.specs.Script.Requests.{IsRequest}
 use Rattle.desk_run.specs.Answering.{reply_line}
 use Rattle.desk_run.proofs.TalkLemmas.{none_served, one_served, rest_talk, rest_talk_is, part_put, on_err, all_served}
 use Rattle.desk_run.proofs.serving.put_replies.Goals as goal

@@ -3,8 +3,8 @@ use Rattle.std.specs.Prelude.{All}
 use Rattle.outer_store.specs.Bytes.{GrownInPart}
 use Rattle.outer_store.proofs.BytesLemmas.{GrownInPart-kept, GrownInPart-longer}
 use Rattle.world_model.specs.Problem.{Problem}
-use Rattle.desk_script.specs.Requests.{IsRequest}
-use Rattle.desk_core.specs.Desks.{DeskState, all_closed}
+use Rattle.desk_run.specs.Script.Requests.{IsRequest}
+use Rattle.desk_run.specs.Desk.Desks.{DeskState, all_closed}
 use Rattle.desk_run.specs.Answering.{reply_line, served_line, IsTalkOf}
 use Rattle.desk_run.proofs.TalkLemmas.{starved, none_reached, text_of, served_by, on_err, count_behind}
 use Rattle.desk_run.proofs.serving.serve_all.Goals as goal

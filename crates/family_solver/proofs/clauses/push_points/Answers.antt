@@ -1,7 +1,7 @@
 use Rattle.std.proofs.Common.{inl, inr, sym, subst, arith}
 use Rattle.std.specs.Prelude.{Contains, IsTrue}
 use Rattle.std.proofs.lemmas.Bool.{cases_eq}
-use Rattle.cert_model.specs.Clauses.{is_so}
+use Rattle.point_encode.specs.Model.Clauses.{is_so}
 use Rattle.world_model.specs.Alive.{lies_in, point_at}
 use Rattle.family_solver.proofs.clauses.push_points.Goals as goal
 

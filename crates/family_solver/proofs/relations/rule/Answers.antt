@@ -3,7 +3,7 @@ use Rattle.std.specs.Prelude.{Contains, IsTrue}
 use Rattle.rcc5_core.specs.RelationSet.{has}
 use Rattle.rcc5_core.specs.declared.Rel.{Rel}
 use Rattle.rcc5_core.specs.declared.Rel.TheVariants.{Disjoint, Equals, IncludedIn, Includes, Overlaps}
-use Rattle.cert_model.specs.Clauses.{is_so}
+use Rattle.point_encode.specs.Model.Clauses.{is_so}
 use Rattle.watch_arena.specs.Trails.{AreInRange}
 use Rattle.family_solver.specs.Showing.{rel_variable, variable_count}
 use Rattle.family_solver.proofs.relations.rule.Goals as goal

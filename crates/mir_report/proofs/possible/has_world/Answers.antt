@@ -2,8 +2,8 @@ use Rattle.std.proofs.Common.{◌≡◌, ◌∙◌, ◌↔◌, true, not, slice_
 use Rattle.cert_text.specs.declared.line.Subject.TheVariants.{Kept}
 use Rattle.world_model.specs.Questions.{IsMet}
 use Rattle.search_log.proofs.Logs.{log_stays_ok}
-use Rattle.claim_blocks.specs.Blocks.{claimed}
-use Rattle.claim_blocks.proofs.Joins.{keeps_made, keeps_nothing}
+use Rattle.pick_search.specs.Blocks.Blocks.{claimed}
+use Rattle.pick_search.proofs.blocks.Joins.{keeps_made, keeps_nothing}
 use Rattle.mir_report.specs.Possible.{whole_claim}
 use Rattle.mir_report.proofs.Laws.{first_set_tells, no_whole_claim, whole_claim_made}
 use Rattle.search_log.proofs.Leading.{led_still}

@@ -1,8 +1,8 @@
 use Rattle.std.proofs.Common.{◌≡◌, ◌∙◌, true, false, Ok, ap, subst}
 use Rattle.cert_text.specs.declared.line.Subject.TheVariants.{Kept}
 use Rattle.search_log.proofs.Logs.{log_memory}
-use Rattle.claim_blocks.specs.Blocks.{claimed, settled, KeepsClaims}
-use Rattle.claim_blocks.proofs.Joins.{keeps_made}
+use Rattle.pick_search.specs.Blocks.Blocks.{claimed, settled, KeepsClaims}
+use Rattle.pick_search.proofs.blocks.Joins.{keeps_made}
 use Rattle.mir_report.proofs.Subjects.{kept_problem}
 use Rattle.mir_report.proofs.Told.{err_first}
 use Rattle.search_log.proofs.Leading.{led_still}

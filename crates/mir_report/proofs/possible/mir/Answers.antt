@@ -4,7 +4,7 @@ use Rattle.std.proofs.lemmas.List.Elements.{All-nil}
 use Rattle.rcc5_core.specs.declared.RelSet.{RelSet}
 use Rattle.search_log.proofs.Logs.{log_as, log_joins, log_memory, log_ok_as, log_stays_ok, log_then_memory}
 use Rattle.set_family.specs.Meeting.{IsMetBy}
-use Rattle.claim_blocks.proofs.Joins.{keeps_join, keeps_nothing, keeps_untold}
+use Rattle.pick_search.proofs.blocks.Joins.{keeps_join, keeps_nothing, keeps_untold}
 use Rattle.mir_report.specs.Possible.{IsPossibleSet, pair_claims, claims_from}
 use Rattle.mir_report.proofs.Laws.{cross_within}
 use Rattle.mir_report.proofs.Claims.{claims_next, sets_more}

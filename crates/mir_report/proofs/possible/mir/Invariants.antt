@@ -3,7 +3,7 @@ use Rattle.rcc5_core.specs.declared.RelSet.{RelSet}
 use Rattle.search_log.specs.Leading.{KeepsLeading}
 use Rattle.search_log.specs.Logging.{LogGoes}
 use Rattle.set_family.specs.Meeting.{IsMetBy}
-use Rattle.claim_blocks.specs.Blocks.{KeepsClaims}
+use Rattle.pick_search.specs.Blocks.Blocks.{KeepsClaims}
 use Rattle.mir_report.specs.Possible.{IsPossibleSet, claims_from}
 use Rattle.mir_report.proofs.possible.mir.Given as goal
 

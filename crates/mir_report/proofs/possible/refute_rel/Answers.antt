@@ -3,8 +3,8 @@ use Rattle.std.specs.Prelude.{IfSome}
 use Rattle.cert_text.specs.declared.line.Subject.TheVariants.{Narrowed}
 use Rattle.search_log.specs.declared.fault.StepFault.TheVariants.{NoMemory}
 use Rattle.search_log.proofs.Logs.{log_as, log_memory, log_ok_as, log_stays_ok}
-use Rattle.claim_blocks.specs.Blocks.{claimed}
-use Rattle.claim_blocks.proofs.Joins.{keeps_err, keeps_after, keeps_step, nothing_told}
+use Rattle.pick_search.specs.Blocks.Blocks.{claimed}
+use Rattle.pick_search.proofs.blocks.Joins.{keeps_err, keeps_after, keeps_step, nothing_told}
 use Rattle.dead_pairs.specs.Lone.{IsClosing}
 use Rattle.mir_report.specs.Steps.{claim_if_refuted}
 use Rattle.mir_report.proofs.Subjects.{closed_subject, dead_is_impossible}

@@ -4,8 +4,8 @@ use Rattle.cert_text.specs.declared.line.Subject.TheVariants.{Narrowed}
 use Rattle.search_log.proofs.Logs.{log_as, log_memory, log_ok_as, log_then_memory}
 use Rattle.set_family.specs.Meeting.{IsMetBy}
 use Rattle.split_search.specs.Choosing.{IsChoice}
-use Rattle.claim_blocks.specs.Blocks.{claimed, settled, KeepsClaims}
-use Rattle.claim_blocks.proofs.Joins.{keeps_err}
+use Rattle.pick_search.specs.Blocks.Blocks.{claimed, settled, KeepsClaims}
+use Rattle.pick_search.proofs.blocks.Joins.{keeps_err}
 use Rattle.mir_report.proofs.Subjects.{pair_problem, met_by_above, met_is_possible}
 use Rattle.mir_report.proofs.Told.{err_first, err_after}
 use Rattle.search_log.proofs.Leading.{led_still}

@@ -4,8 +4,8 @@ use Rattle.world_model.specs.Alive.{allowed}
 use Rattle.world_model.specs.Node.{pair_at}
 use Rattle.cert_text.specs.declared.line.Subject.TheVariants.{Narrowed}
 use Rattle.search_log.proofs.Logs.{log_stays_ok}
-use Rattle.claim_blocks.specs.Blocks.{claimed}
-use Rattle.claim_blocks.proofs.Joins.{keeps_made, keeps_nothing}
+use Rattle.pick_search.specs.Blocks.Blocks.{claimed}
+use Rattle.pick_search.proofs.blocks.Joins.{keeps_made, keeps_nothing}
 use Rattle.mir_report.specs.Steps.{claim_if_allowed}
 use Rattle.mir_report.proofs.Laws.{refused_is_impossible}
 use Rattle.search_log.proofs.Leading.{led_still}

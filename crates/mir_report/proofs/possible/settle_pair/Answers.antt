@@ -8,8 +8,8 @@ use Rattle.world_model.proofs.Members.{contains_from_in}
 use Rattle.world_model.proofs.PointSets.{In-all_rels}
 use Rattle.point_query.proofs.Choosing.{HasThose, one_in, one_out, has_none}
 use Rattle.search_log.proofs.Logs.{log_as, log_joins, log_ok_as, log_stays_ok}
-use Rattle.claim_blocks.specs.Blocks.{KeepsClaims}
-use Rattle.claim_blocks.proofs.Joins.{keeps_join, keeps_nothing}
+use Rattle.pick_search.specs.Blocks.Blocks.{KeepsClaims}
+use Rattle.pick_search.proofs.blocks.Joins.{keeps_join, keeps_nothing}
 use Rattle.mir_report.specs.Possible.{pair_claims}
 use Rattle.mir_report.specs.Steps.{claims_of, claim_if_allowed}
 use Rattle.mir_report.proofs.Claims.{claims_step}

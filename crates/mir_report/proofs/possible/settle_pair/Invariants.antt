@@ -4,7 +4,7 @@ use Rattle.point_query.proofs.Choosing.{HasThose}
 use Rattle.search_log.specs.Leading.{KeepsLeading}
 use Rattle.search_log.specs.Logging.{LogGoes}
 use Rattle.set_family.specs.Meeting.{IsMetBy}
-use Rattle.claim_blocks.specs.Blocks.{KeepsClaims}
+use Rattle.pick_search.specs.Blocks.Blocks.{KeepsClaims}
 use Rattle.mir_report.specs.Steps.{claims_of}
 use Rattle.mir_report.proofs.possible.settle_pair.Given as goal
 

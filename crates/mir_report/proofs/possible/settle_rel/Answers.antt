@@ -1,8 +1,8 @@
 use Rattle.std.proofs.Common.{◌≡◌, ◌∙◌, true≢false, [], ◌++◌, Ok, refl, sym, ap, subst}
 use Rattle.cert_text.specs.declared.line.Subject.TheVariants.{Narrowed}
 use Rattle.search_log.proofs.Logs.{log_as, log_joins, log_ok_as}
-use Rattle.claim_blocks.specs.Blocks.{claimed, KeepsClaims}
-use Rattle.claim_blocks.proofs.Joins.{keeps_err, keeps_join}
+use Rattle.pick_search.specs.Blocks.Blocks.{claimed, KeepsClaims}
+use Rattle.pick_search.proofs.blocks.Joins.{keeps_err, keeps_join}
 use Rattle.mir_report.specs.Steps.{claim_if_refuted}
 use Rattle.mir_report.proofs.Laws.{possible_by}
 use Rattle.mir_report.proofs.Subjects.{shows_subject, few_sets}

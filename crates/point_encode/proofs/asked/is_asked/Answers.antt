@@ -1,5 +1,5 @@
 use Rattle.std.proofs.lemmas.List.Elements.{Contains-append_left, Contains-append_right}
-use Rattle.cert_model.specs.Forced.{selectors_of, need_lits}
+use Rattle.point_encode.specs.Model.Forced.{selectors_of, need_lits}
 use Rattle.point_encode.specs.Needs.{need_seen}
 use Rattle.point_encode.proofs.asked.is_asked.Goals as goal
 

@@ -1,6 +1,6 @@
 use Rattle.std.proofs.Common.{◌++◌, map, ap, ◌∙◌}
 use Rattle.world_model.specs.Problem.{children_of}
-use Rattle.cert_model.specs.Clauses.{each_two, apart_clause}
+use Rattle.point_encode.specs.Model.Clauses.{each_two, apart_clause}
 use Rattle.point_encode.proofs.Encoding.{one_more}
 use Rattle.point_encode.proofs.encode.add_apart.Goals as goal
 

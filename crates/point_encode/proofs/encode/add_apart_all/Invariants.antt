@@ -1,5 +1,5 @@
 use Rattle.std.proofs.Common.{◌≡◌, ◌++◌, map, drop}
-use Rattle.cert_model.specs.Clauses.{each_two, apart_clause}
+use Rattle.point_encode.specs.Model.Clauses.{each_two, apart_clause}
 use Rattle.point_encode.proofs.encode.add_apart_all.Given as goal
 
 -- what is still to be added completes the clauses

@@ -1,5 +1,5 @@
 use Rattle.std.proofs.Common.{◌∷◌, ◌++◌, [], ap, ◌∙◌}
-use Rattle.cert_model.specs.Clauses.{is_not}
+use Rattle.point_encode.specs.Model.Clauses.{is_not}
 use Rattle.point_encode.proofs.Encoding.{one_apart}
 use Rattle.point_encode.proofs.encode.add_apart_from.Goals as goal
 

@@ -1,5 +1,5 @@
 use Rattle.std.proofs.Common.{◌≡◌, ◌++◌, map, take}
-use Rattle.cert_model.specs.Clauses.{apart_clause}
+use Rattle.point_encode.specs.Model.Clauses.{apart_clause}
 use Rattle.point_encode.proofs.encode.add_apart_from.Given as goal
 
 -- the clauses of the first others were added

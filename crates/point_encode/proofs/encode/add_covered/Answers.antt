@@ -2,7 +2,7 @@ use Rattle.std.proofs.Common.{◌≡◌, ◌++◌, ◌∷◌, [], ℕ, Bool, Lis
 use Rattle.std.specs.Prelude.{◌==◌, if◌then◌else◌}
 use Rattle.std.proofs.lemmas.List.{append-nil}
 use Rattle.world_model.specs.Problem.{children_of}
-use Rattle.cert_model.specs.Clauses.{covered_clause, is_so}
+use Rattle.point_encode.specs.Model.Clauses.{covered_clause, is_so}
 use Rattle.point_encode.proofs.Encoding.{one_more}
 use Rattle.point_encode.proofs.encode.add_covered.Goals.{then-not-is_empty+in_ok-add_with_any, else-not-is_empty}
 use Rattle.point_encode.proofs.encode.add_covered.Goals as goal

@@ -2,7 +2,7 @@ use Rattle.std.proofs.Common.{◌≡◌, ◌++◌, ◌∷◌, [], length}
 use Rattle.std.specs.Prelude.{flat_map, ◌==◌, if◌then◌else◌}
 use Rattle.std.specs.List.{range_with_len}
 use Rattle.world_model.specs.Problem.{children_of}
-use Rattle.cert_model.specs.Clauses.{covered_clause}
+use Rattle.point_encode.specs.Model.Clauses.{covered_clause}
 use Rattle.point_encode.proofs.encode.add_covered.Given as goal
 
 -- the clauses of the first concepts were added

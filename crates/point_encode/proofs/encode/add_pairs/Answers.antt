@@ -1,6 +1,6 @@
 use Rattle.std.proofs.Common.{◌+◌, ◌*◌, ◌++◌, ap, ◌∙◌, arith}
 use Rattle.world_model.specs.Problem.{concept_count, pairs}
-use Rattle.cert_model.specs.Clauses.{pair_clauses}
+use Rattle.point_encode.specs.Model.Clauses.{pair_clauses}
 use Rattle.point_encode.proofs.Encoding.{pair_added}
 use Rattle.point_encode.proofs.encode.add_pairs.Goals as goal
 

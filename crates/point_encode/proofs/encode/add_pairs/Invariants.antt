@@ -1,6 +1,6 @@
 use Rattle.std.proofs.Common.{◌≡◌, ◌+◌, ◌*◌, ◌++◌, drop}
 use Rattle.world_model.specs.Problem.{concept_count, pairs}
-use Rattle.cert_model.specs.Clauses.{pairs_clauses}
+use Rattle.point_encode.specs.Model.Clauses.{pairs_clauses}
 use Rattle.point_encode.proofs.encode.add_pairs.Given as goal
 
 -- what is still to be added completes the clauses

@@ -1,5 +1,5 @@
 use Rattle.std.proofs.Common.{◌∷◌, ◌++◌, [], get_or, ap, ◌∙◌}
-use Rattle.cert_model.specs.Clauses.{is_so, is_not}
+use Rattle.point_encode.specs.Model.Clauses.{is_so, is_not}
 use Rattle.point_encode.proofs.Encoding.{one_pushed}
 use Rattle.point_encode.proofs.encode.add_sum.Goals as goal
 

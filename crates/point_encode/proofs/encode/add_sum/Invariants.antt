@@ -1,5 +1,5 @@
 use Rattle.std.proofs.Common.{◌≡◌, ◌++◌, ◌∷◌, [], map, take}
-use Rattle.cert_model.specs.Clauses.{is_so, is_not}
+use Rattle.point_encode.specs.Model.Clauses.{is_so, is_not}
 use Rattle.point_encode.proofs.encode.add_sum.Given as goal
 
 -- the clauses of the first parts were added

@@ -1,7 +1,7 @@
 use Rattle.std.proofs.Common.{◌+◌, ◌*◌, ◌++◌, ap, ◌∙◌}
 use Rattle.world_model.specs.Problem.{SumRule, concept_count}
 use Rattle.constraint_set.specs.Readers.{all_sums}
-use Rattle.cert_model.specs.Clauses.{first_sum_selector, sum_clauses}
+use Rattle.point_encode.specs.Model.Clauses.{first_sum_selector, sum_clauses}
 use Rattle.point_encode.proofs.Encoding.{sum_added}
 use Rattle.point_encode.proofs.encode.add_sums.Goals as goal
 

@@ -1,6 +1,6 @@
 use Rattle.std.proofs.Common.{◌≡◌, ◌+◌, ◌++◌, drop}
 use Rattle.constraint_set.specs.Readers.{all_sums}
-use Rattle.cert_model.specs.Clauses.{first_sum_selector, sums_clauses}
+use Rattle.point_encode.specs.Model.Clauses.{first_sum_selector, sums_clauses}
 use Rattle.point_encode.proofs.encode.add_sums.Given as goal
 
 -- what is still to be added completes the clauses

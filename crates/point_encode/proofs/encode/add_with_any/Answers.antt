@@ -1,5 +1,5 @@
 use Rattle.std.proofs.Common.{◌∷◌, ◌++◌, [], ap, ◌∙◌}
-use Rattle.cert_model.specs.Clauses.{is_so}
+use Rattle.point_encode.specs.Model.Clauses.{is_so}
 use Rattle.point_encode.proofs.Encoding.{one_pushed}
 use Rattle.point_encode.proofs.encode.add_with_any.Goals as goal
 

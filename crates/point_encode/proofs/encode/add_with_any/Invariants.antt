@@ -1,5 +1,5 @@
 use Rattle.std.proofs.Common.{◌≡◌, ◌++◌, map, take}
-use Rattle.cert_model.specs.Clauses.{is_so}
+use Rattle.point_encode.specs.Model.Clauses.{is_so}
 use Rattle.point_encode.proofs.encode.add_with_any.Given as goal
 
 -- the first concepts were added

@@ -2,7 +2,7 @@ use Rattle.std.proofs.Common.{◌++◌, ◌∷◌, [], ℕ, List, Option, ap, sy
 use Rattle.std.specs.Option.{option_map, option_to_list}
 use Rattle.std.proofs.lemmas.List.{append-nil}
 use Rattle.world_model.specs.Problem.{parent_of}
-use Rattle.cert_model.specs.Clauses.{is_not, within_clause}
+use Rattle.point_encode.specs.Model.Clauses.{is_not, within_clause}
 use Rattle.point_encode.proofs.Encoding.{one_more}
 use Rattle.point_encode.proofs.encode.add_within.Goals.{in-Some+in_ok-add, in_default}
 use Rattle.point_encode.proofs.encode.add_within.Goals as goal

@@ -3,7 +3,7 @@ use Rattle.std.specs.Prelude.{flat_map}
 use Rattle.std.specs.List.{range_with_len}
 use Rattle.std.specs.Option.{option_map, option_to_list}
 use Rattle.world_model.specs.Problem.{parent_of}
-use Rattle.cert_model.specs.Clauses.{within_clause}
+use Rattle.point_encode.specs.Model.Clauses.{within_clause}
 use Rattle.point_encode.proofs.encode.add_within.Given as goal
 
 -- the clauses of the first concepts were added

@@ -5,7 +5,7 @@ use Rattle.rcc5_core.specs.declared.Occupancy.{Occupancy}
 use Rattle.rcc5_core.specs.declared.Occupancy.TheVariants.{Empty, Occupied, Free}
 use Rattle.rcc5_core.specs.Region.{same_word, word_at}
 use Rattle.world_model.specs.Alive.{needs, problem_at}
-use Rattle.cert_model.specs.Forced.{region_with}
+use Rattle.point_encode.specs.Model.Forced.{region_with}
 use Rattle.point_encode.specs.Needs.{need_seen, IsInRange}
 use Rattle.point_encode.proofs.NeedLists.{concept_forced, region_forced}
 use Rattle.point_encode.proofs.need.is_forced.Goals as goal

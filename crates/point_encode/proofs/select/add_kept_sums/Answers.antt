@@ -2,7 +2,7 @@ use Rattle.std.proofs.Common.{◌≡◌, ◌+◌, ◌*◌, ◌++◌, ◌∷◌, 
 use Rattle.std.proofs.lemmas.List.{append-nil}
 use Rattle.world_model.specs.Problem.{concept_count}
 use Rattle.constraint_set.specs.Readers.{sum_places}
-use Rattle.cert_model.specs.Clauses.{first_sum_selector, is_so}
+use Rattle.point_encode.specs.Model.Clauses.{first_sum_selector, is_so}
 use Rattle.point_encode.proofs.Selecting.{sum_selected, sums_selected, flag_is}
 use Rattle.point_encode.proofs.select.add_kept_sums.Goals.{then-is_kept+in_ok-push, else-is_kept}
 use Rattle.point_encode.proofs.select.add_kept_sums.Goals as goal

@@ -1,7 +1,7 @@
 use Rattle.std.proofs.Common.{◌≡◌, ◌+◌, ◌++◌, drop}
 use Rattle.constraint_set.specs.Readers.{sum_places}
-use Rattle.cert_model.specs.Clauses.{first_sum_selector}
-use Rattle.cert_model.specs.Forced.{sum_selectors}
+use Rattle.point_encode.specs.Model.Clauses.{first_sum_selector}
+use Rattle.point_encode.specs.Model.Forced.{sum_selectors}
 use Rattle.point_encode.proofs.select.add_kept_sums.Given as goal
 
 -- what is still to be added of the sums completes their selectors

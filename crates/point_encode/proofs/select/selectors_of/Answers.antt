@@ -1,6 +1,6 @@
 use Rattle.std.proofs.Common.{◌+◌, ◌*◌, ◌++◌, ap, ◌∙◌, arith}
 use Rattle.world_model.specs.Problem.{concept_count}
-use Rattle.cert_model.specs.Forced.{pair_selectors}
+use Rattle.point_encode.specs.Model.Forced.{pair_selectors}
 use Rattle.point_encode.proofs.Selecting.{pair_selected}
 use Rattle.point_encode.proofs.select.selectors_of.Goals as goal
 

@@ -1,7 +1,7 @@
 use Rattle.std.proofs.Common.{◌≡◌, ◌+◌, ◌*◌, ◌++◌, drop}
 use Rattle.world_model.specs.Problem.{concept_count, pairs}
 use Rattle.world_model.specs.Alive.{forced_of, forced_pairs, problem_at}
-use Rattle.cert_model.specs.Forced.{region_selectors}
+use Rattle.point_encode.specs.Model.Forced.{region_selectors}
 use Rattle.point_encode.proofs.select.selectors_of.Given as goal
 
 -- what is still to be added of the pairs completes their selectors

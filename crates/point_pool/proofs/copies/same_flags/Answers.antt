@@ -1,5 +1,5 @@
 use Rattle.std.proofs.Common.{length, ap, sym, ◌∙◌, arith}
-use Rattle.cert_model.proofs.Structure.{valid_parts}
+use Rattle.point_encode.proofs.model.Structure.{valid_parts}
 use Rattle.point_pool.proofs.Sameness.{same_entries}
 use Rattle.point_pool.proofs.copies.same_flags.Goals as goal
 

@@ -3,7 +3,7 @@ use Rattle.std.specs.Prelude.{flat_map}
 use Rattle.std.specs.List.{range_with_len}
 use Rattle.world_model.specs.Problem.{concept_count, pair_count}
 use Rattle.world_model.specs.Points.{forced_at}
-use Rattle.cert_model.specs.Forced.{pair_selectors}
+use Rattle.point_encode.specs.Model.Forced.{pair_selectors}
 use Rattle.point_pool.proofs.Selecting.{lists_more}
 use Rattle.point_pool.proofs.selectors.push_start.Goals as goal
 

@@ -5,7 +5,7 @@ use Rattle.constraint_set.specs.Readers.{sum_places, is_sum_at}
 use Rattle.constraint_set.proofs.Lists.{few_filtered}
 use Rattle.world_model.specs.Problem.{Problem, concept_count}
 use Rattle.constraint_set.specs.Facts.{IsBuilt}
-use Rattle.cert_model.specs.Clauses.{is_so, first_sum_selector}
+use Rattle.point_encode.specs.Model.Clauses.{is_so, first_sum_selector}
 use Rattle.point_pool.specs.Cursors.{kept_selector}
 use Rattle.point_pool.proofs.selectors.push_sum.Goals as goal
 

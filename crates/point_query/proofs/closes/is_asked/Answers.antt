@@ -1,7 +1,7 @@
 use Rattle.std.proofs.Common.{◌∙◌, ap, subst}
 use Rattle.std.specs.Prelude.{Contains}
 use Rattle.std.proofs.lemmas.List.Elements.{Contains-append_left, Contains-append_right}
-use Rattle.cert_model.specs.Forced.{need_at, need_lits, selectors_of}
+use Rattle.point_encode.specs.Model.Forced.{need_at, need_lits, selectors_of}
 use Rattle.point_query.proofs.closes.is_asked.Goals as goal
 
 pub returns-then-is_selector : goal.returns-then-is_selector

@@ -1,6 +1,6 @@
 use Rattle.std.proofs.Common.{◌≡◌, ◌∙◌, sym, subst}
 use Rattle.std.specs.Prelude.{Contains}
-use Rattle.cert_model.specs.Forced.{selectors_of}
+use Rattle.point_encode.specs.Model.Forced.{selectors_of}
 use Rattle.point_encode.specs.Selectors.{IsSelector, selector_lit}
 use Rattle.point_encode.proofs.Selected.{empty_selected, kept_selected}
 use Rattle.point_query.proofs.closes.is_selector.Goals as goal

@@ -2,7 +2,7 @@ use Rattle.std.proofs.Common.{◌≡◌, [], ◌∷◌, ◌++◌, take, get_or, 
 use Rattle.std.proofs.lemmas.List.{get_or_read, take_more}
 use Rattle.world_model.proofs.Members.{In, In-get_or}
 use Rattle.watch_arena.specs.Trails.{AreInRange}
-use Rattle.cert_model.specs.Clauses.{variable_count}
+use Rattle.point_encode.specs.Model.Clauses.{variable_count}
 use Rattle.lits_core.specs.Derivation.{first_state, SameState}
 use Rattle.point_query.proofs.Querying.{one_more_given}
 use Rattle.point_query.proofs.Ranges.{given_in_range}

@@ -2,7 +2,7 @@ use Rattle.std.proofs.Common.{◌+◌, ◌*◌, ap, refl, sym, ◌∙◌, subst}
 use Rattle.std.specs.Prelude.{IfSome}
 use Rattle.std.proofs.lemmas.Bool.{false≢true}
 use Rattle.rcc5_core.specs.Region.{word_at}
-use Rattle.cert_model.specs.Forced.{region_with, need_at}
+use Rattle.point_encode.specs.Model.Forced.{region_with, need_at}
 use Rattle.world_model.specs.Alive.{HasPoint, problem_at}
 use Rattle.point_pool.specs.Pools.{IsPoolBut}
 use Rattle.point_pool.proofs.Pooling.{put_back}

@@ -4,7 +4,7 @@ use Rattle.std.specs.Prelude.{Option, IfSome, IfNone}
 use Rattle.world_model.specs.Alive.{problem_at}
 use Rattle.point_encode.specs.Needs.{need_seen, IsInRange}
 use Rattle.point_pool.specs.Cursors.{IsEmptyPair}
-use Rattle.cert_model.specs.Forced.{need_at}
+use Rattle.point_encode.specs.Model.Forced.{need_at}
 use Rattle.point_query.specs.Closing.{IsFirstStuck}
 use Rattle.point_query.proofs.Querying.{keeps_still}
 use Rattle.point_pool.proofs.Settling.{cursor_from}

@@ -2,7 +2,7 @@ use Rattle.std.proofs.Common.{◌≡◌, ◌<◌, ◌+◌, ℕ, ◌∙◌, sym, 
 use Rattle.std.specs.Prelude.{IsTrue, IfSome, IfNone, Option}
 use Rattle.world_model.specs.Alive.{problem_at, is_point, is_in_need}
 use Rattle.point_encode.specs.Needs.{need_seen, need_number}
-use Rattle.cert_model.specs.Forced.{need_at, need_count}
+use Rattle.point_encode.specs.Model.Forced.{need_at, need_count}
 use Rattle.point_pool.specs.Pools.{IsPool, IsPoolBut, HasWitness}
 use Rattle.point_pool.proofs.Pooling.{put_back}
 use Rattle.point_pool.proofs.Settling.{numbered_need}

@@ -1,5 +1,5 @@
 use Rattle.std.proofs.Common.{◌+◌, subst}
-use Rattle.cert_model.specs.Forced.{need_at}
+use Rattle.point_encode.specs.Model.Forced.{need_at}
 use Rattle.point_query.specs.Answers.{IsFound}
 use Rattle.point_query.specs.Queries.{asker_with}
 use Rattle.point_query.proofs.Querying.{keeps_still}

@@ -3,7 +3,7 @@ use Rattle.std.specs.Prelude.{IsTrue, IfSome, IfNone}
 use Rattle.world_model.specs.Alive.{problem_at, HasPoint}
 use Rattle.point_query.specs.Queries.{IsSolverOf}
 use Rattle.point_encode.specs.Numbers.{is_needed}
-use Rattle.cert_model.specs.Forced.{need_at, need_count}
+use Rattle.point_encode.specs.Model.Forced.{need_at, need_count}
 use Rattle.point_pool.specs.Pools.{IsPool}
 use Rattle.point_query.specs.Closing.{IsStuck}
 use Rattle.point_query.proofs.Querying.{keeps_still, keeps_chain}

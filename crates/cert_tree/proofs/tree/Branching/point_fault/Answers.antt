@@ -1,6 +1,6 @@
 use Rattle.std.proofs.Common.{◌≡◌, ◌∙◌, sym, ap, None}
 use Rattle.lits_core.specs.Derivation.{live_clause}
-use Rattle.cert_model.specs.Forced.{need_with}
+use Rattle.point_encode.specs.Model.Forced.{need_with}
 use Rattle.cert_rules.specs.Trees.{node_problem, need_fault}
 use Rattle.cert_tree.proofs.tree.Branching.point_fault.Goals as goal
 

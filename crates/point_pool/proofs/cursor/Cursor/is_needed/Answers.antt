@@ -4,7 +4,7 @@ use Rattle.rcc5_core.specs.contracts.Occupancy.{the_type}
 use Rattle.rcc5_core.specs.declared.Occupancy.{Occupancy}
 use Rattle.rcc5_core.specs.declared.Occupancy.TheVariants.{Empty, Occupied, Free}
 use Rattle.rcc5_core.specs.Region.{word_at, same_word}
-use Rattle.cert_model.specs.Forced.{region_with}
+use Rattle.point_encode.specs.Model.Forced.{region_with}
 use Rattle.world_model.specs.Alive.{problem_at}
 use Rattle.point_encode.specs.Numbers.{is_needed}
 use Rattle.point_pool.proofs.Cursors.{needed_region, needed_concept}

@@ -4,7 +4,7 @@ use Rattle.rcc5_core.specs.declared.Rel.TheVariants.{Equals}
 use Rattle.rcc5_core.specs.Region.{row_of}
 use Rattle.world_model.specs.Problem.{concept_count}
 use Rattle.point_pool.specs.Cursors.{IsCursor}
-use Rattle.cert_model.specs.Forced.{pair_selectors}
+use Rattle.point_encode.specs.Model.Forced.{pair_selectors}
 use Rattle.point_pool.proofs.Cursors.{cursor_fewer}
 use Rattle.point_pool.proofs.cursor.Cursor.pop.Goals as goal
 

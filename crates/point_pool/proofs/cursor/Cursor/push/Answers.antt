@@ -5,7 +5,7 @@ use Rattle.rcc5_core.specs.Region.{row_of}
 use Rattle.world_model.specs.Problem.{pair_count, concept_count}
 use Rattle.world_model.specs.Node.{pair_at}
 use Rattle.world_model.specs.Alive.{allowed}
-use Rattle.cert_model.specs.Forced.{pair_selectors}
+use Rattle.point_encode.specs.Model.Forced.{pair_selectors}
 use Rattle.point_pool.proofs.Cursors.{cursor_more}
 use Rattle.point_pool.proofs.cursor.Cursor.push.Goals as goal
 

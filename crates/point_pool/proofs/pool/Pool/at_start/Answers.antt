@@ -4,7 +4,7 @@ use Rattle.bit_rows.specs.Rows.{has_bit}
 use Rattle.world_model.specs.Alive.{is_point, meets_trees, point_at, problem_at}
 use Rattle.world_model.specs.Problem.{concept_count}
 use Rattle.point_encode.specs.Numbers.{is_needed}
-use Rattle.cert_model.specs.Forced.{need_count}
+use Rattle.point_encode.specs.Model.Forced.{need_count}
 use Rattle.point_pool.specs.Pools.{IsPool}
 use Rattle.point_pool.specs.declared.pool.Pool.{Pool}
 use Rattle.point_pool.proofs.Pooling.{pool_made}

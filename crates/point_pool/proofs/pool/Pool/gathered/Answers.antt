@@ -2,7 +2,7 @@ use Rattle.std.proofs.lemmas.List.{length-replicate}
 use Rattle.std.proofs.Common.{◌≡◌, false, get_or, length, sym, ap, ◌∙◌, subst, arith}
 use Rattle.world_model.specs.Alive.{problem_at}
 use Rattle.point_encode.specs.Numbers.{AreServing, needs_below}
-use Rattle.cert_model.specs.Forced.{need_count}
+use Rattle.point_encode.specs.Model.Forced.{need_count}
 use Rattle.point_pool.proofs.Gathering.{none_gathered, all_false}
 use Rattle.point_pool.proofs.Numbering.{needs_numbered}
 use Rattle.point_pool.proofs.pool.Pool.gathered.Goals as goal

@@ -1,5 +1,5 @@
 use Rattle.std.proofs.Common.{◌≡◌, ◌-◌, ◌<◌, ℕ, length, false}
-use Rattle.point_places.specs.Places.{meets}
+use Rattle.point_table.specs.Places.Places.{meets}
 use Rattle.point_pool.specs.Pools.{IsFewer, IsStriking}
 use Rattle.point_pool.proofs.pool.Pool.strike_cell.Given as goal
 

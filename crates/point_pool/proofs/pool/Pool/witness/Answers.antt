@@ -2,7 +2,7 @@ use Rattle.std.proofs.Common.{◌≡◌, ◌<◌, [], length, get_or, ◌∙◌,
 use Rattle.std.specs.Prelude.{IsTrue}
 use Rattle.std.proofs.lemmas.List.{get_or_read}
 use Rattle.world_model.specs.Alive.{problem_at, is_point, is_in_need, point_at}
-use Rattle.cert_model.specs.Forced.{need_at}
+use Rattle.point_encode.specs.Model.Forced.{need_at}
 use Rattle.point_pool.proofs.Pooling.{served_point}
 use Rattle.point_pool.proofs.pool.Pool.witness.Goals as goal
 

@@ -1,7 +1,7 @@
 use Rattle.std.proofs.Common.{◌≡◌, sym, ap, ◌∙◌, subst, arith}
 use Rattle.world_model.specs.Alive.{problem_at}
 use Rattle.point_encode.specs.Numbers.{EachServed, needs_below}
-use Rattle.cert_model.specs.Forced.{need_count}
+use Rattle.point_encode.specs.Model.Forced.{need_count}
 use Rattle.point_pool.proofs.Numbering.{needs_numbered}
 use Rattle.point_pool.proofs.pool.Pool.witnesses.Goals as goal
 

@@ -1,6 +1,6 @@
 use Rattle.std.proofs.Common.{◌∙◌, sym, ap, subst}
 use Rattle.std.specs.Prelude.{Contains}
-use Rattle.cert_model.specs.Forced.{selectors_of}
+use Rattle.point_encode.specs.Model.Forced.{selectors_of}
 use Rattle.point_query.proofs.Querying.{keeps_still}
 use Rattle.point_query.proofs.closer.Closer.ask_at.Goals as goal
 

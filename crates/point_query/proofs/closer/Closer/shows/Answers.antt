@@ -1,7 +1,7 @@
 use Rattle.std.proofs.Common.{subst}
 use Rattle.constraint_set.specs.Facts.{IsBuilt}
 use Rattle.learn_solver.specs.Solving.{IsSolver}
-use Rattle.cert_model.specs.Forced.{need_at}
+use Rattle.point_encode.specs.Model.Forced.{need_at}
 use Rattle.point_query.proofs.Querying.{known_is_closed}
 use Rattle.point_pool.proofs.Settling.{need_named}
 use Rattle.point_query.proofs.closer.Closer.shows.Goals as goal

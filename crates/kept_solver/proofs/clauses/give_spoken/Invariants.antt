@@ -1,9 +1,0 @@
-use Rattle.std.proofs.Common.{◌≡◌}
-use Rattle.family_solver.specs.Showing.{IsBegun}
-use Rattle.kept_solver.proofs.clauses.give_spoken.Given as goal
-
-abbrev pub invariant-loop-place : goal.invariant-loop-place
-invariant-loop-place l = record {
-  begun : IsBegun l.base l.ground l.solver;
-  exact : l.solver.variables ≡ l.fn.solver.variables;
-}

@@ -1,9 +1,0 @@
-//! Whether some of a problem's articulations hold together, by one solver over the points that the problem has without them.
-#![tactic(auto)]
-
-mod clauses;
-mod flags;
-mod ground;
-mod solver;
-
-pub use solver::{KeptSolver, Verdict};

@@ -1,5 +1,0 @@
-use Rattle.part_rules.proofs.CertNodes.{cert_lines_law}
-use Rattle.part_rules.proofs.laws.cert_lines_are_nodes.Goals as goal
-
-pub returns : goal.returns
-returns c = cert_lines_law c.lines_are_nodes.ensures

@@ -1,7 +1,0 @@
-//! An asker that keeps nothing from call to call.
-#![tactic(auto)]
-
-mod each_need;
-mod plain;
-
-pub use plain::PlainAsker;

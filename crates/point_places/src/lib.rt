@@ -1,7 +1,0 @@
-//! Points by their places, with rows of bits that say which of them each concept has.
-#![tactic(auto)]
-
-mod places;
-mod row;
-
-pub use places::Places;
