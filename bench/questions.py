@@ -11,7 +11,7 @@ COUNTED = {
     "learn_solver::solver::Solver::solve": "questions to a solver",
     "learn_solver::solver::Solver::new": "solvers made",
     "point_query::asker::Asker::new": "askers made",
-    "kept_solver::solver::KeptSolver::ask": "questions on kept statements",
+    "family_solver::kept::solver::KeptSolver::ask": "questions on kept statements",
     "point_ladder::bounds::bound": "pairs tested along a ladder",
 }
 

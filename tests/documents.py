@@ -207,7 +207,7 @@ def crate_faults():
     faults += [f"docs/CODE.md: the crate {crate} is missing" for crate in under if crate not in told]
     faults += [f"docs/CODE.md: there is no crate {crate}" for crate in told if crate not in under]
     faults += [f"docs/CODE.md: the crate {crate} stands there twice" for crate in set(told) if told.count(crate) > 1]
-    asks = set(layer["solver"]) | {"point_places", "point_pool", "point_query"}
+    asks = set(layer["solver"]) | {"point_pool", "point_query"}
     every = set(under)
     ruled_out = {crate: every - set(layer["subject"]) - {"lits_core", "proof_text"} for crate in layer["subject"]}
     ruled_out.update({crate: every - set(layer["derivations"]) for crate in layer["derivations"]})
