@@ -6,7 +6,7 @@ mod begun;
 mod clauses;
 mod family;
 mod ground;
-mod kept;
+pub mod kept;
 mod relations;
 mod solver;
 

@@ -132,18 +132,25 @@ impl Learner {
         LONGEST
     }
 
+    // How many clauses are many: it is set when it is first asked.
+    fn limit(&self, count: usize) -> usize {
+        if self.most == 0 {
+            count.saturating_add(self.interval)
+        } else {
+            self.most
+        }
+    }
+
     // Where clauses have become many, the longer ones among all but the last quarter are forgotten: each clause that is watched
-    // takes time, and short ones say most. How many are many is set when it is first asked, and grows, so that what was learnt is
-    // lost less and less often (Een and Soerensson 2003).
+    // takes time, and short ones say most. How many are many grows, so that what was learnt is lost less and less often
+    // (Een and Soerensson 2003).
     pub(crate) fn reduce(&mut self) -> Result<(), AllocError>
         requires { IsLearner self.old }
         ensures steps { Steps self.old self.new }
         ensures burden { burden self.new ≡ burden self.old }
     {
         let count = self.trail.arena().count();
-        if self.most == 0 {
-            self.most = count.saturating_add(self.interval);
-        }
+        self.most = self.limit(count);
         if count < self.most {
             return Ok(());
         }

@@ -2,7 +2,7 @@
 #![tactic(auto)]
 
 mod blame;
-mod blocks;
+pub mod blocks;
 mod known;
 mod picks;
 mod rules;

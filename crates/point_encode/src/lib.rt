@@ -3,7 +3,7 @@
 
 mod asked;
 mod encode;
-mod model;
+pub mod model;
 mod need;
 mod numbers;
 mod select;
