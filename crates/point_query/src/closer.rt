@@ -6,7 +6,8 @@ ghost use Rattle.point_encode.specs.Needs.{IsInRange, need_seen};
 ghost use Rattle.point_query.specs.Answers.{IsClosed, IsFound};
 ghost use Rattle.learn_solver.specs.Hints.{IsDerived, IsShown};
 ghost use Rattle.point_query.specs.Queries.{IsSolverOf, KeepsSolver, asker_with};
-ghost use Rattle.std.specs.Prelude.{IfNone, IfOk, IfSome, MatchOption, OnErr, OnOk, [], length, nat_lt, ◌<◌, ◌≡◌, ◌≤◌};
+ghost use Rattle.std.specs.Prelude.{IfNone, IfOk, IfSome, IsTrue, MatchOption, OnErr, OnOk, [], length, nat_lt, ◌<◌, ◌≡◌, ◌≤◌};
+ghost use Rattle.world_model.specs.Alive.{IsAlive, problem_at};
 ghost use Rattle.world_model.specs.Problem.{pair_count};
 
 use crate::answers::Found;
@@ -14,20 +15,23 @@ use crate::closes::closes;
 use crate::closings::{Closings, forget_idle};
 use crate::drafted::add_steps;
 use crate::question::query;
+use crate::stuck::{Closing, Stuck};
 use point_encode::{Need, clauses_are_points, count_needs, need_at, needs_are_literals, selectors_of};
 use constraint_set::Problem;
 use learn_solver::Solver;
 use lits_core::{Line, Lit, law_literals_are_sets};
 use point_draft::Draft;
 use point_pool::Cursor;
-use rcc5_core::Position;
+use rcc5_core::{Position, Rel};
 use std::alloc::{AllocError, Global};
 use std::marker::Model;
 
-/// A solver, and the clauses that closed needs before: a need that one of them closes again costs no question.
+/// A solver, and the clauses that closed needs before: a need that one of them closes again costs no question, and a relation that
+/// closed a need of its pair before is mostly ruled out again by a look at one of them.
 pub(crate) struct Closer {
     pub(crate) solver: Solver,
     closings: Closings,
+    stuck: Stuck,
     alloc: Global,
 }
 
@@ -37,6 +41,7 @@ impl Drop for Closer {
         let Closer {
             solver: _,
             closings: _,
+            stuck: _,
             alloc: _,
         } = self;
     }
@@ -60,9 +65,11 @@ impl Closer {
         ensures { IfOk result (λ o. o ≡ solver) }
     {
         let closings = Closings::new(alloc, count_needs(problem))?;
+        let stuck = Stuck::new(alloc, problem.pair_count())?;
         Ok(Closer {
             solver,
             closings,
+            stuck,
             alloc,
         })
     }
@@ -204,6 +211,36 @@ impl Closer {
             }
         }
         None
+    }
+
+    // What closed a need the last time that a relation was tried at a pair: a hint.
+    pub(crate) fn last_closing(&self, pair: u32, rel: Rel) -> Option<Closing> {
+        self.stuck.at(pair, rel)
+    }
+
+    // Notes what closes a need where a relation is tried at a pair.
+    pub(crate) fn note_closing(&mut self, pair: u32, rel: Rel, closing: Closing)
+        ensures { self.new ≡ self.old }
+    {
+        self.stuck.note(pair, rel, closing);
+    }
+
+    // Whether a closing of another prefix shows that this one is dead.
+    pub(crate) fn is_closed_again(&self, cursor: &Cursor, closing: Closing) -> bool
+        requires solver { IsSolverOf cursor.now.problem self.now }
+        ensures { IsTrue result → IsAlive (problem_at cursor.now.problem cursor.now.path) → ⊥ }
+    {
+        if closing.number >= count_needs(cursor.problem()) {
+            return false;
+        }
+        if !cursor.is_needed(closing.number) {
+            return false;
+        }
+        if !closes(&self.solver, cursor, closing.number, closing.id) {
+            return false;
+        }
+        self.shows(cursor, closing.number, closing.id);
+        true
     }
 
     // The lines that wait.

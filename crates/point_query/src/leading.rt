@@ -192,13 +192,50 @@ fn leads_on(
     if !pool.next_set().has(rel) {
         return Ok(false);
     }
-    let bare = lacks_point(pool, solver, rel)?;
-    if bare {
+    let dead = is_ruled_out(pool, solver, rel)?;
+    if dead {
         return Ok(false);
     }
+    let pair = pool.cursor.len();
     pool.push(rel)?;
-    let alive = is_settled(pool, solver)?;
+    let alive = is_settled(pool, solver, pair, rel)?;
     Ok(alive)
+}
+
+// Whether it shows at once that a relation doesn't lead on, with no point struck out.
+fn is_ruled_out(pool: &mut Pool, solver: &mut Closer, rel: Rel) -> Result<bool, AllocError>
+    requires pool { IsPool pool.old }
+    requires within { length pool.old.cursor.path < pair_count pool.old.cursor.problem }
+    requires allowed { IsTrue (has (allowed pool.old.cursor.problem (pair_at pool.old.cursor.problem (length pool.old.cursor.path))) rel) }
+    requires solver { IsSolverOf pool.old.cursor.problem solver.old }
+    ensures solver { KeepsSolver pool.old.cursor.problem solver.old solver.new }
+    ensures pool { OnOk result (IsPool pool.new) }
+    ensures cursor { OnOk result (pool.new.cursor ≡ pool.old.cursor) }
+    ensures dead { IfOk result (λ dead. IsTrue dead → IsAlive (problem_at pool.old.cursor.problem (pool.old.cursor.path ++ rel ∷ [])) → ⊥) }
+{
+    let again = is_dead_again(pool, solver, rel)?;
+    if again {
+        return Ok(true);
+    }
+    lacks_point(pool, solver, rel)
+}
+
+// Whether what closed a need the last time that a relation was tried at the next pair closes it again.
+fn is_dead_again(pool: &mut Pool, solver: &Closer, rel: Rel) -> Result<bool, AllocError>
+    requires within { length pool.old.cursor.path < pair_count pool.old.cursor.problem }
+    requires allowed { IsTrue (has (allowed pool.old.cursor.problem (pair_at pool.old.cursor.problem (length pool.old.cursor.path))) rel) }
+    requires solver { IsSolverOf pool.old.cursor.problem solver.now }
+    ensures same { OnOk result (pool.new ≡ pool.old) }
+    ensures dead { IfOk result (λ dead. IsTrue dead → IsAlive (problem_at pool.old.cursor.problem (pool.old.cursor.path ++ rel ∷ [])) → ⊥) }
+{
+    let pair = pool.cursor.len();
+    let Some(closing) = solver.last_closing(pair, rel) else {
+        return Ok(false);
+    };
+    pool.cursor.push(rel)?;
+    let dead = solver.is_closed_again(&pool.cursor, closing);
+    pool.cursor.back_to(pair as usize);
+    Ok(dead)
 }
 
 // Whether a relation occupies a region of the next pair in which no point of the prefix is, so that none is there below it either.

@@ -12,6 +12,7 @@ mod leading;
 mod probe;
 mod question;
 mod settle;
+mod stuck;
 
 pub use answers::{Alive, Found, Points, Probe};
 pub use asker::Asker;

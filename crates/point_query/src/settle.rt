@@ -8,9 +8,11 @@ ghost use Rattle.world_model.specs.Alive.{IsAlive, all_allow, problem_at};
 
 use crate::answers::Found;
 use crate::closer::Closer;
+use crate::stuck::Closing;
 use lits_core::law_literals_are_sets;
 use point_encode::count_needs;
 use point_pool::Pool;
+use rcc5_core::Rel;
 use std::alloc::AllocError;
 
 // Sees to it that a need has a witness, or answers the clause that shows that it has no point.
@@ -92,8 +94,13 @@ pub(crate) fn settle(pool: &mut Pool, solver: &mut Closer) -> Result<Option<(u32
     Ok(None)
 }
 
-// Whether the pool's prefix is alive: looks for a point for each need.
-pub(crate) fn is_settled(pool: &mut Pool, solver: &mut Closer) -> Result<bool, AllocError>
+// Whether the pool's prefix is alive: looks for a point for each need. If one has none, that is noted of its last pair and relation.
+pub(crate) fn is_settled(
+    pool: &mut Pool,
+    solver: &mut Closer,
+    pair: u32,
+    rel: Rel,
+) -> Result<bool, AllocError>
     requires pool { IsPool pool.old }
     requires allow { IsTrue (all_allow (problem_at pool.old.cursor.problem pool.old.cursor.path)) }
     requires solver { IsSolverOf pool.old.cursor.problem solver.old }
@@ -104,6 +111,9 @@ pub(crate) fn is_settled(pool: &mut Pool, solver: &mut Closer) -> Result<bool, A
 {
     match settle(pool, solver)? {
         None => Ok(true),
-        Some(_) => Ok(false),
+        Some((number, id)) => {
+            solver.note_closing(pair, rel, Closing { number, id });
+            Ok(false)
+        }
     }
 }

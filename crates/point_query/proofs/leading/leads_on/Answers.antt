@@ -19,16 +19,16 @@ front_of {m} begins = ap (take (length m)) begins.1 ∙ take-append-le (length m
 pub returns-then-not-has-clause-solver : goal.returns-then-not-has-clause-solver
 returns-then-not-has-clause-solver c = keeps_still _ _ c.requires.solver
 
-pub lacks_point-requires-clause-allowed : goal.lacks_point-requires-clause-allowed
-lacks_point-requires-clause-allowed c = ap (λ s. has s c.args.rel) (sym c.next_set.ensures) ∙ sym c.has.ensures ∙ c.if-not-has.false
+pub is_ruled_out-requires-clause-allowed : goal.is_ruled_out-requires-clause-allowed
+is_ruled_out-requires-clause-allowed c = ap (λ s. has s c.args.rel) (sym c.next_set.ensures) ∙ sym c.has.ensures ∙ c.if-not-has.false
 
 pub push-requires-clause-allowed : goal.push-requires-clause-allowed
 push-requires-clause-allowed c =
-    subst (λ s. IsTrue (has (allowed s.problem (pair_at s.problem (length s.path))) c.args.rel)) (sym c.in_ok-bare.ensures.cursor)
+    subst (λ s. IsTrue (has (allowed s.problem (pair_at s.problem (length s.path))) c.args.rel)) (sym c.in_ok-dead.ensures.cursor)
     (ap (λ s. has s c.args.rel) (sym c.next_set.ensures) ∙ sym c.has.ensures ∙ c.if-not-has.false)
 
 pub returns-in_err-push-clause-solver : goal.returns-in_err-push-clause-solver
-returns-in_err-push-clause-solver c = subst (λ s. KeepsSolver s.problem c.args.solver.now c.lacks_point.new.solver) c.back_to.ensures.cursor c.lacks_point.ensures.solver
+returns-in_err-push-clause-solver c = subst (λ s. KeepsSolver s.problem c.args.solver.now c.is_ruled_out.new.solver) c.back_to.ensures.cursor c.is_ruled_out.ensures.solver
 
 pub returns-in_err-alive-clause-solver : goal.returns-in_err-alive-clause-solver
 returns-in_err-alive-clause-solver c =
@@ -38,9 +38,9 @@ returns-in_err-alive-clause-solver c =
     let front = ap (λ k. take k c.args.pool.now.cursor.path) c.len.ensures ∙ front_of c.requires.beyond in
     let back : c.back_to.new.self.cursor ≡ record { problem = p; path = m } = c.back_to.ensures.cursor ∙ ap (λ n. record { problem = p; path = n }) front in
     let same : c.push.new.self.cursor ≡ record { problem = p; path = m ++ rel ∷ [] } =
-    c.in_ok-push.ensures.cursor ∙ ap (λ s. record { problem = s.problem; path = s.path ++ rel ∷ [] }) (c.in_ok-bare.ensures.cursor ∙ back) in
-    let first = subst (λ s. KeepsSolver s.problem c.args.solver.now c.lacks_point.new.solver) c.back_to.ensures.cursor c.lacks_point.ensures.solver in
-    keeps_chain c.law_literals_are_sets.ensures p c.push.new.self.cursor.problem c.args.solver.now c.lacks_point.new.solver c.is_settled.new.solver (ap (λ s. s.problem) same) first c.is_settled.ensures.solver
+    c.in_ok-push.ensures.cursor ∙ ap (λ s. record { problem = s.problem; path = s.path ++ rel ∷ [] }) (c.in_ok-dead.ensures.cursor ∙ back) in
+    let first = subst (λ s. KeepsSolver s.problem c.args.solver.now c.is_ruled_out.new.solver) c.back_to.ensures.cursor c.is_ruled_out.ensures.solver in
+    keeps_chain c.law_literals_are_sets.ensures p c.push.new.self.cursor.problem c.args.solver.now c.is_ruled_out.new.solver c.is_settled.new.solver (ap (λ s. s.problem) same) first c.is_settled.ensures.solver
 
 pub returns-clause-solver : goal.returns-clause-solver
 returns-clause-solver c =
@@ -50,9 +50,9 @@ returns-clause-solver c =
     let front = ap (λ k. take k c.args.pool.now.cursor.path) c.len.ensures ∙ front_of c.requires.beyond in
     let back : c.back_to.new.self.cursor ≡ record { problem = p; path = m } = c.back_to.ensures.cursor ∙ ap (λ n. record { problem = p; path = n }) front in
     let same : c.push.new.self.cursor ≡ record { problem = p; path = m ++ rel ∷ [] } =
-    c.in_ok-push.ensures.cursor ∙ ap (λ s. record { problem = s.problem; path = s.path ++ rel ∷ [] }) (c.in_ok-bare.ensures.cursor ∙ back) in
-    let first = subst (λ s. KeepsSolver s.problem c.args.solver.now c.lacks_point.new.solver) c.back_to.ensures.cursor c.lacks_point.ensures.solver in
-    keeps_chain c.law_literals_are_sets.ensures p c.push.new.self.cursor.problem c.args.solver.now c.lacks_point.new.solver c.is_settled.new.solver (ap (λ s. s.problem) same) first c.is_settled.ensures.solver
+    c.in_ok-push.ensures.cursor ∙ ap (λ s. record { problem = s.problem; path = s.path ++ rel ∷ [] }) (c.in_ok-dead.ensures.cursor ∙ back) in
+    let first = subst (λ s. KeepsSolver s.problem c.args.solver.now c.is_ruled_out.new.solver) c.back_to.ensures.cursor c.is_ruled_out.ensures.solver in
+    keeps_chain c.law_literals_are_sets.ensures p c.push.new.self.cursor.problem c.args.solver.now c.is_ruled_out.new.solver c.is_settled.new.solver (ap (λ s. s.problem) same) first c.is_settled.ensures.solver
 
 pub returns-clause-beyond : goal.returns-clause-beyond
 returns-clause-beyond c =
@@ -62,25 +62,25 @@ returns-clause-beyond c =
     let front = ap (λ k. take k c.args.pool.now.cursor.path) c.len.ensures ∙ front_of c.requires.beyond in
     let back : c.back_to.new.self.cursor ≡ record { problem = p; path = m } = c.back_to.ensures.cursor ∙ ap (λ n. record { problem = p; path = n }) front in
     let same : c.push.new.self.cursor ≡ record { problem = p; path = m ++ rel ∷ [] } =
-    c.in_ok-push.ensures.cursor ∙ ap (λ s. record { problem = s.problem; path = s.path ++ rel ∷ [] }) (c.in_ok-bare.ensures.cursor ∙ back) in
+    c.in_ok-push.ensures.cursor ∙ ap (λ s. record { problem = s.problem; path = s.path ++ rel ∷ [] }) (c.in_ok-dead.ensures.cursor ∙ back) in
     subst (λ s. Begins m s.path) (sym (c.in_ok-alive.ensures.cursor ∙ same)) (rel ∷ [], refl)
 
-pub returns-then-bare-clause-beyond : goal.returns-then-bare-clause-beyond
-returns-then-bare-clause-beyond c =
+pub returns-then-dead-clause-beyond : goal.returns-then-dead-clause-beyond
+returns-then-dead-clause-beyond c =
     let p = c.args.pool.now.cursor.problem in
     let m = c.args.prefix.now in
     let front = ap (λ k. take k c.args.pool.now.cursor.path) c.len.ensures ∙ front_of c.requires.beyond in
     let back : c.back_to.new.self.cursor ≡ record { problem = p; path = m } = c.back_to.ensures.cursor ∙ ap (λ n. record { problem = p; path = n }) front in
-    subst (λ s. Begins m s.path) (sym (c.in_ok-bare.ensures.cursor ∙ back)) ([], sym (append-nil m))
+    subst (λ s. Begins m s.path) (sym (c.in_ok-dead.ensures.cursor ∙ back)) ([], sym (append-nil m))
 
-pub returns-then-bare-clause-alive : goal.returns-then-bare-clause-alive
-returns-then-bare-clause-alive c =
+pub returns-then-dead-clause-alive : goal.returns-then-dead-clause-alive
+returns-then-dead-clause-alive c =
     let p = c.args.pool.now.cursor.problem in
     let m = c.args.prefix.now in
     let rel = c.args.rel in
     let front = ap (λ k. take k c.args.pool.now.cursor.path) c.len.ensures ∙ front_of c.requires.beyond in
     let back : c.back_to.new.self.cursor ≡ record { problem = p; path = m } = c.back_to.ensures.cursor ∙ ap (λ n. record { problem = p; path = n }) front in
-    (λ yes. absurd (false≢true yes), λ alive. absurd (c.in_ok-bare.ensures.dead c.if-bare.true (subst (λ s. IsAlive (problem_at s.problem (s.path ++ rel ∷ []))) (sym back) alive)))
+    (λ yes. absurd (false≢true yes), λ alive. absurd (c.in_ok-dead.ensures.dead c.if-dead.true (subst (λ s. IsAlive (problem_at s.problem (s.path ++ rel ∷ []))) (sym back) alive)))
 
 pub returns-then-not-has-clause-alive : goal.returns-then-not-has-clause-alive
 returns-then-not-has-clause-alive c =
@@ -102,5 +102,5 @@ is_settled-requires-clause-allow c =
     let back : c.back_to.new.self.cursor ≡ record { problem = p; path = m } = c.back_to.ensures.cursor ∙ ap (λ n. record { problem = p; path = n }) front in
     let set : c.next_set.result ≡ allowed p (pair_at p (length m)) = c.next_set.ensures ∙ ap (λ s. allowed s.problem (pair_at s.problem (length s.path))) back in
     let allowed_here : IsTrue (has (allowed p (pair_at p (length m))) rel) = ap (λ s. has s rel) (sym set) ∙ sym c.has.ensures ∙ c.if-not-has.false in
-    let same : c.push.new.self.cursor ≡ record { problem = p; path = m ++ rel ∷ [] } = c.in_ok-push.ensures.cursor ∙ ap (λ s. record { problem = s.problem; path = s.path ++ rel ∷ [] }) (c.in_ok-bare.ensures.cursor ∙ back) in
+    let same : c.push.new.self.cursor ≡ record { problem = p; path = m ++ rel ∷ [] } = c.in_ok-push.ensures.cursor ∙ ap (λ s. record { problem = s.problem; path = s.path ++ rel ∷ [] }) (c.in_ok-dead.ensures.cursor ∙ back) in
     subst (λ s. IsTrue (all_allow (problem_at s.problem s.path))) (sym same) (child_allows p m rel c.requires.allow c.requires.short allowed_here)
