@@ -14,8 +14,8 @@ ghost use Rattle.conflict_min.specs.Conflicts.{places_from, loss_claims, IsLeast
 use crate::conflict::{Conflict, Outcome};
 use crate::tries::{all_flags, settle_kept};
 use cert_text::{Flags, Subject, TreeLog};
-use pick_search::show;
 use constraint_set::Problem;
+use pick_search::show;
 use point_query::Asker;
 use search_log::StepFault;
 use set_family::Family;

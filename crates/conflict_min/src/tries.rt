@@ -12,8 +12,8 @@ ghost use Rattle.conflict_min.specs.Conflicts.{all_kept};
 ghost use Rattle.conflict_min.specs.Shrinking.{cut, IsCutOut, IsShrunk, IsDropped};
 
 use cert_text::{Flags, Subject, TreeLog};
-use pick_search::settle;
 use constraint_set::Problem;
+use pick_search::settle;
 use point_query::Asker;
 use search_log::StepFault;
 use set_family::Family;

@@ -8,7 +8,7 @@ mod part;
 mod reading;
 mod sweep;
 
+pub use cert_rules::PartKind;
 pub use fault::JoinFault;
 pub use joining::{Joined, join};
 pub use laws::one_join;
-pub use cert_rules::PartKind;

@@ -15,9 +15,9 @@ use crate::fault::JoinFault;
 use crate::part::Part;
 use cert_check::{Accepted, CheckFault, Checks};
 use cert_reader::CertTextKind;
+use cert_rules::PartKind;
 use constraint_set::Problem;
 use outer_store::{Store, StoreReader};
-use cert_rules::PartKind;
 use std::alloc::Global;
 
 // Why the file of a number is no certificate of a part.

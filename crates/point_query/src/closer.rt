@@ -16,11 +16,13 @@ use crate::closings::{Closings, forget_idle};
 use crate::drafted::add_steps;
 use crate::question::query;
 use crate::stuck::{Closing, Stuck};
-use point_encode::{Need, clauses_are_points, count_needs, need_at, needs_are_literals, selectors_of};
 use constraint_set::Problem;
 use learn_solver::Solver;
 use lits_core::{Line, Lit, law_literals_are_sets};
 use point_draft::Draft;
+use point_encode::{
+    Need, clauses_are_points, count_needs, need_at, needs_are_literals, selectors_of,
+};
 use point_pool::Cursor;
 use rcc5_core::{Position, Rel};
 use std::alloc::{AllocError, Global};

@@ -7,10 +7,10 @@ ghost use Rattle.point_query.specs.Queries.{IsSolverOf, KeepsSolver, asker_with}
 ghost use Rattle.std.specs.Prelude.{IfOk, None, OnOk, ◌++◌, ◌+◌, ◌≡◌};
 
 use crate::answers::Found;
-use point_encode::{Need, clauses_are_points, need_lits, needs_are_literals};
 use constraint_set::Problem;
 use learn_solver::{Answer, Solver};
 use lits_core::{Lit, law_derived_clauses_follow, law_literals_are_sets};
+use point_encode::{Need, clauses_are_points, need_lits, needs_are_literals};
 use point_pool::front;
 use rcc5_core::Rel;
 use std::alloc::{AllocError, Global};

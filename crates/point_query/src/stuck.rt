@@ -29,7 +29,9 @@ impl Stuck {
 
     // Where the entry of a pair and a relation is.
     fn place(&self, pair: u32, rel: Rel) -> usize {
-        let key = (pair as usize).saturating_mul(5).saturating_add(number_of(rel));
+        let key = (pair as usize)
+            .saturating_mul(5)
+            .saturating_add(number_of(rel));
         key.checked_rem(self.entries.len()).unwrap_or(0)
     }
 
