@@ -12,7 +12,7 @@ returns-in-Some-clause-alive c =
     let w = c.settle.new.pool in
     let stuck = subst (λ o. IfSome o (λ (x : ℕ × ℕ). IsFirstStuck w c.settle.new.solver x.0 x.1)) c.in-Some.is c.in_ok-settle.ensures.closed in (
       λ yes. absurd (false≢true yes),
-      λ alive. absurd (lost_is_dead w.cursor.problem w.cursor.path c.in-Some.field-0.0 stuck.within stuck.needed stuck.closed.no_point
+      λ alive. absurd (lost_is_dead w.cursor.problem w.cursor.path _ stuck.within stuck.needed stuck.closed.no_point
           (subst (λ s. IsAlive (problem_at s.problem s.path)) (sym c.in_ok-settle.ensures.cursor) alive)),
     )
 
