@@ -8,16 +8,16 @@ SHARE = $(DESTDIR)$(PREFIX)/share
 
 .PHONY: all check pages tools install install-desk uninstall dist deb completions
 
-# Builds, and runs a small example. From nothing it takes tens of minutes, since all is proved.
+# Proves all and builds the programs. From nothing it takes far over an hour; `rt run` in their folders, crate after crate, takes longer.
 all:
 	@command -v rt >/dev/null || { echo "make: rt is not on the path; it comes with the kit that README.md names" >&2; exit 1; }
-	cd crates/euler_align && rt run -- align in=data/p.txt
-	cd crates/euler_desk && rt run -- in=data/p.txt script=data/if.txt
+	rt ci
 	@echo "built: $(PROGRAM); make install PREFIX=.. puts it into PREFIX/bin"
 
-# The gate: every proof, wrong body, test and program.
+# The gate: the same, and then the built programs are tried from outside.
 check:
 	rt ci
+	tests/all.sh --quick
 
 # What the pages show, and the tools: no proof.
 pages:

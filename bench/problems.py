@@ -23,6 +23,12 @@ hidden SEED LEAVES    two trees over the same things, a third more than LEAVES: 
                       a time, up to one root; two true statements for each leaf of the first, half of them with one relation more
 subjects SEED SIZE    two schemes of SIZE concepts over the same things, a root over groups over groups, with two statements for five concepts,
                       each true, a fifth of them sums and a third of the others with a relation more
+several TREES LEAVES  trees over the same things, as hidden has two: between each two in a row two true statements for each leaf, two in five of
+                      them with one relation more
+combs SEED DEPTH      two trees of DEPTH concepts one under another, each with a leaf beside it, and a true statement for each between two of
+                      these rows, if each concept equals its counterpart; two in five with one relation more
+sorting A B           a root over A children beside one over B, the roots equal, each of the A in one of the B, and two statements for each of
+                      the A, which say that it is in one of the B or that it isn't, three in ten of them with one relation more
 repeated SIZE COUNT   flat, SIZE/2 concepts a side, with COUNT statements, each pair's equals again and again, and a disjoint last
 clashing SIZE K       flat, SIZE/2 concepts a side, with 60 statements: K pairs of children that are said to be equal and to be disjoint, which
                       makes K conflicts that have nothing in common, and others that take part in none
@@ -303,6 +309,37 @@ def hidden(seed, leaves):
     return lines
 
 
+def several(trees, leaves):
+    rng = random.Random(100 * trees + leaves)
+    made = [joined(rng, range(4 * leaves // 3), leaves) for _ in range(trees)]
+    lines = [line for at, groups in enumerate(made) for line in rows_of(at + 1, groups)] + ["articulation"]
+    for at, (left, right) in enumerate(zip(made, made[1:])):
+        for _ in range(2 * leaves):
+            one, other = rng.randrange(len(left)), rng.randrange(len(right))
+            lines.append(f"[{at + 1}.c{one} {unsure(rng, relation(left[one][1], right[other][1]), 0.4)} {at + 2}.c{other}]")
+    return lines
+
+
+def combs(seed, depth):
+    rng = random.Random(seed)
+    rows = [f"(n{at} n{at + 1} s{at})" for at in range(depth)]
+    lines = ["taxonomy 1", *rows, "taxonomy 2", *rows, "articulation"]
+    for _ in range(depth):
+        one, other = rng.randrange(depth + 1), rng.randrange(depth + 1)
+        true = "equals" if one == other else "includes" if one < other else "is_included_in"
+        lines.append(f"[1.n{one} {unsure(rng, true, 0.4)} 2.n{other}]")
+    return lines
+
+
+def sorting(left, right):
+    rng = random.Random(1000 * left + right)
+    lines, within = two_roots(left, right), [rng.randrange(right) for _ in range(left)]
+    for _ in range(2 * left):
+        one, other = rng.randrange(left), rng.randrange(right)
+        lines.append(f"[1.a{one} {unsure(rng, 'is_included_in' if within[one] == other else 'disjoint', 0.3)} 2.b{other}]")
+    return lines
+
+
 def subjects(seed, size):
     rng = random.Random(seed)
     left = hierarchy(rng, 2 * size, size)
@@ -355,7 +392,8 @@ def unclear(seed, size):
 
 FAMILIES = {"generated": generated, "flat": two_roots, "loose": loose, "chain": chain, "sums": sums, "split": split, "roots": roots, "planted": planted,
             "doubtful": doubtful, "repeated": repeated, "clashing": clashing, "opposed": opposed, "vague": vague, "revised": revised, "unclear": unclear,
-            "copied": copied, "pigeons": pigeons, "hidden": hidden, "subjects": subjects, "largest": largest}
+            "copied": copied, "pigeons": pigeons, "hidden": hidden, "several": several, "combs": combs, "sorting": sorting, "subjects": subjects,
+            "largest": largest}
 
 if __name__ == "__main__":
     kind, one, other = sys.argv[1], int(sys.argv[2]), int(sys.argv[3])
