@@ -12,3 +12,4 @@ pub mod Settling
 pub mod Showing
 pub mod Gathering
 pub mod Drafted
+pub mod Losing

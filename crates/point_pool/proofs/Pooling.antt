@@ -1,10 +1,10 @@
 -- How points are struck out and taken back, and needs watched, along a pool.
-use Rattle.std.proofs.Common.{Vec, Global, ◌≡◌, ◌≢◌, ℕ, zero, suc, ◌+◌, ◌*◌, ◌<◌, ◌≤◌, ◌⊎◌, Bool, true, false, List, [], ◌∷◌, ◌++◌, length, get_or, set, take, inl, inr, refl, sym, ap, ◌∙◌, subst, arith}
+use Rattle.std.proofs.Common.{Vec, Global, ◌≡◌, ◌≢◌, ℕ, ◌+◌, ◌*◌, ◌<◌, ◌≤◌, ◌⊎◌, Bool, true, List, [], ◌∷◌, ◌++◌, length, get_or, set, take, inl, inr, sym, ap, ◌∙◌, subst, arith}
 use Rattle.std.specs.Prelude.{IsTrue, All, Contains}
 use Rattle.std.proofs.lemmas.Bool.{cases_eq, cases_lt, and_parts, eqb-true, true≢false}
 use Rattle.std.specs.List.{list_all}
 use Rattle.std.proofs.lemmas.List.Elements.{All-push, Contains-push, Contains-append_left}
-use Rattle.std.proofs.lemmas.List.{get_or-set_same, get_or-set_other, set_past, length-set, length-append, length-take-le, length-take, take-take, take_all, take-append-le, get_or_append_left, get_or_push, get_or-take}
+use Rattle.std.proofs.lemmas.List.{get_or-set_same, get_or-set_other, set_past, length-set, length-append, length-take-le, length-take, take-take, take-append-le, get_or_append_left, get_or_push, get_or-take}
 use Rattle.bit_rows.specs.Rows.{has_bit}
 use Rattle.rcc5_core.specs.declared.Rel.{Rel}
 use Rattle.world_model.specs.Problem.{Problem, kept_sums, concept_count}
@@ -21,7 +21,7 @@ use Rattle.point_pool.specs.declared.waiting.Numbers.{Numbers}
 use Rattle.point_pool.specs.Cursors.{CursorState, IsOpen}
 use Rattle.point_encode.specs.Numbers.{is_needed}
 use Rattle.point_encode.specs.Model.Forced.{need_at, need_count}
-use Rattle.point_pool.specs.Pools.{served_at, ArePooled, AllAvoid, IsPlaceOf, IsListed, IsFit, IsWitness, FitsNeed, HasWitness, IsAdded, IsKept, IsNeeded, IsPool, IsPoolBut, StrikesOut, IsStriking}
+use Rattle.point_pool.specs.Pools.{served_at, AllAvoid, IsPlaceOf, IsListed, IsFit, IsWitness, FitsNeed, HasWitness, IsAdded, IsKept, IsNeeded, IsPool, IsPoolBut, StrikesOut, IsStriking}
 use Rattle.point_pool.proofs.Prefixes.{point_more, point_later, needed_later, needed_before}
 
 -- a relation more is about to strike out points

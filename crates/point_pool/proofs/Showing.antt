@@ -1,6 +1,6 @@
 -- Witnesses that show that a relation leads on.
-use Rattle.std.proofs.Common.{◌≡◌, ◌≢◌, ℕ, zero, suc, ◌+◌, ◌*◌, ◌/◌, ◌%◌, ◌-◌, ◌<◌, ◌≤◌, Bool, true, false, not, cond, ◌&&◌, inl, inr, List, [], ◌∷◌, ◌++◌, length, get_or, refl, sym, ap, ◌∙◌, subst, arith}
-use Rattle.std.specs.Prelude.{IsTrue, ◌==◌}
+use Rattle.std.proofs.Common.{◌≡◌, ℕ, zero, suc, ◌+◌, ◌*◌, ◌/◌, ◌%◌, ◌-◌, ◌<◌, true, false, not, cond, inl, inr, List, [], ◌∷◌, ◌++◌, length, get_or, refl, sym, ap, ◌∙◌, subst, arith}
+use Rattle.std.specs.Prelude.{IsTrue, ◌==◌, ◌↔◌}
 use Rattle.std.proofs.lemmas.Bool.{and_from, and_parts, cases_eq, cases_lt, false≢true, false_from_ne_true, lt-ltb}
 use Rattle.std.proofs.lemmas.List.{length-append, get_or_push}
 use Rattle.bit_rows.specs.Rows.{has_bit}
@@ -22,11 +22,11 @@ use Rattle.world_model.specs.Problem.{Problem, pairs, pair_count}
 use Rattle.world_model.proofs.Members.{In, In-get_or, all_at, in_from_contains}
 use Rattle.point_pool.specs.Cursors.{IsOpen}
 use Rattle.point_pool.specs.declared.pool.Pool.{Pool}
-use Rattle.point_pool.specs.Pools.{IsPool, IsSeenAt, ShowPart}
+use Rattle.point_pool.specs.declared.shows.Seen.{Seen}
+use Rattle.point_pool.specs.Pools.{AreSeen, IsPool, IsSeenAt, IsSeenNext, ShowPart, is_seen}
 use Rattle.point_pool.proofs.Cursors.{forced_inside, open_more}
 use Rattle.point_pool.proofs.Going.{open_allows}
 use Rattle.point_pool.proofs.Numbering.{IsNumbered, from_below, needs_numbered}
-use Rattle.point_pool.proofs.Pooling.{served_point}
 use Rattle.point_pool.proofs.Prefixes.{needed_before, needed_by, point_more}
 use Rattle.point_pool.proofs.Serving.{all_from_places}
 use Rattle.point_pool.proofs.Settling.{served_now}
@@ -57,6 +57,25 @@ shown_at s pair part place small seen =
     by (suc (suc zero)) small h = h
     by (suc (suc (suc part))) small h = absurd (omega arith)
 
+-- a region is seen as its number among the three says
+pub seen_part : (w : Pool) (seen : Seen) → AreSeen w seen → (part : ℕ) → part < 3 → IsTrue (is_seen seen part) ↔ IsSeenNext w (not (part == 2)) (not (part == 0))
+seen_part w seen are zero small = are.left_only
+seen_part w seen are (suc zero) small = are.both
+seen_part w seen are (suc (suc zero)) small = are.right_only
+seen_part w seen are (suc (suc (suc part))) small = absurd (omega arith)
+
+-- so what is forced of it is shown, if it is empty and not seen, or occupied and seen
+pub part_shown : (w : Pool) (seen : Seen) → AreSeen w seen → (regions : Regions) (part : ℕ) → part < 3 →
+    (word_at regions (region_with part) ≡ Empty → is_seen seen part ≡ false) → (word_at regions (region_with part) ≡ Occupied → is_seen seen part ≡ true) →
+    ShowPart w.places (pair_at w.cursor.problem (length w.cursor.path)) regions part
+part_shown w seen are regions part small empty occupied =
+    let same = seen_part w seen are part small in
+    let pair = pair_at w.cursor.problem (length w.cursor.path) in
+    record {
+      empty = λ e place at. false≢true (sym (empty e) ∙ same.1 (record { place = place; passes = shown_at w.places pair part place small at }));
+      occupied = λ e. let found = same.0 (occupied e) in (found.place, seen_at w.places pair part found.place small found.passes);
+    }
+
 -- used points are in no region that the relation empties
 pub used_avoids : (s : PlaceState) (pair : ℕ × ℕ) (regions : Regions) → ((part : ℕ) → part < 3 → ShowPart s pair regions part) → (place : ℕ) → has_bit s.live place ≡ true → has_bit s.used place ≡ true →
     avoids (point_at s.points place) (pair, regions) ≡ true
@@ -72,7 +91,7 @@ three_parts P a b c (suc zero) small = b
 three_parts P a b c (suc (suc zero)) small = c
 three_parts P a b c (suc (suc (suc part))) small = absurd (omega arith)
 
-is_occupied : (o : Occupancy) → same_word o Occupied ≡ true → o ≡ Occupied
+pub is_occupied : (o : Occupancy) → same_word o Occupied ≡ true → o ≡ Occupied
 is_occupied Empty h = absurd (false≢true h)
 is_occupied Occupied h = refl
 is_occupied Free h = absurd (false≢true h)

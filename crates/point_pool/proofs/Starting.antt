@@ -1,10 +1,10 @@
 -- Which points are struck out by rows of bits.
-use Rattle.std.proofs.Common.{◌≡◌, ◌≢◌, ℕ, ◌+◌, ◌*◌, ◌/◌, ◌<◌, ◌≤◌, Bool, true, false, not, ◌&&◌, List, [], ◌∷◌, ◌++◌, length, get_or, inl, inr, refl, sym, ap, ◌∙◌, subst, arith}
-use Rattle.std.specs.Prelude.{IsTrue, if◌then◌else◌}
+use Rattle.std.proofs.Common.{◌≡◌, ℕ, ◌<◌, Bool, true, false, not, ◌&&◌, List, inl, inr, refl, sym, ap, ◌∙◌, subst, arith}
+use Rattle.std.specs.Prelude.{IsTrue}
 use Rattle.std.specs.List.{list_all}
 use Rattle.std.proofs.lemmas.Bool.{cases_Bool, cases_eq, and_from, true≢false}
 use Rattle.bit_rows.specs.Rows.{has_bit}
-use Rattle.rcc5_core.specs.Region.{all_regions, word_at, same_word, forced_regions}
+use Rattle.rcc5_core.specs.Region.{word_at, same_word}
 use Rattle.rcc5_core.specs.declared.Occupancy.{Occupancy}
 use Rattle.rcc5_core.specs.declared.Occupancy.TheVariants.{Empty, Occupied, Free}
 use Rattle.rcc5_core.specs.declared.Region.{Region}
@@ -13,10 +13,10 @@ use Rattle.rcc5_core.specs.declared.Regions.{Regions}
 use Rattle.point_encode.specs.Model.Forced.{region_with}
 use Rattle.world_model.specs.Problem.{Problem, pairs, pair_count, kept_sums}
 use Rattle.world_model.specs.Node.{pair_at}
-use Rattle.world_model.specs.Alive.{forced_pairs, allowed, bit_of, avoids, avoids_by, lies_by, point_sums, is_point, point_at, meets_trees}
+use Rattle.world_model.specs.Alive.{forced_pairs, bit_of, avoids, avoids_by, lies_by, point_sums, is_point, point_at, meets_trees}
 use Rattle.constraint_set.proofs.PointTests.{forced_avoids}
 use Rattle.world_model.specs.Points.{forced_at, avoids_at}
-use Rattle.point_table.specs.Places.Places.{PlaceState, IsNextMet, IsStruck, AreStruck}
+use Rattle.point_table.specs.Places.Places.{PlaceState, IsStruck}
 use Rattle.point_pool.specs.Pools.{AllAvoid, CellAvoids, IsFewer}
 
 -- bits that meet the trees, the sums and the pairs are a point

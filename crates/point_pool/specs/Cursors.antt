@@ -1,6 +1,6 @@
 -- A prefix of a problem each of whose pairs allows its relation, and what is forced of each pair there.
 use Rattle.point_encode.specs.Model.Clauses.{first_sum_selector, is_so}
-use Rattle.point_encode.specs.Model.Forced.{pair_selectors, selectors_of}
+use Rattle.point_encode.specs.Model.Forced.{need_at, pair_selectors, selectors_of}
 use Rattle.constraint_set.specs.Readers.{sum_places}
 use Rattle.world_model.specs.Points.{forced_at}
 use Rattle.rcc5_core.specs.RelationSet.{has, is_empty_set}
@@ -8,8 +8,8 @@ use Rattle.rcc5_core.specs.declared.Regions.{Regions}
 use Rattle.rcc5_core.specs.declared.Rel.{Rel}
 use Rattle.rcc5_core.specs.declared.Rel.TheVariants.{Equals}
 use Rattle.std.specs.List.{range_with_len}
-use Rattle.std.specs.Prelude.{Contains, IsTrue, List, MatchOption, Option, [], false, flat_map, if◌then◌else◌, length, not, slice_index, slice_index_or, ℕ, ◌*◌, ◌++◌, ◌+◌, ◌<◌, ◌∷◌, ◌≡◌, ◌≤◌}
-use Rattle.world_model.specs.Alive.{all_allow, allowed, problem_at}
+use Rattle.std.specs.Prelude.{Bool, Contains, IsTrue, List, MatchOption, Option, [], false, flat_map, if◌then◌else◌, length, not, slice_index, slice_index_or, ℕ, ◌*◌, ◌++◌, ◌+◌, ◌<◌, ◌∷◌, ◌≡◌, ◌≤◌}
+use Rattle.world_model.specs.Alive.{all_allow, allowed, is_in_need, is_point, problem_at}
 use Rattle.world_model.specs.Node.{pair_at}
 use Rattle.world_model.specs.Problem.{Problem, concept_count, pair_count}
 
@@ -28,6 +28,10 @@ pub record CursorState : Type 0 where
 pub record IsOpen (p : Problem) (m : List Rel) : Type 0 where
   pub within : length m ≤ pair_count p
   pub each : (k : ℕ) → k < length m → IsTrue (has (allowed p (pair_at p k)) (slice_index_or m k Equals))
+
+-- bits are a point of the prefix in the need with a number
+abbrev pub IsPointIn : CursorState → ℕ → List Bool → Type 0
+IsPointIn s number bits = IsTrue (is_point (problem_at s.problem s.path) bits) × IsTrue (is_in_need (need_at s.problem number) bits)
 
 -- regions are what the problem forces, pair by pair
 pub record AreForced (p : Problem) (regions : List Regions) : Type 0 where

@@ -1,15 +1,16 @@
 -- Points that were found, at a prefix: which of them are points of it, and which needs they serve.
-use Rattle.bit_rows.specs.Rows.{has_bit}
+use Rattle.bit_rows.specs.Rows.{SomePlace, has_bit}
 use Rattle.point_encode.specs.Model.Forced.{need_at, need_count, region_with}
 use Rattle.point_encode.specs.Numbers.{AreServing, is_needed, needs_below}
-use Rattle.point_table.specs.Places.Places.{IsStruck, PlaceState}
+use Rattle.point_table.specs.Places.Places.{IsStruck, PlaceState, shows_at}
 use Rattle.point_pool.specs.declared.pool.Pool.{Pool}
+use Rattle.point_pool.specs.declared.shows.Seen.{Seen}
 use Rattle.rcc5_core.specs.Region.{row_of, word_at}
 use Rattle.rcc5_core.specs.declared.Occupancy.TheVariants.{Empty, Occupied}
 use Rattle.rcc5_core.specs.declared.Regions.{Regions}
 use Rattle.rcc5_core.specs.declared.Rel.{Rel}
-use Rattle.std.specs.Prelude.{All, Bool, Contains, IsTrue, List, [], false, length, slice_index_or, take, true, ℕ, ◌++◌, ◌+◌, ◌<◌, ◌∷◌, ◌≡◌, ◌≢◌, ◌≤◌, ◌⊎◌}
-use Rattle.world_model.specs.Alive.{Need, avoids_by, bit_of, is_in_need, is_point, lies_in, meets_trees, point_at, problem_at}
+use Rattle.std.specs.Prelude.{All, Bool, Contains, IsTrue, List, [], false, length, slice_index_or, take, true, ℕ, ◌*◌, ◌++◌, ◌+◌, ◌<◌, ◌∷◌, ◌≡◌, ◌≢◌, ◌≤◌, ◌==◌, ◌↔◌, ◌⊎◌, if◌then◌else◌}
+use Rattle.world_model.specs.Alive.{HasPoint, Need, avoids_by, bit_of, is_in_need, is_point, lies_in, meets_trees, point_at, problem_at}
 use Rattle.world_model.specs.Node.{pair_at}
 use Rattle.world_model.specs.Problem.{Problem, concept_count}
 
@@ -134,6 +135,31 @@ pub record IsSeenAt (s : PlaceState) (pair : ℕ × ℕ) (part place : ℕ) : Ty
 pub record ShowPart (s : PlaceState) (pair : ℕ × ℕ) (regions : Regions) (part : ℕ) : Type 0 where
   pub empty : word_at regions (region_with part) ≡ Empty → (place : ℕ) → IsSeenAt s pair part place → ⊥
   pub occupied : word_at regions (region_with part) ≡ Occupied → (place : ℕ) × IsSeenAt s pair part place
+
+-- a live point that is used has the concepts of the next pair or lacks them, as is said
+abbrev pub IsSeenNext : Pool → Bool → Bool → Type 0
+IsSeenNext w left right =
+    SomePlace (shows_at w.places ((pair_at w.cursor.problem (length w.cursor.path)).0, left) ((pair_at w.cursor.problem (length w.cursor.path)).1, right))
+
+-- the regions of the next pair in which a live point is that is used
+pub record AreSeen (w : Pool) (seen : Seen) : Type 0 where
+  pub left_only : IsTrue seen.left_only ↔ IsSeenNext w true false
+  pub both : IsTrue seen.both ↔ IsSeenNext w true true
+  pub right_only : IsTrue seen.right_only ↔ IsSeenNext w false true
+
+-- whether one is in a region, by its number among the three
+abbrev pub is_seen : Seen → ℕ → Bool
+is_seen seen part = if part == 0 then seen.left_only else (if part == 1 then seen.both else seen.right_only)
+
+-- the numbers of the needs that a relation has of its pair are listed
+abbrev pub HasOwn : List ℕ → ℕ → Rel → Type 0
+HasOwn list pair rel = (part : ℕ) → part < 3 → word_at (row_of rel) (region_with part) ≡ Occupied → Contains list (3 * pair + part)
+
+-- each need of the prefix with a relation more is listed, or has a point there
+abbrev pub AreAtRisk : Pool → Rel → List ℕ → Type 0
+AreAtRisk w rel list =
+    (number : ℕ) → number < need_count w.cursor.problem → IsTrue (is_needed (problem_at w.cursor.problem (w.cursor.path ++ rel ∷ [])) number) →
+    Contains list number ⊎ HasPoint (problem_at w.cursor.problem (w.cursor.path ++ rel ∷ [])) (need_at w.cursor.problem number)
 
 -- points that are gathered from a pool's serve the needs with a number below n; those at the places that are taken are there
 pub record AreGathered (w : Pool) (n : ℕ) (list : List (List Bool)) (taken : List Bool) : Type 0 where

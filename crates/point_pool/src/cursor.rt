@@ -29,7 +29,7 @@ pub struct Cursor {
     empty: Option<u32>,
     // The selectors that the prefix makes true: those that the problem alone makes true, then those of each relation in order.
     selected: Vec<Lit>,
-    alloc: Global,
+    pub(crate) alloc: Global,
 }
 
 // Written out, so that letting one go is a call.

@@ -1,13 +1,15 @@
 //! What is drafted for a need at the prefix.
 ghost use Rattle.point_pool.specs.Drafted.{AvoidsPair, AvoidsPairsOf};
-ghost use Rattle.point_encode.specs.Model.Forced.{need_at, need_count};
-ghost use Rattle.point_pool.specs.Pools.{HasWitness, IsPool, IsPoolBut};
-ghost use Rattle.std.specs.Prelude.{IfOk, IsTrue, OnOk, length, true, ℕ, ◌+◌, ◌<◌, ◌≡◌};
-ghost use Rattle.world_model.specs.Alive.{bit_of, is_in_need, is_point, problem_at};
+ghost use Rattle.point_encode.specs.Model.Forced.{need_count};
+ghost use Rattle.point_pool.specs.Cursors.{IsPointIn};
+ghost use Rattle.point_pool.specs.Pools.{IsPoolBut};
+ghost use Rattle.std.specs.Prelude.{IfOk, IfSome, IsTrue, length, true, ℕ, ◌<◌, ◌≡◌};
+ghost use Rattle.world_model.specs.Alive.{bit_of, is_point, problem_at};
 ghost use Rattle.world_model.specs.Problem.{concept_count};
 
 use crate::cursor::Cursor;
 use crate::pool::Pool;
+use lits_core::Bits;
 use point_draft::Draft;
 use point_encode::{by_concepts, is_in, need_at};
 use point_table::{avoids_by, bits_of, meets_structure};
@@ -83,6 +85,24 @@ impl Cursor {
         }
         true
     }
+
+    /// The point that was drafted for the need with a number, if it is a point of the prefix in it.
+    pub fn drafted(&self, number: u32, draft: &Draft) -> Result<Option<Bits>, AllocError>
+        requires { number < need_count self.now.problem }
+        ensures { IfOk result (λ found. IfSome found (IsPointIn self.now number)) }
+    {
+        let Draft::Point(bits) = draft else {
+            return Ok(None);
+        };
+        if !self.has_point(bits) {
+            return Ok(None);
+        }
+        let point = bits_of(self.alloc, bits)?;
+        if !is_in(by_concepts(self.problem(), number), &point) {
+            return Ok(None);
+        }
+        Ok(Some(point))
+    }
 }
 
 impl Pool {
@@ -96,29 +116,5 @@ impl Pool {
         let need = need_at(self.cursor.problem(), number);
         self.drafts
             .search(self.cursor.problem(), self.cursor.path(), need)
-    }
-
-    /// Makes a drafted point the witness of a need, if it is a point of the prefix in it.
-    pub fn take(&mut self, number: u32, draft: &Draft) -> Result<bool, AllocError>
-        requires pool { IsPoolBut self.old number (number + 1) }
-        requires within { number < need_count self.old.cursor.problem }
-        ensures pool { OnOk result (IsPoolBut self.new number (number + 1)) }
-        ensures cursor { OnOk result (self.new.cursor ≡ self.old.cursor) }
-        ensures waiting { OnOk result (self.new.waiting ≡ self.old.waiting) }
-        ensures served { IfOk result (λ taken. taken ≡ true → IsPool self.new × HasWitness self.new number) }
-    {
-        let Draft::Point(bits) = draft else {
-            return Ok(false);
-        };
-        if !self.cursor.has_point(bits) {
-            return Ok(false);
-        }
-        let point = bits_of(self.alloc, bits)?;
-        if !is_in(by_concepts(self.cursor.problem(), number), &point) {
-            return Ok(false);
-        }
-        let place = self.add(point)?;
-        self.assign(number, place)?;
-        Ok(true)
     }
 }

@@ -97,6 +97,14 @@ impl Numbers {
         Ok(())
     }
 
+    // Adds the numbers to a list.
+    pub(crate) fn push_all(&self, list: &mut Vec<u32>) -> Result<(), AllocError>
+        ensures { OnOk result (list.new.items ≡ list.old.items ++ self.now) }
+    {
+        list.extend_from_slice(&self.list)?;
+        Ok(())
+    }
+
     // Moves the numbers to those that wait.
     pub(crate) fn release(&mut self, waiting: &mut Waiting) -> Result<(), AllocError>
         ensures moved { OnOk result ((number : ℕ) → Contains self.old number → Contains waiting.new number) }

@@ -5,3 +5,4 @@ pub mod Deciding
 pub mod Baring
 pub mod Following
 pub mod Choosing
+pub mod Keeping

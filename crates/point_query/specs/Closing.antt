@@ -1,5 +1,7 @@
 -- Needs of a pool that clauses close.
-use Rattle.std.specs.Prelude.{ℕ, ◌+◌, ◌<◌, Option, MatchOption, IsTrue}
+use Rattle.std.specs.Prelude.{ℕ, ◌+◌, ◌<◌, Option, MatchOption, IsTrue, [], ◌∷◌, ◌++◌}
+use Rattle.rcc5_core.specs.declared.Rel.{Rel}
+use Rattle.point_pool.specs.Cursors.{CursorState}
 use Rattle.world_model.specs.Problem.{Problem}
 use Rattle.world_model.specs.Alive.{problem_at, HasPoint}
 use Rattle.constraint_set.specs.Shape.{SameShape}
@@ -28,6 +30,11 @@ pub record IsFirstStuck (w : Pool) (s : SolverState) (number id : ℕ) : Type 0 
   pub needed : IsTrue (is_needed (problem_at w.cursor.problem w.cursor.path) number)
   pub closed : IsClosedNow w s number id
   pub earlier : (other : ℕ) → other < number → IsTrue (is_needed (problem_at w.cursor.problem w.cursor.path) other) → HasPoint (problem_at w.cursor.problem w.cursor.path) (need_at w.cursor.problem other)
+
+-- where a relation is added, a number is that of no need, or its need has a point
+abbrev pub IsKeptAfter : CursorState → Rel → ℕ → Type 0
+IsKeptAfter s rel number =
+    number < need_count s.problem → IsTrue (is_needed (problem_at s.problem (s.path ++ rel ∷ [])) number) → HasPoint (problem_at s.problem (s.path ++ rel ∷ [])) (need_at s.problem number)
 
 -- what an asker keeps: the solver of its shape, and perhaps a pool at a problem of this shape
 pub record IsKeptAsker (shape : Problem) (solver : SolverState) (pool : Option Pool) : Type 0 where

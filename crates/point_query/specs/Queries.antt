@@ -1,5 +1,5 @@
 -- What a query is asked with.
-use Rattle.std.specs.Prelude.{◌≡◌, Bool, List, All, IsTrue, [], ◌∷◌, ◌++◌}
+use Rattle.std.specs.Prelude.{◌≡◌, Bool, List, All, IsTrue, [], ◌∷◌, ◌++◌, ◌↔◌}
 use Rattle.rcc5_core.specs.RelationSet.{has}
 use Rattle.rcc5_core.specs.declared.Rel.{Rel}
 use Rattle.rcc5_core.specs.declared.RelSet.{RelSet}
@@ -28,6 +28,10 @@ asker_with p s = record { shape = shape_of p; solver = s }
 -- lists of bits are points of a problem
 abbrev pub ArePoints : Problem → List (List Bool) → Type 0
 ArePoints p points = All (λ bits. IsTrue (is_point p bits)) points
+
+-- a set has exactly the relations that lead on from a prefix to an alive one
+abbrev pub AreLeading : Problem → List Rel → RelSet → Type 0
+AreLeading p m set = (rel : Rel) → IsTrue (has set rel) ↔ IsAlive (problem_at p (m ++ rel ∷ []))
 
 -- each relation of a set leads on from a prefix to an alive one
 abbrev pub AllLeadOn : Problem → List Rel → RelSet → Type 0

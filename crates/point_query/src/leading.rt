@@ -1,24 +1,24 @@
 //! Which relations lead on from an alive prefix to an alive one.
-ghost use Rattle.point_pool.specs.Pools.{IsPool};
-ghost use Rattle.point_query.specs.Queries.{AllLeadOn, IsSolverOf, KeepsSolver};
+ghost use Rattle.point_pool.specs.Pools.{AreSeen, IsPool};
+ghost use Rattle.point_query.specs.Queries.{AllLeadOn, AreLeading, IsSolverOf, KeepsSolver};
 ghost use Rattle.rcc5_core.specs.RelationSet.{has};
 ghost use Rattle.rcc5_core.specs.declared.Rel.{Rel};
 ghost use Rattle.std.specs.Prelude.{IfOk, IsTrue, OnOk, [], length, ◌++◌, ◌+◌, ◌<◌, ◌↔◌, ◌∷◌, ◌≡◌};
-ghost use Rattle.world_model.specs.Listing.{Begins};
 ghost use Rattle.world_model.specs.Alive.{IsAlive, all_allow, allowed, problem_at};
 ghost use Rattle.world_model.specs.Node.{pair_at};
 ghost use Rattle.world_model.specs.Problem.{pair_count};
 
+use crate::bearing::bears;
 use crate::closer::Closer;
-use crate::settle::{is_settled, serve, settle};
+use crate::settle::{serve, settle};
 use lits_core::law_literals_are_sets;
 use point_encode::word_of;
-use point_pool::Pool;
+use point_pool::{Pool, Seen};
 use rcc5_core::{Occupancy, Position, Rel, RelSet};
 use std::alloc::AllocError;
 use world_model::positions_narrow;
 
-// The relations, the last first: so the pool ends at the first of those that it tries, where a walk goes next.
+// The relations, the last first.
 const LAST_FIRST: [Rel; 5] = [
     Rel::Disjoint,
     Rel::Overlaps,
@@ -40,29 +40,28 @@ pub(crate) fn alive_after(
     ensures solver { KeepsSolver pool.old.cursor.problem solver.old solver.new }
     ensures pool { OnOk result (IsPool pool.new) }
     ensures problem { OnOk result (pool.new.cursor.problem ≡ pool.old.cursor.problem) }
-    ensures each { IfOk result (λ set. (rel : Rel) → IsTrue (has set rel) ↔ IsAlive (problem_at pool.old.cursor.problem (prefix.now ++ rel ∷ []))) }
+    ensures each { IfOk result (AreLeading pool.old.cursor.problem prefix.now) }
 {
     match pool.go_to(prefix)? {
-        None => each_told(pool, solver, prefix),
+        None => each_told(pool, solver),
         Some(_) => Ok(RelSet::none()),
     }
 }
 
-// Tells of each relation, where the pool stands at the prefix: first by the points that serve its needs.
-fn each_told(pool: &mut Pool, solver: &mut Closer, prefix: &Position) -> Result<RelSet, AllocError>
+// Tells of each relation, where the pool stands at an alive prefix: first by the points that serve its needs.
+fn each_told(pool: &mut Pool, solver: &mut Closer) -> Result<RelSet, AllocError>
     requires pool { IsPool pool.old }
-    requires path { pool.old.cursor.path ≡ prefix.now }
-    requires short { length prefix.now < pair_count pool.old.cursor.problem }
-    requires allow { IsTrue (all_allow (problem_at pool.old.cursor.problem prefix.now)) }
+    requires within { length pool.old.cursor.path < pair_count pool.old.cursor.problem }
+    requires alive { IsAlive (problem_at pool.old.cursor.problem pool.old.cursor.path) }
     requires solver { IsSolverOf pool.old.cursor.problem solver.old }
     ensures solver { KeepsSolver pool.old.cursor.problem solver.old solver.new }
     ensures pool { OnOk result (IsPool pool.new) }
-    ensures problem { OnOk result (pool.new.cursor.problem ≡ pool.old.cursor.problem) }
-    ensures each { IfOk result (λ set. (rel : Rel) → IsTrue (has set rel) ↔ IsAlive (problem_at pool.old.cursor.problem (prefix.now ++ rel ∷ []))) }
+    ensures cursor { OnOk result (pool.new.cursor ≡ pool.old.cursor) }
+    ensures each { IfOk result (AreLeading pool.old.cursor.problem pool.old.cursor.path) }
 {
     law_literals_are_sets();
     let shown = shown_here(pool, solver)?;
-    each_tried(pool, solver, prefix, shown)
+    each_tried(pool, solver, shown)
 }
 
 // The relations of which the points that serve the needs of the pool's prefix show that they lead on.
@@ -90,16 +89,18 @@ fn all_shown(pool: &Pool) -> RelSet
     requires allow { IsTrue (all_allow (problem_at pool.now.cursor.problem pool.now.cursor.path)) }
     ensures { AllLeadOn pool.now.cursor.problem pool.now.cursor.path result }
 {
+    let seen = pool.seen();
     let mut shown = RelSet::none();
     for rel in LAST_FIRST {
-        shown = with_if_shown(pool, shown, rel);
+        shown = with_if_shown(pool, seen, shown, rel);
     }
     shown
 }
 
 // One relation more, if it is one of them.
-fn with_if_shown(pool: &Pool, shown: RelSet, rel: Rel) -> RelSet
+fn with_if_shown(pool: &Pool, seen: Seen, shown: RelSet, rel: Rel) -> RelSet
     requires pool { IsPool pool.now }
+    requires seen { AreSeen pool.now seen }
     requires settled { pool.now.waiting ≡ [] }
     requires within { length pool.now.cursor.path < pair_count pool.now.cursor.problem }
     requires allow { IsTrue (all_allow (problem_at pool.now.cursor.problem pool.now.cursor.path)) }
@@ -109,86 +110,69 @@ fn with_if_shown(pool: &Pool, shown: RelSet, rel: Rel) -> RelSet
     if !pool.next_set().has(rel) {
         return shown;
     }
-    if !pool.shows(rel) {
+    if !pool.shows(seen, rel) {
         return shown;
     }
     shown.with(rel)
 }
 
-// Tries each relation but those that are known to lead on, where the pool stands at the prefix or beyond it.
-fn each_tried(
-    pool: &mut Pool,
-    solver: &mut Closer,
-    prefix: &Position,
-    known: RelSet,
-) -> Result<RelSet, AllocError>
-    requires known { AllLeadOn pool.old.cursor.problem prefix.now known }
+// Tries each relation but those that are known to lead on, where the pool stands at an alive prefix.
+fn each_tried(pool: &mut Pool, solver: &mut Closer, known: RelSet) -> Result<RelSet, AllocError>
+    requires known { AllLeadOn pool.old.cursor.problem pool.old.cursor.path known }
     requires pool { IsPool pool.old }
-    requires beyond { Begins prefix.now pool.old.cursor.path }
-    requires short { length prefix.now < pair_count pool.old.cursor.problem }
-    requires allow { IsTrue (all_allow (problem_at pool.old.cursor.problem prefix.now)) }
+    requires within { length pool.old.cursor.path < pair_count pool.old.cursor.problem }
+    requires alive { IsAlive (problem_at pool.old.cursor.problem pool.old.cursor.path) }
     requires solver { IsSolverOf pool.old.cursor.problem solver.old }
     ensures solver { KeepsSolver pool.old.cursor.problem solver.old solver.new }
     ensures pool { OnOk result (IsPool pool.new) }
-    ensures problem { OnOk result (pool.new.cursor.problem ≡ pool.old.cursor.problem) }
-    ensures each { IfOk result (λ set. (rel : Rel) → IsTrue (has set rel) ↔ IsAlive (problem_at pool.old.cursor.problem (prefix.now ++ rel ∷ []))) }
+    ensures cursor { OnOk result (pool.new.cursor ≡ pool.old.cursor) }
+    ensures each { IfOk result (AreLeading pool.old.cursor.problem pool.old.cursor.path) }
 {
     law_literals_are_sets();
     let mut alive = RelSet::none();
     for rel in LAST_FIRST {
-        if is_known_or_leads_on(pool, solver, prefix, known, rel)? {
+        if is_known_or_leads_on(pool, solver, known, rel)? {
             alive = alive.with(rel);
         }
     }
     Ok(alive)
 }
 
-// Whether a relation leads on from a prefix, at which the pool stands or beyond it, to an alive one: tries it unless that is known.
+// Whether a relation leads on from an alive prefix, at which the pool stands, to an alive one: tries it unless that is known.
 fn is_known_or_leads_on(
     pool: &mut Pool,
     solver: &mut Closer,
-    prefix: &Position,
     known: RelSet,
     rel: Rel,
 ) -> Result<bool, AllocError>
     requires pool { IsPool pool.old }
-    requires beyond { Begins prefix.now pool.old.cursor.path }
-    requires short { length prefix.now < pair_count pool.old.cursor.problem }
-    requires allow { IsTrue (all_allow (problem_at pool.old.cursor.problem prefix.now)) }
+    requires within { length pool.old.cursor.path < pair_count pool.old.cursor.problem }
+    requires alive { IsAlive (problem_at pool.old.cursor.problem pool.old.cursor.path) }
     requires solver { IsSolverOf pool.old.cursor.problem solver.old }
-    requires known { IsTrue (has known rel) → IsAlive (problem_at pool.old.cursor.problem (prefix.now ++ rel ∷ [])) }
+    requires known { IsTrue (has known rel) → IsAlive (problem_at pool.old.cursor.problem (pool.old.cursor.path ++ rel ∷ [])) }
     ensures solver { KeepsSolver pool.old.cursor.problem solver.old solver.new }
     ensures pool { OnOk result (IsPool pool.new) }
-    ensures problem { OnOk result (pool.new.cursor.problem ≡ pool.old.cursor.problem) }
-    ensures beyond { OnOk result (Begins prefix.now pool.new.cursor.path) }
-    ensures alive { IfOk result (λ yes. IsTrue yes ↔ IsAlive (problem_at pool.old.cursor.problem (prefix.now ++ rel ∷ []))) }
+    ensures cursor { OnOk result (pool.new.cursor ≡ pool.old.cursor) }
+    ensures alive { IfOk result (λ yes. IsTrue yes ↔ IsAlive (problem_at pool.old.cursor.problem (pool.old.cursor.path ++ rel ∷ []))) }
 {
     if known.has(rel) {
         return Ok(true);
     }
-    leads_on(pool, solver, prefix, rel)
+    leads_on(pool, solver, rel)
 }
 
-// Whether a relation leads on from a prefix, at which the pool stands or beyond it, to an alive one: tries it.
-fn leads_on(
-    pool: &mut Pool,
-    solver: &mut Closer,
-    prefix: &Position,
-    rel: Rel,
-) -> Result<bool, AllocError>
+// Whether a relation leads on from an alive prefix, at which the pool stands, to an alive one.
+fn leads_on(pool: &mut Pool, solver: &mut Closer, rel: Rel) -> Result<bool, AllocError>
     requires pool { IsPool pool.old }
-    requires beyond { Begins prefix.now pool.old.cursor.path }
-    requires short { length prefix.now < pair_count pool.old.cursor.problem }
-    requires allow { IsTrue (all_allow (problem_at pool.old.cursor.problem prefix.now)) }
+    requires within { length pool.old.cursor.path < pair_count pool.old.cursor.problem }
+    requires alive { IsAlive (problem_at pool.old.cursor.problem pool.old.cursor.path) }
     requires solver { IsSolverOf pool.old.cursor.problem solver.old }
     ensures solver { KeepsSolver pool.old.cursor.problem solver.old solver.new }
     ensures pool { OnOk result (IsPool pool.new) }
-    ensures problem { OnOk result (pool.new.cursor.problem ≡ pool.old.cursor.problem) }
-    ensures beyond { OnOk result (Begins prefix.now pool.new.cursor.path) }
-    ensures alive { IfOk result (λ yes. IsTrue yes ↔ IsAlive (problem_at pool.old.cursor.problem (prefix.now ++ rel ∷ []))) }
+    ensures cursor { OnOk result (pool.new.cursor ≡ pool.old.cursor) }
+    ensures alive { IfOk result (λ yes. IsTrue yes ↔ IsAlive (problem_at pool.old.cursor.problem (pool.old.cursor.path ++ rel ∷ []))) }
 {
     law_literals_are_sets();
-    pool.back_to(prefix.len());
     if !pool.next_set().has(rel) {
         return Ok(false);
     }
@@ -196,10 +180,26 @@ fn leads_on(
     if dead {
         return Ok(false);
     }
-    let pair = pool.cursor.len();
-    pool.push(rel)?;
-    let alive = is_settled(pool, solver, pair, rel)?;
-    Ok(alive)
+    tried(pool, solver, rel)
+}
+
+// The same of a relation that the problem allows the next pair, by a try.
+fn tried(pool: &mut Pool, solver: &mut Closer, rel: Rel) -> Result<bool, AllocError>
+    requires pool { IsPool pool.old }
+    requires within { length pool.old.cursor.path < pair_count pool.old.cursor.problem }
+    requires alive { IsAlive (problem_at pool.old.cursor.problem pool.old.cursor.path) }
+    requires allowed { IsTrue (has (allowed pool.old.cursor.problem (pair_at pool.old.cursor.problem (length pool.old.cursor.path))) rel) }
+    requires solver { IsSolverOf pool.old.cursor.problem solver.old }
+    ensures solver { KeepsSolver pool.old.cursor.problem solver.old solver.new }
+    ensures pool { OnOk result (IsPool pool.new) }
+    ensures cursor { OnOk result (pool.new.cursor ≡ pool.old.cursor) }
+    ensures alive { IfOk result (λ yes. IsTrue yes ↔ IsAlive (problem_at pool.old.cursor.problem (pool.old.cursor.path ++ rel ∷ []))) }
+{
+    law_literals_are_sets();
+    match settle(pool, solver)? {
+        None => bears(pool, solver, rel),
+        Some(_) => Ok(false),
+    }
 }
 
 // Whether it shows at once that a relation doesn't lead on, with no point struck out.

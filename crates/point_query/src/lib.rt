@@ -3,6 +3,7 @@
 
 mod answers;
 mod asker;
+mod bearing;
 mod closer;
 mod closes;
 mod closings;

@@ -1,19 +1,36 @@
 //! Sees to it that the needs of a pool's prefix have points.
-ghost use Rattle.point_encode.specs.Model.Forced.{need_count};
+ghost use Rattle.point_encode.specs.Model.Forced.{need_at, need_count};
 ghost use Rattle.point_pool.specs.Pools.{HasWitness, IsPool, IsPoolBut};
+ghost use Rattle.point_query.specs.Answers.{IsFound};
 ghost use Rattle.point_query.specs.Closing.{IsClosedNow, IsFirstStuck, IsStuck};
-ghost use Rattle.point_query.specs.Queries.{IsSolverOf, KeepsSolver};
-ghost use Rattle.std.specs.Prelude.{IfNone, IfOk, IfSome, IsTrue, OnOk, [], ◌+◌, ◌<◌, ◌↔◌, ◌≡◌};
-ghost use Rattle.world_model.specs.Alive.{IsAlive, all_allow, problem_at};
+ghost use Rattle.point_query.specs.Queries.{IsSolverOf, KeepsSolver, asker_with};
+ghost use Rattle.std.specs.Prelude.{IfNone, IfOk, IfSome, OnOk, [], ◌+◌, ◌<◌, ◌≡◌};
 
 use crate::answers::Found;
 use crate::closer::Closer;
-use crate::stuck::Closing;
 use lits_core::law_literals_are_sets;
+use point_draft::Draft;
 use point_encode::count_needs;
-use point_pool::Pool;
-use rcc5_core::Rel;
+use point_pool::{Cursor, Pool};
 use std::alloc::AllocError;
+
+// A point of the prefix in the need with a number, or the clause that shows that there is none: what is drafted is tried first.
+pub(crate) fn found(
+    cursor: &Cursor,
+    solver: &mut Closer,
+    number: u32,
+    draft: Draft,
+) -> Result<Found, AllocError>
+    requires within { number < need_count cursor.now.problem }
+    requires solver { IsSolverOf cursor.now.problem solver.old }
+    ensures solver { KeepsSolver cursor.now.problem solver.old solver.new }
+    ensures found { IfOk result (IsFound (asker_with cursor.now.problem solver.new) cursor.now.problem cursor.now.path (need_at cursor.now.problem number)) }
+{
+    if let Some(bits) = cursor.drafted(number, &draft)? {
+        return Ok(Found::Point(bits));
+    }
+    solver.ask(cursor, number, draft)
+}
 
 // Sees to it that a need has a witness, or answers the clause that shows that it has no point.
 pub(crate) fn serve(
@@ -38,11 +55,7 @@ pub(crate) fn serve(
         return Ok(Some(id));
     }
     let draft = pool.draft(number)?;
-    let taken = pool.take(number, &draft)?;
-    if taken {
-        return Ok(None);
-    }
-    match solver.ask(&pool.cursor, number, draft)? {
+    match found(&pool.cursor, solver, number, draft)? {
         Found::Point(bits) => {
             let place = pool.add(bits)?;
             pool.assign(number, place)?;
@@ -92,28 +105,4 @@ pub(crate) fn settle(pool: &mut Pool, solver: &mut Closer) -> Result<Option<(u32
         }
     }
     Ok(None)
-}
-
-// Whether the pool's prefix is alive: looks for a point for each need. If one has none, that is noted of its last pair and relation.
-pub(crate) fn is_settled(
-    pool: &mut Pool,
-    solver: &mut Closer,
-    pair: u32,
-    rel: Rel,
-) -> Result<bool, AllocError>
-    requires pool { IsPool pool.old }
-    requires allow { IsTrue (all_allow (problem_at pool.old.cursor.problem pool.old.cursor.path)) }
-    requires solver { IsSolverOf pool.old.cursor.problem solver.old }
-    ensures solver { KeepsSolver pool.old.cursor.problem solver.old solver.new }
-    ensures pool { OnOk result (IsPool pool.new) }
-    ensures cursor { OnOk result (pool.new.cursor ≡ pool.old.cursor) }
-    ensures alive { IfOk result (λ yes. IsTrue yes ↔ IsAlive (problem_at pool.old.cursor.problem pool.old.cursor.path)) }
-{
-    match settle(pool, solver)? {
-        None => Ok(true),
-        Some((number, id)) => {
-            solver.note_closing(pair, rel, Closing { number, id });
-            Ok(false)
-        }
-    }
 }

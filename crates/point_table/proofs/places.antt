@@ -1,3 +1,4 @@
 pub mod Bits
 pub mod Meeting
 pub mod Telling
+pub mod Clearing

@@ -1,7 +1,8 @@
 -- Points by their places: which of them are live, and which are used.
 use Rattle.bit_rows.specs.Rows.{has_bit}
 use Rattle.std.specs.Prelude.{Bool, List, false, if◌then◌else◌, length, not, slice_index_or, true, ℕ, ◌&&◌, ◌*◌, ◌++◌, ◌<◌, ◌∷◌, [], ◌≡◌, ◌≢◌, ◌≤◌}
-use Rattle.world_model.specs.Alive.{bit_of, point_at}
+use Rattle.rcc5_core.specs.declared.Regions.{Regions}
+use Rattle.world_model.specs.Alive.{avoids_by, bit_of, point_at}
 
 -- one bit of a row is set as is said
 pub record IsChanged (old new : List ℕ) (place : ℕ) (bit : Bool) : Type 0 where
@@ -37,7 +38,19 @@ meets s one other k = has_bit s.live k && are_as s.points one other k
 abbrev pub shows_at : PlaceState → ℕ × Bool → ℕ × Bool → ℕ → Bool
 shows_at s one other k = has_bit s.used k && meets s one other k
 
--- the first such place that is live, in the words from one on
+-- whether the point at a place is in no region of a pair that is forced empty
+abbrev pub is_clear : List (List Bool) → ℕ × ℕ → Regions → ℕ → Bool
+is_clear points pair regions k = avoids_by regions (bit_of (point_at points k) pair.0) (bit_of (point_at points k) pair.1)
+
+-- whether a place is live, as is said of two concepts, and clear of those regions
+abbrev pub meets_clear : PlaceState → ℕ × Bool → ℕ × Bool → ℕ × ℕ → Regions → ℕ → Bool
+meets_clear s one other pair regions k = meets s one other k && is_clear s.points pair regions k
+
+-- whether it is live and used, and not clear of them
+abbrev pub is_at_risk : PlaceState → ℕ × ℕ → Regions → ℕ → Bool
+is_at_risk s pair regions k = has_bit s.used k && (has_bit s.live k && not (is_clear s.points pair regions k))
+
+-- the first place that is live and as is said of two concepts, in the words from one on
 pub record IsNextMet (s : PlaceState) (from : ℕ) (one other : ℕ × Bool) (place : ℕ) : Type 0 where
   pub there : place < length s.points
   pub low : 64 * from ≤ place

@@ -1,11 +1,14 @@
 //! Points by their places, as a row of bits for each concept.
 ghost use Rattle.bit_rows.specs.Rows.{SomePlace, has_bit, word_bit};
-ghost use Rattle.point_table.specs.Places.Places.{AreRevived, AreStruck, IsAdded, IsNextMet, IsRevived, IsStruck, IsUsed, is_as, meets, shows_at};
-ghost use Rattle.std.specs.Prelude.{IfNone, IfOk, IfSome, IsTrue, OnOk, [], false, length, slice_index_or, true, ℕ, ◌*◌, ◌+◌, ◌<◌, ◌↔◌, ◌≡◌, ◌≢◌, ◌≤◌};
-ghost use Rattle.world_model.specs.Alive.{point_at};
+ghost use Rattle.point_table.specs.Places.Places.{AreRevived, AreStruck, IsAdded, IsNextMet, IsRevived, IsStruck, IsUsed, are_as, is_as, is_at_risk, is_clear, meets, meets_clear, shows_at};
+ghost use Rattle.std.specs.Prelude.{Contains, IfNone, IfOk, IfSome, IsTrue, OnOk, [], false, length, not, slice_index_or, true, ℕ, ◌*◌, ◌+◌, ◌<◌, ◌||◌, ◌↔◌, ◌≡◌, ◌≢◌, ◌≤◌};
+ghost use Rattle.world_model.specs.Alive.{avoids_by, point_at};
 
 use crate::places::row::Row;
+use crate::points::avoids_by;
+use bit_rows::has_bit;
 use lits_core::Bits;
+use rcc5_core::Regions;
 use std::alloc::{AllocError, Global};
 use std::marker::Model;
 
@@ -153,6 +156,66 @@ impl Places {
         false
     }
 
+    /// Whether a live point that two concepts have or lack, as is said, is in no region of a pair that is forced empty.
+    pub fn has_clear(
+        &self,
+        one: (u32, bool),
+        other: (u32, bool),
+        pair: (u32, u32),
+        regions: Regions,
+    ) -> bool
+        requires one { one.0 < self.now.concepts }
+        requires other { other.0 < self.now.concepts }
+        requires left { pair.0 < self.now.concepts }
+        requires right { pair.1 < self.now.concepts }
+        ensures { IsTrue result → SomePlace (meets_clear self.now one other pair regions) }
+    {
+        for at in 0..self.live.len() {
+            if self.met_word(at, one, other) & self.clear_word(at, pair, regions) != 0 {
+                return true;
+            }
+        }
+        false
+    }
+
+    /// The places of the points that are live and used, and in a region of a pair that is forced empty.
+    pub fn at_risk(
+        &self,
+        alloc: Global,
+        pair: (u32, u32),
+        regions: Regions,
+    ) -> Result<Vec<usize>, AllocError>
+        requires left { pair.0 < self.now.concepts }
+        requires right { pair.1 < self.now.concepts }
+        ensures { IfOk result (λ list. (place : ℕ) → is_at_risk self.now pair regions place ≡ true → Contains list.items place) }
+    {
+        let mut list = Vec::new(alloc);
+        for at in 0..self.used.len() {
+            self.push_at_risk(&mut list, at, pair, regions)?;
+        }
+        Ok(list)
+    }
+
+    // Adds those of one word.
+    fn push_at_risk(
+        &self,
+        list: &mut Vec<usize>,
+        at: usize,
+        pair: (u32, u32),
+        regions: Regions,
+    ) -> Result<(), AllocError>
+        requires left { pair.0 < self.now.concepts }
+        requires right { pair.1 < self.now.concepts }
+        ensures there { OnOk result ((j : ℕ) → j < 64 → is_at_risk self.now pair regions (64 * at + j) ≡ true → Contains list.new.items (64 * at + j)) }
+        ensures stay { OnOk result ((place : ℕ) → Contains list.old.items place → Contains list.new.items place) }
+    {
+        let word = self.used.word(at) & self.live.word(at) & !self.clear_word(at, pair, regions);
+        if word != 0 {
+            push_places(list, at, word)?;
+        }
+        Ok(())
+    }
+
     /// Strikes out all points that two concepts have or lack, as is said.
     pub fn strike_all(&mut self, one: (u32, bool), other: (u32, bool))
         requires one { one.0 < self.old.concepts }
@@ -176,6 +239,31 @@ impl Places {
         self.live.word(at) & self.side_word(at, one) & self.side_word(at, other)
     }
 
+    // A word of the points that are in no region of a pair that is forced empty. What it says of places without a point counts for
+    // nothing.
+    fn clear_word(&self, at: usize, pair: (u32, u32), regions: Regions) -> u64
+        requires left { pair.0 < self.now.concepts }
+        requires right { pair.1 < self.now.concepts }
+        ensures { (j : ℕ) → j < 64 → 64 * at + j < length self.now.points → is_clear self.now.points pair regions (64 * at + j) ≡ word_bit result j }
+    {
+        let (x, y) = pair;
+        self.out_of_cell(at, (x, true), (y, true), regions)
+            & self.out_of_cell(at, (x, true), (y, false), regions)
+            & self.out_of_cell(at, (x, false), (y, true), regions)
+    }
+
+    // A word of those that are out of one cell, or of all, if the cell is not forced empty.
+    fn out_of_cell(&self, at: usize, one: (u32, bool), other: (u32, bool), regions: Regions) -> u64
+        requires one { one.0 < self.now.concepts }
+        requires other { other.0 < self.now.concepts }
+        ensures { (j : ℕ) → j < 64 → 64 * at + j < length self.now.points → (not (are_as self.now.points one other (64 * at + j)) || avoids_by regions one.1 other.1) ≡ word_bit result j }
+    {
+        if avoids_by(regions, one.1, other.1) {
+            return !0;
+        }
+        !(self.side_word(at, one) & self.side_word(at, other))
+    }
+
     // A word of the points that a concept has or lacks. What it says of places without a point counts for nothing.
     fn side_word(&self, at: usize, side: (u32, bool)) -> u64
         requires { side.0 < self.now.concepts }
@@ -184,6 +272,21 @@ impl Places {
         let word = self.with[side.0 as usize].word(at);
         if side.1 { word } else { !word }
     }
+}
+
+// Adds the places of a word's bits, by the number of the word.
+fn push_places(list: &mut Vec<usize>, at: usize, word: u64) -> Result<(), AllocError>
+    requires { (j : ℕ) → j < 64 → word_bit word j ≡ true → 64 * at + j < 18446744073709551616 }
+    ensures there { OnOk result ((j : ℕ) → j < 64 → word_bit word j ≡ true → Contains list.new.items (64 * at + j)) }
+    ensures stay { OnOk result ((place : ℕ) → Contains list.old.items place → Contains list.new.items place) }
+{
+    let words = [word];
+    for j in 0..64 {
+        if has_bit(&words, j) {
+            list.push(64 * at + j)?;
+        }
+    }
+    Ok(())
 }
 
 // So many rows without bits.

@@ -1,4 +1,4 @@
-use Rattle.std.proofs.Common.{◌≡◌, ◌<◌, ◌⊎◌, ℕ, take, true}
+use Rattle.std.proofs.Common.{◌≡◌, ◌⊎◌, ℕ, true}
 use Rattle.bit_rows.specs.Rows.{has_bit}
 use Rattle.point_pool.specs.Pools.{IsListed}
 use Rattle.point_pool.proofs.pool.unstrike.Given as goal

@@ -1,4 +1,4 @@
-use Rattle.std.proofs.Common.{◌≡◌, ◌∷◌, ◌++◌, [], sym, subst}
+use Rattle.std.proofs.Common.{◌∷◌, ◌++◌, [], sym, subst}
 use Rattle.world_model.specs.Alive.{IsAlive, problem_at}
 use Rattle.point_query.specs.Queries.{AllLeadOn}
 use Rattle.point_query.proofs.Choosing.{all_none}

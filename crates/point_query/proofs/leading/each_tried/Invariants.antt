@@ -1,6 +1,5 @@
 use Rattle.std.proofs.Common.{◌≡◌, ◌∷◌, ◌++◌, [], take}
 use Rattle.world_model.specs.Alive.{problem_at, IsAlive}
-use Rattle.world_model.specs.Listing.{Begins}
 use Rattle.point_query.specs.Queries.{KeepsSolver}
 use Rattle.point_pool.specs.Pools.{IsPool}
 use Rattle.point_query.proofs.Choosing.{HasThose}
@@ -10,7 +9,6 @@ abbrev pub invariant-loop-rel : goal.invariant-loop-rel
 invariant-loop-rel l = record {
   solver : KeepsSolver l.fn.pool.cursor.problem l.fn.solver l.solver;
   pool : IsPool l.pool;
-  problem : l.pool.cursor.problem ≡ l.fn.pool.cursor.problem;
-  beyond : Begins l.prefix l.pool.cursor.path;
-  each : HasThose (λ rel. IsAlive (problem_at l.fn.pool.cursor.problem (l.prefix ++ rel ∷ []))) (take l.rel-index l.rel-items) l.alive;
+  cursor : l.pool.cursor ≡ l.fn.pool.cursor;
+  each : HasThose (λ rel. IsAlive (problem_at l.fn.pool.cursor.problem (l.fn.pool.cursor.path ++ rel ∷ []))) (take l.rel-index l.rel-items) l.alive;
 }

@@ -1,4 +1,4 @@
-use Rattle.std.proofs.Common.{◌≡◌, ◌∙◌, ◌∷◌, ◌++◌, [], refl, sym, ap, subst}
+use Rattle.std.proofs.Common.{◌∙◌, ◌∷◌, ◌++◌, [], refl, sym, ap, subst}
 use Rattle.rcc5_core.specs.RelationSet.{has}
 use Rattle.world_model.specs.Alive.{IsAlive, problem_at}
 use Rattle.point_query.specs.Queries.{AllLeadOn}

@@ -2,7 +2,6 @@ use Rattle.std.proofs.Common.{◌≡◌, ◌∙◌, true, sym, ap, subst, arith,
 use Rattle.std.specs.Prelude.{All, IsTrue}
 use Rattle.bit_rows.specs.Rows.{has_bit}
 use Rattle.world_model.specs.Alive.{is_point, meets_trees, point_at, problem_at}
-use Rattle.world_model.specs.Problem.{concept_count}
 use Rattle.point_encode.specs.Numbers.{is_needed}
 use Rattle.point_encode.specs.Model.Forced.{need_count}
 use Rattle.point_pool.specs.Pools.{IsPool}

@@ -1,4 +1,4 @@
-use Rattle.std.proofs.Common.{◌<◌, ◌≡◌, ◌≤◌, get_or, length, sym, subst, arith}
+use Rattle.std.proofs.Common.{◌<◌, ◌≤◌, length, subst, arith}
 use Rattle.std.proofs.lemmas.List.{get_or_read}
 use Rattle.point_pool.proofs.pool.Pool.mark_at.Goals as goal
 

@@ -1,8 +1,6 @@
-use Rattle.std.proofs.Common.{◌≡◌, ◌∙◌, ap, sym, subst}
+use Rattle.std.proofs.Common.{sym, subst}
 use Rattle.std.specs.Prelude.{All, IsTrue}
-use Rattle.constraint_set.specs.Shape.{shape_of}
 use Rattle.world_model.specs.Alive.{meets_trees}
-use Rattle.world_model.specs.Problem.{concept_count}
 use Rattle.point_pool.proofs.Pooling.{trees_move}
 use Rattle.point_pool.proofs.pool.Pool.moved_to.Goals as goal
 

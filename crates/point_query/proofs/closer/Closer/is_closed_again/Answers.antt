@@ -1,4 +1,4 @@
-use Rattle.std.proofs.Common.{◌≡◌, ◌<◌, ◌∙◌, sym, ap, arith}
+use Rattle.std.proofs.Common.{◌<◌, ◌∙◌, sym, ap, arith}
 use Rattle.point_encode.specs.Model.Forced.{need_count}
 use Rattle.point_query.proofs.Deciding.{lost_is_dead}
 use Rattle.point_query.proofs.closer.Closer.is_closed_again.Goals as goal
